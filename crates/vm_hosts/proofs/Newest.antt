@@ -1,5 +1,10 @@
 -- The kernels before anything has happened.
 use Rattle.vm_hosts.proofs.Common.{AllRest, AreNew, HasQueue, Header, IsPlain, List, None, Parts, Rests, Some, [], ap, first_ids, inl, inr, length, length-append, refl, same_Some, slice_get, sound_start, subst, suc, sym, zero, ℕ, ◌++◌, ◌+◌, ◌∙◌, ◌∷◌, ◌≡◌, ◌⊎◌}
+use Rattle.std.specs.Prelude.{All, ◌≢◌}
+use Rattle.std.proofs.Common.{arith}
+use Rattle.vm_base.specs.declared.ids.ObjectKind.TheVariants.{Temp}
+use Rattle.vm_kernel.specs.Matches.{IsRanged}
+use Rattle.vm_model.specs.declared.script.Declared.{Declared}
 
 -- one kernel more, at the end
 more_cases : (ks : List Parts) (k m : Parts) (h : ℕ) → slice_get (ks ++ k ∷ []) h ≡ Some m → (slice_get ks h ≡ Some m) ⊎ ((length ks ≡ h) × (k ≡ m))
@@ -11,12 +16,12 @@ more_cases (x ∷ ks) k m (suc h) is = elim (more_cases ks k m h is) [ inl was �
 pub none_new : (header : Header) → AreNew header 0 []
 none_new header = record { count = refl; rests = λ h k is. absurd (let bad : None ≡ Some k = is in cc); queues = λ h k is. absurd (let bad : None ≡ Some k = is in cc) }
 
-pub new_more : (header : Header) (n : ℕ) (ks : List Parts) (k : Parts) → AreNew header n ks → Rests header n k first_ids [] → HasQueue header n k [] → AreNew header (n + 1) (ks ++ k ∷ [])
+pub new_more : (header : Header) (n : ℕ) (ks : List Parts) (k : Parts) → AreNew header n ks → Rests header n k (first_ids header) [] → HasQueue header n k [] → AreNew header (n + 1) (ks ++ k ∷ [])
 new_more header n ks k was rests queue = record {
   count = length-append ks (k ∷ []) ∙ ap (λ (z : ℕ). z + 1) was.count;
   rests = λ h m is. elim (more_cases ks k m h is) [
     | inl old ↦ was.rests h m old
-    | inr last ↦ subst (λ (z : ℕ). Rests header z m first_ids []) (sym was.count ∙ last.0) (subst (λ (z : Parts). Rests header n z first_ids []) last.1 rests)
+    | inr last ↦ subst (λ (z : ℕ). Rests header z m (first_ids header) []) (sym was.count ∙ last.0) (subst (λ (z : Parts). Rests header n z (first_ids header) []) last.1 rests)
   ];
   queues = λ h m is. elim (more_cases ks k m h is) [
     | inl old ↦ was.queues h m old
@@ -24,6 +29,17 @@ new_more header n ks k was rests queue = record {
   ];
 }
 
-pub all_new : (header : Header) (ks : List Parts) → IsPlain header → AreNew header (length header.frames.items) ks → AllRest header (record { kernels = ks; ids = first_ids }) []
+pub all_new : (header : Header) (ks : List Parts) → IsPlain header → AreNew header (length header.frames.items) ks → AllRest header (record { kernels = ks; ids = first_ids header }) []
 all_new header ks plain new =
     record { plain = plain; count = new.count; rests = new.rests; sound = sound_start header; tasks = λ task h is. absurd (let bad : None ≡ Some h = is in cc) }
+
+-- a header without objects has its numbers in their ranges
+pub ranged_of : (header : Header) → IsPlain header → IsRanged header
+ranged_of header plain =
+    record {
+      size = plain.size;
+      hosts = plain.hosts;
+      few = plain.few;
+      objects = let none : length header.objects.items ≡ 0 = ap length plain.objects in omega (arith, none);
+      kinds = subst (λ (z : List Declared). All (λ (object : Declared). object.kind ≢ Temp) z) (sym plain.objects) (λ object none less. absurd (omega arith));
+    }

@@ -29,5 +29,5 @@ AllQueued header hosts past = (h : ℕ) (k : Parts) → slice_get hosts.kernels 
 -- the kernels of so many hosts, before anything has happened
 pub record AreNew (header : Header) (number : ℕ) (kernels : List Parts) : Type 0 where
   pub count : length kernels ≡ number
-  pub rests : (h : ℕ) (k : Parts) → slice_get kernels h ≡ Some k → Rests header h k first_ids []
+  pub rests : (h : ℕ) (k : Parts) → slice_get kernels h ≡ Some k → Rests header h k (first_ids header) []
   pub queues : (h : ℕ) (k : Parts) → slice_get kernels h ≡ Some k → HasQueue header h k []

@@ -51,9 +51,10 @@ impl Hosts {
         ensures queues { IfOk result (λ hosts. AllQueued header.now hosts []) }
     {
         let kernels = make_kernels(alloc, header)?;
+        let declared = header.objects.len();
         let ids = Ids {
-            next_object: 0,
-            next_region: 0,
+            next_object: declared,
+            next_region: declared,
             marks: 0,
         };
         Ok(Hosts {

@@ -1,22 +1,32 @@
 -- What is no event of a host leaves what its kernel stands for.
-use Rattle.vm_kernel.proofs.Common.{AllLicensed, AllRows, ApartElsewhere, BeganInOrder, Below, Bool, Command, Down, EachIn, EachOf, EntersNext, Entry, Event, HasCause, HasControls, HasFrames, HasLaundry, HasOrder, HasPages, HasQueue, HasRegions, HasTasks, HasUse, HasWaits, Header, Ids, IfSome, IsAbroad, IsAmong, IsCommon, IsHeldOn, IsInside, IsMine, IsNobodys, IsOfHost, IsRegionOf, IsShut, Knows, List, Matches, MomentsIn, None, Option, Outside, Parts, PromptAt, RegionRow, Rests, SameFacts, SameForHost, Some, Sound, Suffice, Up, Waiting, [], all_tasks, ap, apart_abroad, arith, backing_of, begun_at, count_by, entries_in, entries_of, entry, eqb_tells, false, frames_free, frames_held, frames_used, frames_wired, has_entry, has_region, holds, home_of, homes_stay, host_of, in_use, inl, inr, is_among, is_home, is_ready, is_some, is_used, last_control, length, live_control, lives_on, local, named, nat_lt, nat_tests, next_object, next_region, pages_abroad, place_of, refl, region_at, region_of, returns_out, reverse, rows_in, rows_map, slice_get, sound_next, stays, subst, suc, swept_now, sym, tasks, true, unwrap_or, use_of, use_same, used_of, vain_now, zero, ℕ, ◌&&◌, ◌++◌, ◌<◌, ◌==◌, ◌||◌, ◌∙◌, ◌∷◌, ◌≡◌, ◌≤◌}
+use Rattle.vm_kernel.proofs.Common.{AllLicensed, AllRows, ApartElsewhere, BeganInOrder, Below, Bool, Command, Down, EachIn, EachOf, EntersNext, Entry, Event, HasCause, HasControls, HasFrames, HasLaundry, HasOrder, HasPages, HasQueue, HasRegions, HasTasks, HasUse, HasWaits, HaveHomes, Header, Ids, IfSome, IsAbroad, IsAmong, IsCommon, IsHeldOn, IsInside, IsMine, IsNobodys, IsOfHost, IsRegionOf, IsShut, Knows, List, Matches, MomentsIn, None, Option, Outside, Parts, PromptAt, RegionRow, Rests, SameFacts, SameForHost, Some, Sound, Suffice, Up, Waiting, [], all_tasks, ap, apart_abroad, arith, backing_of, begun_at, count_by, entries_in, entries_of, entry, eqb_tells, false, frames_free, frames_held, frames_used, frames_wired, has_entry, has_region, holds, home_of, homes_next, homes_stay, host_of, in_use, inl, inr, is_among, is_home, is_ready, is_some, is_used, last_control, live_control, lives_on, local, named, nat_lt, nat_tests, next_object, next_region, pages_abroad, place_of, refl, region_at, region_of, returns_out, reverse, rows_in, rows_map, slice_get, sound_next, stays, subst, suc, swept_now, sym, tasks, true, unwrap_or, use_of, use_same, used_of, vain_now, zero, ℕ, ◌++◌, ◌<◌, ◌==◌, ◌∙◌, ◌∷◌, ◌≡◌, ◌≤◌}
 use Rattle.vm_model.specs.declared.event.Event.TheVariants as event
 use Rattle.std.specs.Prelude.{◌+◌}
 use Rattle.vm_model.specs.Local.{is_on}
 use Rattle.vm_model.specs.Waiting.{waiting}
+use Rattle.vm_state.specs.Places.{known_local}
 use Rattle.vm_state.specs.Waiters.{waiting_in}
-use Rattle.vm_abroad.proofs.Home.{objects_stay}
+use Rattle.vm_abroad.proofs.Home.{named_objects, named_regions, objects_stay}
+use Rattle.vm_abroad.proofs.Sounds.{unlike}
 use Rattle.vm_abroad.specs.Home.{object_home}
+use Rattle.vm_legal.specs.Outside.{is_file}
 use Rattle.vm_model.specs.Regions.{marked_regions}
 use Rattle.vm_parts.specs.Changes.{one}
 use Rattle.vm_shadow.specs.Chains.{ChainTable, shadow_at}
 use Rattle.vm_shadow.specs.declared.shadow_row.ShadowRow.{ShadowRow}
+use Rattle.vm_state.proofs.Declared.{kind_cases}
 use Rattle.vm_state.proofs.Reaching.{chain_known}
-use Rattle.vm_state.proofs.Referring.{row_of, small_object, small_region, small_shadow}
+use Rattle.vm_state.proofs.Referring.{small_object, small_region, small_shadow}
 use Rattle.vm_state.specs.References.{is_backing, is_over, references_to, tally}
 use Rattle.vm_kernel.proofs.Counts.{by_some}
 use Rattle.vm_kernel.proofs.Own.{lives_in, own_host}
+use Rattle.vm_kernel.proofs.Regions.{region_row}
+use Rattle.vm_kernel.proofs.Terminating.{declared_chain, entry_there, used_there}
+use Rattle.vm_kernel.proofs.Uses.{file_declared, paged_file}
 use Rattle.vm_supply.specs.declared.woken.Woken.TheVariants as woken
+use Rattle.std.proofs.lemmas.Bool.{or_right}
+use Rattle.std.proofs.Math.Bool.{and-false}
+use Rattle.vm_state.specs.Places.{known_local}
 
 -- what a kernel says of all hosts
 
@@ -33,24 +43,12 @@ among_of n (m ∷ more) is = elim (eqb_tells m n) [ inl same ↦ inl same.1 | in
 
 among_more : (n : ℕ) (more ns : List ℕ) → is_among n ns ≡ true → is_among n (more ++ ns) ≡ true
 among_more n [] ns is = is
-among_more n (m ∷ more) ns is = second (m == n) (is_among n (more ++ ns)) (among_more n more ns is)
-  where
-    second : (a b : Bool) → b ≡ true → (a || b) ≡ true
-    second true b is = refl
-    second false b is = is
+among_more n (m ∷ more) ns is = or_right (m == n) (is_among n (more ++ ns)) (among_more n more ns is)
 
 -- a task with entries lives
-with_entry : (r : ℕ) (x : Option (List Entry)) → has_entry r (unwrap_or x []) ≡ true → is_some x ≡ true
+pub with_entry : (r : ℕ) (x : Option (List Entry)) → has_entry r (unwrap_or x []) ≡ true → is_some x ≡ true
 with_entry r None has = has
 with_entry r (Some rows) has = refl
-
--- the region of an entry that lies within its region is in the tables
-has_inside : (size : ℕ) (chains : ChainTable) (r : ℕ) (rows : List Entry) → AllRows (IsInside size chains) rows → has_entry r rows ≡ true → has_region chains r ≡ true
-has_inside size chains r [] inside has = absurd (let bad : false ≡ true = has in cc)
-has_inside size chains r (row ∷ rows) inside has = elim (eqb_tells row.region.0 r) [
-  | inl same ↦ subst (λ (z : ℕ). has_region chains z ≡ true) same.1 inside.0.region
-  | inr apart ↦ has_inside size chains r rows inside.1 (rw apart.0 at has)
-]
 
 -- a region of its tables is the host's
 own_region : (header : Header) (h : ℕ) (k : Parts) (ids : Ids) (past : List Event) → Rests header h k ids past → (r : ℕ) → has_region k.chains r ≡ true → IsRegionOf header h r past
@@ -63,12 +61,12 @@ own_region header h k ids past rests r has temporary = by_row (region_at k.chain
         let some = rests.used r row found in
         let less : 0 < count_by all_tasks r k.maps = omega (arith, count, some) in
         let test : nat_lt 0 (count_by all_tasks r k.maps) ≡ true = grind (arith, nat_tests) in
-        used_of header h r past (rests.matches.settled.shut r) (rests.matches.uses.used r ∙ test)
+        used_of header h r past (rests.matches.settled.shut r) (rests.matches.uses.used r temporary ∙ test)
 
-held_on : (header : Header) (h : ℕ) (k : Parts) (ids : Ids) (past : List Event) → Rests header h k ids past → (r : ℕ) → is_used header h r past ≡ true → IsHeldOn header h r past
-held_on header h k ids past rests r used =
+held_on : (header : Header) (h : ℕ) (k : Parts) (ids : Ids) (past : List Event) → Rests header h k ids past → (r : ℕ) → named header ≤ r → is_used header h r past ≡ true → IsHeldOn header h r past
+held_on header h k ids past rests r temporary used =
     let has = rests.matches.tasks in
-    let test : nat_lt 0 (count_by all_tasks r k.maps) ≡ true = sym (rests.matches.uses.used r) ∙ use_of header h r past used in
+    let test : nat_lt 0 (count_by all_tasks r k.maps) ≡ true = sym (rests.matches.uses.used r temporary) ∙ use_of header h r past used in
     let some = by_some all_tasks r k.maps (grind (arith, nat_tests)) in
     let here = with_entry r (entries_in some.0 k.maps) some.1 in
     let lives : lives_on h some.0 past ≡ true = has.hosts some.0 ∙ here in
@@ -79,20 +77,22 @@ held_on header h k ids past rests r used =
       holds = inl (ap (has_entry r) (has.rows some.0 here) ∙ some.1);
     }
 
--- the chain of a region of the host is of objects that its tables know, and these were made
+-- the chain of a region of the host is of objects that its tables know, or of a declared one, and these were made
 chain_made : (header : Header) (h : ℕ) (k : Parts) (ids : Ids) (past : List Event) → Rests header h k ids past → (r n u : ℕ) → IsRegionOf header h r past → Below (λ o. backing_of header o past) n (region_of header r past).top u → u < next_object header past
-chain_made header h k ids past rests r n u own below =
-    let none : named header ≡ 0 = ap length rests.matches.plain.objects in
-    let test : nat_lt 0 (count_by all_tasks r k.maps) ≡ true = sym (rests.matches.uses.used r) ∙ use_of header h r past (own (omega (arith, none))) in
-    let some = by_some all_tasks r k.maps (grind (arith, nat_tests)) in
-    let inside : has_region k.chains r ≡ true = has_inside header.size k.chains r (rows_in some.0 k.maps) (rests.matches.entries.inside some.0) some.1 in
-    let row = row_of (region_at k.chains r) inside in
-    let known = chain_known rests.matches.regions r row.0 row.1 n u below in
-    small_object rests.matches.regions u known.row known.known
+chain_made header h k ids past rests r n u own below = elim (kind_cases header r) [
+  | inl declared ↦
+      let same = declared_chain header past r n u rests.matches.homeless declared below in
+      let more = named_objects header past in
+      omega (arith, same, declared, more)
+  | inr temporary ↦
+      let row = used_there header h k ids [] past r rests.matches temporary (use_of header h r past (own temporary)) in
+      let known = chain_known rests.matches.regions r row.0 row.1 n u below in
+      small_object rests.matches.regions u known.row known.known
+]
 
 pub knows_of : (header : Header) (h : ℕ) (k : Parts) (ids : Ids) (past : List Event) → Rests header h k ids past → Knows header h past
 knows_of header h k ids past rests = record {
-  held = λ r temporary used. held_on header h k ids past rests r used;
+  held = λ r temporary used. held_on header h k ids past rests r temporary used;
   entries = λ task lives.
       subst (AllRows (λ row. IsRegionOf header h row.region.0 past)) (sym (rests.matches.tasks.rows task (sym (rests.matches.tasks.hosts task) ∙ lives)))
       (rows_map (IsInside header.size k.chains) (λ row. IsRegionOf header h row.region.0 past) (λ row is. own_region header h k ids past rests row.region.0 is.region) (rows_in task k.maps) (rests.matches.entries.inside task));
@@ -149,7 +149,6 @@ module _ (header : Header) (h : ℕ) (k : Parts) (ids next : Ids) (past new : Li
         unders = has.unders;
         older = has.older;
         fits = has.fits;
-        temporary = has.temporary;
         counts = λ o known found.
             has.counts o known found ∙
             sym (references_more k.chains (next_region header past) (next_object header past) (next_region header new) (next_object header new) o same.regions same.objects has.unmade (λ s high. none_from s high (shadow_at k.chains s) refl));
@@ -159,20 +158,23 @@ module _ (header : Header) (h : ℕ) (k : Parts) (ids next : Ids) (past new : Li
       none_from s high None is = refl
       none_from s high (Some row) is = let small = small_shadow rests.matches.regions s row is in absurd (omega (arith, small, high))
 
-  pages_same : HasPages k.memory.frames k.memory.resident k.memory.objects (λ o p. local header.size h (place_of o p) new)
-  pages_same = record { shown = λ o p. same.pages.local (place_of o p) ∙ rests.matches.pages.shown o p }
+  pages_same : HasPages k.memory.frames k.memory.resident k.memory.objects (λ o p. known_local header o p (local header.size h (place_of o p) new))
+  pages_same = record { shown = λ o p. ap (known_local header o p) (same.pages.local (place_of o p)) ∙ rests.matches.pages.shown o p }
 
-  uses_same : ApartElsewhere header h new → HasUse k.maps (λ r. in_use header h r new) (tasks new) (λ task r. holds header.size task r new) (next_region header new)
-  uses_same apart =
+  uses_same : ApartElsewhere header h new → ((r : ℕ) → is_file header r ≡ true → in_use header h r past ≡ true → home_of r past ≡ Some h → in_use header h r new ≡ true) → HasUse header k.maps (λ r. in_use header h r new) (tasks new) (λ task r. holds header.size task r new) (next_region header new)
+  uses_same apart files =
       let has = rests.matches.uses in
-      let none : named header ≡ 0 = ap length rests.matches.plain.objects in
       record {
-        used = λ r. use_same header h r past new same (omega (arith, none)) (rests.matches.settled.shut r) (common.settled.shut r) ∙ has.used r;
+        used = λ r temporary. use_same header h r past new same temporary (rests.matches.settled.shut r) (common.settled.shut r) ∙ has.used r temporary;
+        files = λ r file some.
+            let task = by_some all_tasks r k.maps some in
+            let row = region_row k.chains r (entry_there header.size r k.chains (rows_in task.0 k.maps) (rests.matches.entries.inside task.0) task.1) in
+            files r file (has.files r file some) (rests.matches.homes r row.0 (paged_file header r file) row.1);
         among = λ task rows found. subst (λ (z : List ℕ). is_among task z ≡ true) (sym same.made.is) (among_more task same.made.made (tasks past) (has.among task rows found));
         apart = λ task r away ours. apart task r (same.lives task ∙ (rests.matches.tasks.hosts task ∙ ap is_some away)) ours;
       }
 
-  controls_same : ((o : ℕ) → object_home o past ≡ Some h → object_home o new ≡ Some h) → HasControls h k.memory.objects (λ o. last_control h o new) (λ o. live_control h o new) (λ o. is_ready h o new) (λ o. object_home o new)
+  controls_same : ((o : ℕ) → object_home o past ≡ Some h → object_home o new ≡ Some h) → HasControls (named header) h k.memory.objects (λ o. last_control h o new) (λ o. live_control h o new) (λ o. is_ready h o new) (λ o. object_home o new)
   controls_same home =
       let has = rests.matches.controls in
       record {
@@ -182,7 +184,7 @@ module _ (header : Header) (h : ℕ) (k : Parts) (ids next : Ids) (past new : Li
         all_live = has.all_live;
         numbers = has.numbers;
         ended = has.ended;
-        home = λ o row found. home o (has.home o row found);
+        home = λ o row least found. home o (has.home o row least found);
       }
 
   waits_same : HasWaits k woken.Nobody new
@@ -218,21 +220,24 @@ module _ (header : Header) (h : ℕ) (k : Parts) (ids next : Ids) (past new : Li
       let has = rests.matches.frames in record { total = has.total; held = same.pages.held ∙ has.held; wired = same.pages.wired ∙ has.wired; fits = has.fits }
 
   -- tasks elsewhere hold none of its regions, and its regions and objects stay on their host
-  pub rests_same : ApartElsewhere header h new → ((r : ℕ) → home_of r past ≡ Some h → home_of r new ≡ Some h) → ((o : ℕ) → object_home o past ≡ Some h → object_home o new ≡ Some h) → Rests header h k next new
-  rests_same apart home objects = record {
+  pub rests_same : ApartElsewhere header h new → ((r : ℕ) → is_file header r ≡ true → in_use header h r past ≡ true → home_of r past ≡ Some h → in_use header h r new ≡ true) → ((r : ℕ) → home_of r past ≡ Some h → home_of r new ≡ Some h) → ((o : ℕ) → object_home o past ≡ Some h → object_home o new ≡ Some h) → Rests header h k next new
+  rests_same apart files home objects = record {
     matches =
         record {
-          plain = rests.matches.plain;
+          ranged = rests.matches.ranged;
+          declared = rests.matches.declared;
+          kinds = rests.matches.kinds;
+          shared = rests.matches.shared;
           known = rests.matches.known;
           size = rests.matches.size;
           host = rests.matches.host;
           fits = rests.matches.fits;
           tasks = tasks_same;
           regions = regions_same;
-          homes = λ r row found. home r (rests.matches.homes r row found);
+          homes = λ r row paged found. home r (rests.matches.homes r row paged found);
           entries = rests.matches.entries;
           pages = pages_same;
-          uses = uses_same apart;
+          uses = uses_same apart files;
           controls = controls_same objects;
           settled = common.settled;
           homeless = common.homeless;
@@ -265,6 +270,42 @@ waits_here header h k ids past rests task lives =
 
 -- behind events that are nothing to its host
 
+-- a file's region that is in use on the host, which is its home, is in use there still
+file_one : (header : Header) (outside : Outside) (h : ℕ) (r : ℕ) (e : Event) (past : List Event) → HasCause header outside e past → HaveHomes header past → is_file header r ≡ true → in_use header h r past ≡ true → home_of r past ≡ Some h → in_use header h r (e ∷ past) ≡ true
+file_one header outside h r (event.RegionMade new object pages) past cause homes file used home =
+    let less : r < named header = grind (arith, nat_tests, file_declared header r file) in
+    let more = named_regions header past in
+    let number = cause.1.0 in
+    let other : (r == new.0) ≡ false = unlike r new.0 (λ same. omega (arith, same, less, more, number)) in
+    rw other used
+file_one header outside h r (event.RegionCopied new source offset pages) past cause homes file used home =
+    let less : r < named header = grind (arith, nat_tests, file_declared header r file) in
+    let more = named_regions header past in
+    let number = cause.1.next in
+    let other : (r == new.0) ≡ false = unlike r new.0 (λ same. omega (arith, same, less, more, number)) in
+    rw other used
+file_one header outside h r (event.Entered task address bytes region offset prot inherit) past cause homes file used home = elim (eqb_tells r region.0) [
+  | inl same ↦
+      let there = cause.1.file (subst (λ (z : ℕ). is_file header z ≡ true) same.1 file) in
+      let host : cause.1.host ≡ h = homes.stay cause.1.host h r (subst (λ (z : ℕ). in_use header cause.1.host z past ≡ true) (sym same.1) there) home in
+      let lives : lives_on h task.0 past ≡ true = ap (is_on h) (cause.1.lives ∙ ap Some host) ∙ own_host h in
+      rw (same.0, lives) used
+  | inr apart ↦ rw apart.0 used
+]
+file_one header outside h r (event.Removed task address bytes) past cause homes file used home = rw (file_declared header r file) used
+file_one header outside h r (event.TaskEnded task) past cause homes file used home = rw (file_declared header r file) used
+file_one header outside h r (event.Failed task object page) past cause homes file used home = rw (file_declared header r file) used
+file_one header outside h r other past cause homes file used home = used
+
+homes_more : (header : Header) (outside : Outside) (h : ℕ) (events past : List Event) → EachIn (IsAbroad header outside h) events past → HaveHomes header past → HaveHomes header (events ++ past)
+homes_more header outside h [] past abroad homes = homes
+homes_more header outside h (e ∷ events) past abroad homes = homes_next header outside e (events ++ past) abroad.0.cause (homes_more header outside h events past abroad.1 homes)
+
+file_more : (header : Header) (outside : Outside) (h : ℕ) (events past : List Event) → EachIn (IsAbroad header outside h) events past → HaveHomes header past → (r : ℕ) → is_file header r ≡ true → in_use header h r past ≡ true → home_of r past ≡ Some h → in_use header h r (events ++ past) ≡ true
+file_more header outside h [] past abroad homes r file used home = used
+file_more header outside h (e ∷ events) past abroad homes r file used home =
+    file_one header outside h r e (events ++ past) abroad.0.cause (homes_more header outside h events past abroad.1 homes) file (file_more header outside h events past abroad.1 homes r file used home) (homes_stay r h events past home)
+
 module _ (header : Header) (outside : Outside) (h : ℕ) (k : Parts) (ids : Ids) (events past : List Event) (sound : Sound header past) (rests : Rests header h k ids past) (abroad : EachIn (IsAbroad header outside h) events past) where
   stay : SameForHost header h past (events ++ past)
   stay = stays header outside h events past sound (knows_of header h k ids past rests) abroad
@@ -273,6 +314,7 @@ module _ (header : Header) (outside : Outside) (h : ℕ) (k : Parts) (ids : Ids)
   rests_abroad next common =
       rests_same header h k ids next past (events ++ past) rests stay.same common
       (apart_abroad header outside h events past abroad (apart_of header h k ids past rests))
+      (file_more header outside h events past abroad rests.matches.homeless)
       (λ r is. homes_stay r h events past is)
       (λ o is. objects_stay o h events past is)
 
@@ -329,11 +371,7 @@ no_home header h (event.Line line) past nobodys = refl
 no_home header h (event.Refused code) past nobodys = refl
 no_home header h (event.Sent (Down host object control) m) past nobodys = refl
 no_home header h (event.Sent (Up host object) m) past nobodys = absurd nobodys
-no_home header h (event.Taken (Up host object) m) past nobodys = rw nobodys (neither (host.0 == h))
-  where
-    neither : (b : Bool) → (b && false) ≡ false
-    neither true = refl
-    neither false = refl
+no_home header h (event.Taken (Up host object) m) past nobodys = rw nobodys (and-false (host.0 == h))
 no_home header h (event.Taken (Down host object control) m) past nobodys = absurd nobodys
 no_home header h (event.DeviceFailed who way object page) past nobodys = refl
 no_home header h (event.NoSlot object page) past nobodys = refl

@@ -1,5 +1,5 @@
 -- What a page leaves of the kernel that comes for a waiting access, or by which one ends.
-use Rattle.vm_kernel.proofs.Common.{Access, AllReferred, Bool, Brings, Changes, Event, FrameNo, HasPages, HasWaiters, Header, HostParts, Ids, List, Local, Matches, None, ObjectTable, On, Option, PageKey, PageRow, Parts, Queues, Raises, Some, Stores, WaitTable, Waiting, Woken, Works, Zeroes, [], absent_at, ap, arith, begun_at, clean_row, entry, false, fit_touched, frames_held, frames_wired, host_id, host_of, is_again, is_frame, little_endian_bytes, local, local_after, local_of_row, next_region, page_in, place_of, refl, replicate, returns_out, reverse, row_at, rows_in, slice_get, some_is, subst, sym, true, unlocked, waiting, with_bytes, ℕ, ◌+◌, ◌||◌, ◌∙◌, ◌∷◌, ◌≡◌}
+use Rattle.vm_kernel.proofs.Common.{Access, AllReferred, Bool, Brings, Changes, Event, FrameNo, HasPages, HasWaiters, Header, HostParts, Ids, List, Local, Matches, None, ObjectTable, On, Option, PageKey, PageRow, Parts, Queues, Raises, Some, Stores, WaitTable, Waiting, Woken, Works, Zeroes, [], absent_at, ap, arith, begun_at, clean_row, entry, false, fit_touched, frames_held, frames_wired, host_id, host_of, is_again, is_frame, little_endian_bytes, local, local_after, local_of_row, page_in, place_of, refl, replicate, returns_out, reverse, row_at, rows_in, slice_get, some_is, subst, sym, true, unlocked, waiting, with_bytes, ℕ, ◌+◌, ◌||◌, ◌∙◌, ◌∷◌, ◌≡◌}
 use Rattle.vm_abroad.proofs.Home.{object_stays}
 use Rattle.vm_fault.specs.Faults.{KeepsPlan, References, WritesPage}
 use Rattle.vm_model.specs.declared.event.Event.TheVariants as event
@@ -9,12 +9,15 @@ use Rattle.vm_state.proofs.Waiting.{AsksNone, IsNotAsked, asks_none_again, asks_
 use Rattle.vm_supply.specs.declared.woken.Woken.TheVariants as woken
 use Rattle.vm_terminate.specs.Finishes.{IsReferred}
 use Rattle.vm_kernel.specs.Serving.{runs_now}
+use Rattle.vm_state.specs.Places.{known_local}
+use Rattle.vm_kernel.proofs.Known.{known_on}
 use Rattle.vm_kernel.proofs.Brings.{fits_changed}
-use Rattle.vm_kernel.proofs.Behind.{controls_kept, marks_still, regions_marked}
 use Rattle.vm_kernel.proofs.Ordering.{PutsInOrder}
 use Rattle.vm_kernel.proofs.Own.{lives_here, own_host}
 use Rattle.vm_kernel.proofs.Pages.{bytes_now, frames_changed, laundry_changed, pages_moved, shown_as, shown_here}
 use Rattle.vm_kernel.proofs.Uses.{holds_waits, uses_still}
+use Rattle.vm_kernel.proofs.After.{controls_stay, regions_behind}
+use Rattle.vm_kernel.proofs.Untold.{matches_with}
 
 -- who is run waits for no page that is asked
 pub asks_none_now : (k : Parts) (reason : On) → runs_now reason ≡ true → AsksNone k.memory.resident reason
@@ -45,22 +48,26 @@ pub matches_zeroed : (header : Header) (h : ℕ) (k : Parts) (ids : Ids) (past :
 matches_zeroed header h k ids past key frame memory m c plan =
     let sized : k.memory.buffers.size ≡ header.size = m.fits.buffers ∙ m.size in
     let zeros = bytes_now key frame _ _ _ _ _ k.memory memory c ∙ ap (λ z. replicate z 0) sized in
-    let pages2 = pages_moved header.size Zeroes key frame _ _ _ _ _ k.memory memory k.memory.objects (λ o p. local header.size h (place_of o p) past) m.fits.parts m.pages c
-    (ap (λ z. shown_as (clean_row frame unlocked false) true true z (absent_at k.memory.objects key.object.0 key.page.0)) (sym zeros)) (λ o p apart. refl) in
+    let pages2 = known_on header header.size key Zeroes (λ o p. local header.size h (place_of o p) past) tt
+    (pages_moved header.size Zeroes key frame _ _ _ _ _ k.memory memory k.memory.objects (λ o p. known_local header o p (local header.size h (place_of o p) past)) m.fits.parts m.pages c
+    (ap (λ z. shown_as (clean_row frame unlocked false) true true z (absent_at k.memory.objects key.object.0 key.page.0)) (sym zeros)) (λ o p apart. refl)) in
     record {
-      plain = m.plain;
+      ranged = m.ranged;
+      declared = m.declared;
+      kinds = rw plan.objects m.kinds;
+      shared = m.shared;
       known = m.known;
       size = m.size;
       host = m.host;
       fits = fits_changed key frame _ _ _ _ _ k memory m.fits plan.fit plan.buffers c (record { lock = refl; precious = refl; unlock_sent = refl });
       tasks = m.tasks;
-      regions = regions_marked k.chains k.memory.objects memory.objects ids _ _ _ _ _ _ plan.objects (marks_still header (next_region header past) past (event.Zeroed (host_id h) key.object key.page ∷ past) (λ r. refl)) m.regions;
+      regions = rw plan.objects (regions_behind header (event.Zeroed (host_id h) key.object key.page) past k.chains k.memory.objects ids (λ r. refl) m.regions);
       homes = m.homes;
       entries = m.entries;
       pages = rw (plan.objects, own_host h) pages2;
       uses = m.uses;
-      controls = controls_kept k.memory.objects memory.objects _ _ _ plan.objects m.controls (λ o home. object_stays o h (event.Zeroed (host_id h) key.object key.page) past home);
-      homeless = record { regions = m.homeless.regions; objects = m.homeless.objects; stay = m.homeless.stay };
+      controls = rw plan.objects (controls_stay (λ o home. object_stays o h (event.Zeroed (host_id h) key.object key.page) past home) m.controls);
+      homeless = record { regions = m.homeless.regions; objects = m.homeless.objects; stay = m.homeless.stay; whole = m.homeless.whole; bare = m.homeless.bare; fills = m.homeless.fills };
       settled = record { returned = refl; shut = λ region. refl };
       laundry = laundry_changed key frame _ _ _ _ _ k.memory memory k.laundry (returns_out h past) m.laundry c;
       frames = rw (own_host h) (frames_changed (slice_get (reverse header.frames.items) h) key frame _ _ _ _ _ k.memory memory (frames_held header.size h past) (frames_held header.size h past + 1) (frames_wired h past) m.frames c (λ held. let more = c.claims in omega arith));
@@ -86,25 +93,29 @@ matches_raised header h k ids past low top row frame memory m found here c plan 
     let lower : Local = local header.size h (place_of low.object.0 low.page.0) past in
     let lacked = absent_at k.memory.objects low.object.0 low.page.0 in
     let now : PageRow = record (clean_row frame unlocked false) { dirty = true } in
-    let seen : lower ≡ shown_as row true true (page_in k.memory.frames row.frame.0) lacked =
+    let seen : known_local header low.object.0 low.page.0 lower ≡ shown_as row true true (page_in k.memory.frames row.frame.0) lacked =
     m.pages.shown low.object.0 low.page.0 ∙ (ap (λ z. local_of_row k.memory.frames z lacked) found ∙ shown_here k.memory.frames row lacked here) in
     let same : lower.bytes ≡ page_in memory.frames frame.0 = ap (λ (z : Local). z.bytes) seen ∙ sym (bytes_now top frame _ _ _ _ _ k.memory memory c) in
-    let pages2 = pages_moved header.size (Raises lower.bytes) top frame _ _ _ _ _ k.memory memory k.memory.objects (λ o p. local header.size h (place_of o p) past) m.fits.parts m.pages c
-    (ap (λ z. shown_as now true true z (absent_at k.memory.objects top.object.0 top.page.0)) same) (λ o p apart. refl) in
+    let pages2 = known_on header header.size top (Raises lower.bytes) (λ o p. local header.size h (place_of o p) past) tt
+    (pages_moved header.size (Raises lower.bytes) top frame _ _ _ _ _ k.memory memory k.memory.objects (λ o p. known_local header o p (local header.size h (place_of o p) past)) m.fits.parts m.pages c
+    (ap (λ z. shown_as now true true z (absent_at k.memory.objects top.object.0 top.page.0)) same) (λ o p apart. refl)) in
     record {
-      plain = m.plain;
+      ranged = m.ranged;
+      declared = m.declared;
+      kinds = rw plan.objects m.kinds;
+      shared = m.shared;
       known = m.known;
       size = m.size;
       host = m.host;
       fits = fits_changed top frame _ _ _ _ _ k memory m.fits plan.fit plan.buffers c (record { lock = refl; precious = refl; unlock_sent = refl });
       tasks = m.tasks;
-      regions = regions_marked k.chains k.memory.objects memory.objects ids _ _ _ _ _ _ plan.objects (marks_still header (next_region header past) past (event.Raised (host_id h) low.object low.page top.object top.page ∷ past) (λ r. refl)) m.regions;
+      regions = rw plan.objects (regions_behind header (event.Raised (host_id h) low.object low.page top.object top.page) past k.chains k.memory.objects ids (λ r. refl) m.regions);
       homes = m.homes;
       entries = m.entries;
       pages = rw (plan.objects, own_host h) pages2;
       uses = m.uses;
-      controls = controls_kept k.memory.objects memory.objects _ _ _ plan.objects m.controls (λ o home. object_stays o h (event.Raised (host_id h) low.object low.page top.object top.page) past home);
-      homeless = record { regions = m.homeless.regions; objects = m.homeless.objects; stay = m.homeless.stay };
+      controls = rw plan.objects (controls_stay (λ o home. object_stays o h (event.Raised (host_id h) low.object low.page top.object top.page) past home) m.controls);
+      homeless = record { regions = m.homeless.regions; objects = m.homeless.objects; stay = m.homeless.stay; whole = m.homeless.whole; bare = m.homeless.bare; fills = m.homeless.fills };
       settled = record { returned = refl; shut = λ region. refl };
       laundry = laundry_changed top frame _ _ _ _ _ k.memory memory k.laundry (returns_out h past) m.laundry c;
       frames = rw (own_host h) (frames_changed (slice_get (reverse header.frames.items) h) top frame _ _ _ _ _ k.memory memory (frames_held header.size h past) (frames_held header.size h past + 1) (frames_wired h past) m.frames c (λ held. let more = c.claims in omega arith));
@@ -133,24 +144,7 @@ works_touched header h past k ids who frame memory touched works = subst (λ (z 
     with_queues : Works header h (record k { memory = record k.memory { queues = memory.queues } }) ids who past
     with_queues =
         record {
-          matches = record {
-            plain = m.plain;
-            known = m.known;
-            size = m.size;
-            host = m.host;
-            fits = record { parts = fit_touched k.memory memory.queues m.fits.parts touched.keeps touched.frames; plain = m.fits.plain; buffers = m.fits.buffers };
-            tasks = m.tasks;
-            regions = m.regions;
-            homes = m.homes;
-            entries = m.entries;
-            pages = m.pages;
-            uses = m.uses;
-            controls = m.controls;
-            homeless = m.homeless;
-            settled = m.settled;
-            laundry = m.laundry;
-            frames = m.frames;
-          };
+          matches = matches_with memory.queues k.memory.buffers k.waits (fit_touched k.memory memory.queues m.fits.parts touched.keeps touched.frames) refl m;
           used = works.used;
           referred = works.referred;
           waits = works.waits;
@@ -168,19 +162,22 @@ works_loaded header h past k ids w key value waits2 works is now put =
     let there = (works.waits.allowed w.task.0 w is).lives in
     record {
       matches = record {
-        plain = m.plain;
+        ranged = m.ranged;
+        declared = m.declared;
+        kinds = m.kinds;
+        shared = m.shared;
         known = m.known;
         size = m.size;
         host = m.host;
         fits = record { parts = m.fits.parts; plain = m.fits.plain; buffers = m.fits.buffers };
         tasks = m.tasks;
-        regions = regions_marked k.chains k.memory.objects k.memory.objects ids _ _ _ _ _ _ refl (marks_still header (next_region header past) past (e ∷ past) (λ r. refl)) m.regions;
+        regions = regions_behind header e past k.chains k.memory.objects ids (λ r. refl) m.regions;
         homes = m.homes;
         entries = m.entries;
         pages = m.pages;
-        uses = uses_still k.maps _ _ _ _ _ m.uses (λ t r none. holds_waits header.size w.task.0 t r k.maps (rows_in w.task.0 k.maps) past None there none);
-        controls = controls_kept k.memory.objects k.memory.objects _ _ _ refl m.controls (λ o home. object_stays o h e past home);
-        homeless = record { regions = m.homeless.regions; objects = m.homeless.objects; stay = m.homeless.stay };
+        uses = uses_still header k.maps _ _ _ _ _ m.uses (λ t r none. holds_waits header.size w.task.0 t r k.maps (rows_in w.task.0 k.maps) past None there none);
+        controls = controls_stay (λ o home. object_stays o h e past home) m.controls;
+        homeless = record { regions = m.homeless.regions; objects = m.homeless.objects; stay = m.homeless.stay; whole = m.homeless.whole; bare = m.homeless.bare; fills = m.homeless.fills };
         settled = record { returned = refl; shut = λ region. refl };
         laundry = m.laundry;
         frames = m.frames;
@@ -211,27 +208,31 @@ works_stored header h past k ids w key frame at size value row memory waits2 wor
     let its : was.here ≡ true = ap (λ (z : PageRow). z.here) (some_is was row (sym c.found ∙ found)) ∙ here in
     let plain = m.fits.plain o p was c.found in
     let written = bytes_now key was.frame _ _ _ _ _ k.memory memory c ∙ ap (λ (z : FrameNo). with_bytes at bytes (page_in k.memory.frames z.0)) (sym wrote.is) in
-    let pages2 = pages_moved header.size (Stores at bytes) key was.frame _ _ _ _ _ k.memory memory k.memory.objects (λ o2 p2. local header.size h (place_of o2 p2) past) m.fits.parts m.pages c
-    (ap (local_after header.size (Stores at bytes)) (shown_here k.memory.frames was lacked its) ∙ (ap (λ z. shown_as row2 true true z lacked) (sym written) ∙ sym (shown_here memory.frames row2 lacked its))) (λ o2 p2 apart. refl) in
-    let pages3 : HasPages memory.frames memory.resident k.memory.objects (λ o2 p2. local header.size h (place_of o2 p2) (e ∷ past)) = rw (lives, own_host h) pages2 in
+    let pages2 = known_on header header.size key (Stores at bytes) (λ o2 p2. local header.size h (place_of o2 p2) past) tt
+    (pages_moved header.size (Stores at bytes) key was.frame _ _ _ _ _ k.memory memory k.memory.objects (λ o2 p2. known_local header o2 p2 (local header.size h (place_of o2 p2) past)) m.fits.parts m.pages c
+    (ap (local_after header.size (Stores at bytes)) (shown_here k.memory.frames was lacked its) ∙ (ap (λ z. shown_as row2 true true z lacked) (sym written) ∙ sym (shown_here memory.frames row2 lacked its))) (λ o2 p2 apart. refl)) in
+    let pages3 : HasPages memory.frames memory.resident k.memory.objects (λ o2 p2. known_local header o2 p2 (local header.size h (place_of o2 p2) (e ∷ past))) = rw (lives, own_host h) pages2 in
     let referred2 = page_referred key was.frame _ _ _ _ _ k memory c plan (works.referred.pages o p row found) works.referred in
     let waits3 = page_waits key was.frame _ _ _ _ _ k memory woken.Nobody (λ u. waiting u past) c plan (here_not_asked _ was refl its) (here_not_asked _ row2 refl its) works.waits in
     let fits2 = fits_changed key was.frame _ _ _ _ _ k memory m.fits plan.fit plan.buffers c (record { lock = plain.lock; precious = plain.precious; unlock_sent = plain.unlock_sent }) in
     record {
       matches = record {
-        plain = m.plain;
+        ranged = m.ranged;
+        declared = m.declared;
+        kinds = rw plan.objects m.kinds;
+        shared = m.shared;
         known = m.known;
         size = m.size;
         host = m.host;
         fits = record { parts = fits2.parts; plain = fits2.plain; buffers = fits2.buffers };
         tasks = m.tasks;
-        regions = regions_marked k.chains k.memory.objects memory.objects ids _ _ _ _ _ _ plan.objects (marks_still header (next_region header past) past (e ∷ past) (λ r. refl)) m.regions;
+        regions = rw plan.objects (regions_behind header e past k.chains k.memory.objects ids (λ r. refl) m.regions);
         homes = m.homes;
         entries = m.entries;
         pages = rw plan.objects pages3;
-        uses = uses_still k.maps _ _ _ _ _ m.uses (λ t r none. holds_waits header.size w.task.0 t r k.maps (rows_in w.task.0 k.maps) past None there none);
-        controls = controls_kept k.memory.objects memory.objects _ _ _ plan.objects m.controls (λ o home. object_stays o h e past home);
-        homeless = record { regions = m.homeless.regions; objects = m.homeless.objects; stay = m.homeless.stay };
+        uses = uses_still header k.maps _ _ _ _ _ m.uses (λ t r none. holds_waits header.size w.task.0 t r k.maps (rows_in w.task.0 k.maps) past None there none);
+        controls = rw plan.objects (controls_stay (λ o home. object_stays o h e past home) m.controls);
+        homeless = record { regions = m.homeless.regions; objects = m.homeless.objects; stay = m.homeless.stay; whole = m.homeless.whole; bare = m.homeless.bare; fills = m.homeless.fills };
         settled = record { returned = refl; shut = λ region. refl };
         laundry = laundry_changed key was.frame _ _ _ _ _ k.memory memory k.laundry (returns_out h past) m.laundry c;
         frames = frames_changed (slice_get (reverse header.frames.items) h) key was.frame _ _ _ _ _ k.memory memory (frames_held header.size h past) (frames_held header.size h past) (frames_wired h past) m.frames c (λ held. let same = c.claims in omega arith);

@@ -1,9 +1,10 @@
 -- What a message of a pager that a host takes is to its pages, frames and pagers.
-use Rattle.vm_kernel.proofs.Common.{Bool, Down, Elsewhere, Event, FrameTable, Header, IsPlainRow, List, Local, LocalEffect, Message, None, ObjectId, ObjectTable, PageNo, PageRow, PutsAbsent, Some, TakesError, TakesNothing, TakesPage, [], absent_at, ap, away, eqb_tells, error_taken, false, frames_held, host_id, if◌then◌else◌, inl, inr, is_control, is_ready, live_control, local, local_after, local_of_row, lock_number, not, page_in, place_of, refl, subst, sym, taken_effect, true, ℕ, ◌&&◌, ◌==◌, ◌∙◌, ◌∷◌, ◌≡◌}
+use Rattle.vm_kernel.proofs.Common.{Bool, Down, absence_taken, Elsewhere, Event, FrameTable, Header, IsPlainRow, List, Local, LocalEffect, Message, None, ObjectId, ObjectTable, PageNo, PageRow, PutsAbsent, Some, TakesError, TakesNothing, TakesPage, [], absent_at, ap, away, eqb_tells, error_taken, false, frames_held, host_id, if◌then◌else◌, inl, inr, is_control, is_ready, live_control, local, local_after, local_of_row, lock_number, not, page_in, place_of, refl, subst, sym, taken_effect, true, ℕ, ◌&&◌, ◌==◌, ◌∙◌, ◌∷◌, ◌≡◌}
 use Rattle.vm_model.specs.declared.event.Event.TheVariants as event
 use Rattle.vm_model.specs.declared.message.Message.TheVariants as message
 use Rattle.vm_kernel.proofs.Pages.{itself}
 use Rattle.vm_kernel.proofs.Own.{own_host}
+use Rattle.std.proofs.lemmas.Bool.{and_right}
 
 -- the event that a message for a control of an object is taken
 abbrev pub hears : ℕ → ObjectId → ℕ → Message → Event
@@ -30,6 +31,7 @@ pub record IsNothing (header : Header) (h : ℕ) (object : ObjectId) (control : 
   pub held : frames_held header.size h (hears h object control m ∷ past) ≡ frames_held header.size h past
   pub ready : (o live : ℕ) → live_control h o past ≡ Some live → is_ready h o (hears h object control m ∷ past) ≡ is_ready h o past
   pub error : error_taken header.size (hears h object control m ∷ past) ≡ None
+  pub absence : absence_taken header.size (hears h object control m ∷ past) ≡ None
 
 -- the control named lives
 abbrev pub lives : ℕ → ObjectId → ℕ → List Event → Bool
@@ -62,6 +64,10 @@ dead_error : (h : ℕ) (size : ℕ) (object : ObjectId) (control : ℕ) (m : Mes
 dead_error h size object control (message.Error page reason) past dead = rw dead refl
 dead_error h size object control other past dead = refl
 
+dead_absence : (h : ℕ) (size : ℕ) (object : ObjectId) (control : ℕ) (m : Message) (past : List Event) → lives h object control past ≡ false → absence_taken size (hears h object control m ∷ past) ≡ None
+dead_absence h size object control (message.Unavailable page) past dead = rw dead refl
+dead_absence h size object control other past dead = refl
+
 pub nothing_dead : (header : Header) (h : ℕ) (object : ObjectId) (control : ℕ) (m : Message) (past : List Event) → lives h object control past ≡ false → IsNothing header h object control m past
 nothing_dead header h object control m past dead =
     record {
@@ -69,6 +75,7 @@ nothing_dead header h object control m past dead =
       held = dead_held header h object control m past dead;
       ready = λ o live is. dead_ready h object control m past dead o;
       error = dead_error h header.size object control m past dead;
+      absence = dead_absence h header.size object control m past dead;
     }
 
 -- the message is about a page that isn't asked
@@ -108,10 +115,6 @@ asked_there : (h : ℕ) (size : ℕ) (object : ObjectId) (page o p : ℕ) (past 
 asked_there h size object page o p past none same also =
     subst (λ (z : ℕ). (local size h (place_of o z) past).asked ≡ false) also (subst (λ (z : ℕ). (local size h (place_of z page) past).asked ≡ false) same none)
 
-and_false : (a b : Bool) → b ≡ false → (a && b) ≡ false
-and_false true b none = none
-and_false false b none = refl
-
 pub unsupplied : (header : Header) (h : ℕ) (object : ObjectId) (control : ℕ) (page : PageNo) (lock : ℕ) (precious : Bool) (bytes : List ℕ) (past : List Event) → asks h header.size object page.0 past ≡ false
     → IsNothing header h object control (message.Supply page lock precious bytes) past
 unsupplied header h object control page lock precious bytes past none =
@@ -121,6 +124,7 @@ unsupplied header h object control page lock precious bytes past none =
       held = refl;
       ready = λ o live is. refl;
       error = refl;
+      absence = refl;
     }
 
 pub unlacked : (header : Header) (h : ℕ) (object : ObjectId) (control : ℕ) (page : PageNo) (past : List Event) → asks h header.size object page.0 past ≡ false → IsNothing header h object control (message.Unavailable page) past
@@ -128,9 +132,10 @@ unlacked header h object control page past none =
     record {
       pages = λ o p. rw (own_host h) (still header.size TakesNothing object.0 o page.0 p (is_control control (live_control h o past)) (local header.size h (place_of o p) past)
           (λ same also. nothing_stays header.size (local header.size h (place_of o p) past) (asked_there h header.size object page.0 o p past none same also)));
-      held = rw (own_host h, and_false (lives h object control past) (asks h header.size object page.0 past) none) refl;
+      held = rw (own_host h, and_right (lives h object control past) (asks h header.size object page.0 past) none) refl;
       ready = λ o live is. refl;
       error = refl;
+      absence = rw (and_right (lives h object control past) (asks h header.size object page.0 past) none) refl;
     }
 
 pub unfailed : (header : Header) (h : ℕ) (object : ObjectId) (control : ℕ) (page : PageNo) (reason : ℕ) (past : List Event) → asks h header.size object page.0 past ≡ false → IsNothing header h object control (message.Error page reason) past
@@ -138,9 +143,10 @@ unfailed header h object control page reason past none =
     record {
       pages = λ o p. rw (own_host h) (still header.size TakesError object.0 o page.0 p (is_control control (live_control h o past)) (local header.size h (place_of o p) past)
           (λ same also. error_stays header.size (local header.size h (place_of o p) past) (asked_there h header.size object page.0 o p past none same also)));
-      held = rw (own_host h, and_false (lives h object control past) (asks h header.size object page.0 past) none) refl;
+      held = rw (own_host h, and_right (lives h object control past) (asks h header.size object page.0 past) none) refl;
       ready = λ o live is. refl;
-      error = rw (and_false (lives h object control past) (asks h header.size object page.0 past) none) refl;
+      error = rw (and_right (lives h object control past) (asks h header.size object page.0 past) none) refl;
+      absence = refl;
     }
 
 -- what changes nothing either way
@@ -159,6 +165,7 @@ ready_again header h object control cache strategy past ready =
         | inr apart ↦ rw (own_host h, apart.0) refl
       ];
       error = refl;
+      absence = refl;
     }
   where
     either : (b was : Bool) → was ≡ true → (if b then true else was) ≡ was

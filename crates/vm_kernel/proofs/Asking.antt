@@ -1,5 +1,5 @@
 -- What a request for a page leaves of the kernel, and an access that waits for something else.
-use Rattle.vm_kernel.proofs.Common.{Asks, AsksPage, Event, FrameNo, HasWaiters, Header, HostParts, Ids, IsAsked, List, Matches, ObjectRow, ObjectTable, On, PageKey, Parts, Reason, Some, Up, WaitTable, Waiting, Works, [], ap, arith, begun_at, entry, frames_held, frames_wired, host_id, is_control, is_ready_state, live_control, local, local_after, next_region, object_at, place_of, ready_in, refl, returns_out, reverse, slice_get, subst, sym, true, waiting, with_on, ℕ, ◌&&◌, ◌+◌, ◌==◌, ◌∙◌, ◌∷◌, ◌≡◌}
+use Rattle.vm_kernel.proofs.Common.{Asks, false, AsksPage, Bool, Event, FrameNo, HasWaiters, Header, HostParts, Ids, IsAsked, List, Matches, ObjectRow, ObjectTable, On, PageKey, Parts, Reason, Some, Up, WaitTable, Waiting, Works, [], ap, arith, begun_at, entry, frames_held, frames_wired, host_id, is_control, is_ready_state, live_control, local, local_after, object_at, place_of, ready_in, refl, returns_out, reverse, slice_get, subst, sym, true, waiting, with_on, ℕ, ◌&&◌, ◌+◌, ◌==◌, ◌∙◌, ◌∷◌, ◌≡◌}
 use Rattle.vm_abroad.proofs.Home.{object_stays}
 use Rattle.vm_fault.specs.Faults.{KeepsPlan}
 use Rattle.vm_model.specs.declared.event.Event.TheVariants as event
@@ -11,66 +11,59 @@ use Rattle.vm_supply.specs.declared.woken.Woken.TheVariants as woken
 use Rattle.vm_terminate.specs.Finishes.{IsReferred}
 use Rattle.vm_waits.specs.declared.waiting.On.TheVariants as on
 use Rattle.vm_kernel.specs.Serving.{runs_now}
+use Rattle.vm_state.specs.Places.{known_local}
+use Rattle.vm_kernel.proofs.Known.{IsOther, pages_known}
 use Rattle.vm_kernel.proofs.Accessing.{asks_none_now, page_referred}
 use Rattle.vm_kernel.proofs.Brings.{fits_changed}
-use Rattle.vm_kernel.proofs.Behind.{controls_kept, marks_still, regions_marked}
 use Rattle.vm_kernel.proofs.Ordering.{PutsInOrder}
 use Rattle.vm_kernel.proofs.Own.{own_host}
 use Rattle.vm_kernel.proofs.Pages.{asking, asking_it, asking_other, frames_changed, itself, laundry_changed, pages_changed}
+use Rattle.vm_kernel.proofs.After.{controls_stay, regions_behind}
+use Rattle.vm_kernel.proofs.Untold.{matches_with}
 
 -- a request of the host for the page
 abbrev pub requesting : ℕ → PageKey → ℕ → ℕ → Event
 requesting h key control access = event.Sent (Up (host_id h) key.object) (message.Request control key.page access)
 
+other_asking : (object page live : Bool) → IsOther (asking object page live)
+other_asking true true true = tt
+other_asking true true false = tt
+other_asking true false live = tt
+other_asking false page live = tt
+
 pub matches_asked : (header : Header) (h : ℕ) (k : Parts) (ids : Ids) (past : List Event) (key : PageKey) (control access : ℕ) (frame : FrameNo) (memory : HostParts) → Matches header h k ids [] past → live_control h key.object.0 past ≡ Some control
     → AsksPage key frame k.memory memory → KeepsPlan k.memory memory → Matches header h (record k { memory = memory }) ids [] (requesting h key control access ∷ past)
 matches_asked header h k ids past key control access frame memory m live c plan =
-    let moment = λ (o p : ℕ). local header.size h (place_of o p) past in
-    let now = λ (o p : ℕ). local_after header.size (asking (key.object.0 == o) (key.page.0 == p) (is_control control (live_control h o past))) (moment o p) in
+    let there = λ (o p : ℕ). local header.size h (place_of o p) past in
+    let moment = λ (o p : ℕ). known_local header o p (there o p) in
+    let asks = λ (o p : ℕ). asking (key.object.0 == o) (key.page.0 == p) (is_control control (live_control h o past)) in
+    let now = λ (o p : ℕ). local_after header.size (asks o p) (moment o p) in
     let lives : is_control control (live_control h key.object.0 past) ≡ true = ap (is_control control) live ∙ itself control in
     let both : (key.object.0 == key.object.0 && key.page.0 == key.page.0) ≡ true = rw (itself key.object.0, itself key.page.0) refl in
-    let pages2 = pages_changed key frame _ _ _ _ _ k.memory memory k.memory.objects moment now m.fits.parts m.pages c
+    let pages2 = pages_known header header.size asks there (λ o p. other_asking (key.object.0 == o) (key.page.0 == p) (is_control control (live_control h o past)))
+    (pages_changed key frame _ _ _ _ _ k.memory memory k.memory.objects moment now m.fits.parts m.pages c
     (λ shows. ap (λ z. local_after header.size z (moment key.object.0 key.page.0)) (asking_it _ _ _ both lives) ∙ ap (local_after header.size Asks) shows)
-    (λ o p apart. (ap (λ z. local_after header.size z (moment o p)) (asking_other _ _ (is_control control (live_control h o past)) apart), refl)) in
+    (λ o p apart. (ap (λ z. local_after header.size z (moment o p)) (asking_other _ _ (is_control control (live_control h o past)) apart), refl))) in
     record {
-      plain = m.plain;
+      ranged = m.ranged;
+      declared = m.declared;
+      kinds = rw plan.objects m.kinds;
+      shared = m.shared;
       known = m.known;
       size = m.size;
       host = m.host;
       fits = fits_changed key frame _ _ _ _ _ k memory m.fits plan.fit plan.buffers c (record { lock = refl; precious = refl; unlock_sent = refl });
       tasks = m.tasks;
-      regions = regions_marked k.chains k.memory.objects memory.objects ids _ _ _ _ _ _ plan.objects (marks_still header (next_region header past) past (requesting h key control access ∷ past) (λ r. refl)) m.regions;
+      regions = rw plan.objects (regions_behind header (requesting h key control access) past k.chains k.memory.objects ids (λ r. refl) m.regions);
       homes = m.homes;
       entries = m.entries;
       pages = rw (plan.objects, own_host h) pages2;
       uses = m.uses;
-      controls = controls_kept k.memory.objects memory.objects _ _ _ plan.objects m.controls (λ o home. object_stays o h (requesting h key control access) past home);
-      homeless = record { regions = m.homeless.regions; objects = m.homeless.objects; stay = m.homeless.stay };
+      controls = rw plan.objects (controls_stay (λ o home. object_stays o h (requesting h key control access) past home) m.controls);
+      homeless = record { regions = m.homeless.regions; objects = m.homeless.objects; stay = m.homeless.stay; whole = m.homeless.whole; bare = m.homeless.bare; fills = m.homeless.fills };
       settled = record { returned = refl; shut = λ region. refl };
       laundry = laundry_changed key frame _ _ _ _ _ k.memory memory k.laundry (returns_out h past) m.laundry c;
       frames = rw (own_host h) (frames_changed (slice_get (reverse header.frames.items) h) key frame _ _ _ _ _ k.memory memory (frames_held header.size h past) (frames_held header.size h past + 1) (frames_wired h past) m.frames c (λ held. let more = c.claims in omega arith));
-    }
-
--- other accesses wait
-pub matches_waits : (header : Header) (h : ℕ) (k : Parts) (ids : Ids) (past : List Event) (waits : WaitTable) → Matches header h k ids [] past → Matches header h (record k { waits = waits }) ids [] past
-matches_waits header h k ids past waits m =
-    record {
-      plain = m.plain;
-      known = m.known;
-      size = m.size;
-      host = m.host;
-      fits = record { parts = m.fits.parts; plain = m.fits.plain; buffers = m.fits.buffers };
-      tasks = m.tasks;
-      regions = m.regions;
-      homes = m.homes;
-      entries = m.entries;
-      pages = m.pages;
-      uses = m.uses;
-      controls = m.controls;
-      homeless = m.homeless;
-      settled = m.settled;
-      laundry = m.laundry;
-      frames = m.frames;
     }
 
 -- a page is asked for, and the access waits for it
@@ -79,8 +72,9 @@ pub works_asked : (header : Header) (h : ℕ) (past : List Event) (k : Parts) (i
     → live_control h key.object.0 past ≡ Some object.control → AsksPage key frame k.memory memory → KeepsPlan k.memory memory → PutsInOrder w.task.0 (Some (with_on w (on.Page key))) k.waits.rows waits2.rows
     → Works header h (record k { memory = memory; waits = waits2 }) ids woken.Nobody (event.Sent (Up (host_id h) key.object) (message.Request object.control key.page access) ∷ past)
 works_asked header h past k ids w key object access frame memory waits2 works is now referred place known ready live c plan put =
+    let m = matches_asked header h k ids past key object.control access frame memory works.matches live c plan in
     record {
-      matches = matches_waits header h (record k { memory = memory }) ids (requesting h key object.control access ∷ past) waits2 (matches_asked header h k ids past key object.control access frame memory works.matches live c plan);
+      matches = matches_with memory.queues memory.buffers waits2 m.fits.parts refl m;
       used = works.used;
       referred = page_referred key frame _ _ _ _ _ k memory c plan referred works.referred;
       waits = subst (λ (z : ObjectTable). HasWaiters k.maps k.chains memory.resident z waits2.rows woken.Nobody (λ u. waiting u past)) (sym plan.objects)
@@ -94,7 +88,7 @@ pub works_turned : (header : Header) (h : ℕ) (past : List Event) (k : Parts) (
     → Reason k.maps k.chains k.memory.resident k.memory.objects w.task.0 w.want reason → PutsInOrder w.task.0 (Some (with_on w reason)) k.waits.rows waits2.rows → Works header h (record k { waits = waits2 }) ids woken.Nobody past
 works_turned header h past k ids w reason waits2 works is now holds put =
     record {
-      matches = matches_waits header h k ids past waits2 works.matches;
+      matches = matches_with k.memory.queues k.memory.buffers waits2 works.matches.fits.parts refl works.matches;
       used = works.used;
       referred = works.referred;
       waits = waiters_turned k.maps k.chains k.memory.resident k.memory.objects k.waits.rows waits2.rows (λ u. waiting u past) w.task.0 w reason works.waits is (asks_none_now k w.on now) put.entry holds;

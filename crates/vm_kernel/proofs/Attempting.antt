@@ -1,16 +1,15 @@
 -- An access is run: what holds after each thing that it may come to.
-use Rattle.vm_kernel.proofs.Common.{Bool, Command, Event, Header, HostId, HostParts, Ids, IfSome, IsAt, JoinsQueue, LegalEvents, List, None, ObjectId, Option, Outside, PageKey, PageRow, Parts, RegionRow, Some, Up, WaitTable, Waiting, Want, Wants, WantsFrame, Works, [], access_in, address_in, ap, append_assoc, claimed, clean_row, count_again, entry, entry_at, false, free, host_id, if◌then◌else◌, inl, inr, one_again, one_frame, page_at, page_of, queued, refl, region_at, row_at, row_put, rows_in, some_is, subst, suc, sym, true, unlocked, with_on, ℕ, ◌%◌, ◌&&◌, ◌++◌, ◌+◌, ◌-◌, ◌∙◌, ◌∷◌, ◌≡◌, ◌⊎◌}
+use Rattle.vm_kernel.proofs.Common.{Bool, Command, Event, Header, HostId, HostParts, Ids, IfSome, IsAt, JoinsQueue, LegalEvents, List, Matches, None, ObjectId, Option, Outside, PageKey, PageRow, Parts, RegionRow, Some, Up, WaitTable, Waiting, Want, Wants, WantsFrame, Works, [], access_in, address_in, ap, append_assoc, claimed, clean_row, count_again, entry, entry_at, false, free, host_id, if◌then◌else◌, inl, inr, named, one_again, one_frame, page_at, page_of, queued, refl, region_at, row_at, row_put, rows_in, some_is, subst, suc, sym, true, unlocked, with_on, zero, ℕ, ◌%◌, ◌&&◌, ◌++◌, ◌+◌, ◌-◌, ◌∙◌, ◌∷◌, ◌≡◌, ◌≤◌, ◌⊎◌}
 use Rattle.vm_base.specs.declared.entry.Entry.{Entry}
-use Rattle.vm_base.specs.declared.ids.Lock.{Lock}
 use Rattle.vm_fault.specs.Faults.{AfterZeros, AtOnce, Ended, FaultState, Faulted, Hits, Needs, NothingChanges, Nowhere, Prepares, Raised, RequestsPage, ToAsk, ToRaise}
-use Rattle.vm_fault.specs.Walks.{Finds, StopsAsked, WalksTo, is_storing, keeps_out, top_place, wanted_number, writes_at}
+use Rattle.vm_fault.specs.Walks.{Finds, PassesOver, Sinks, StopsAsked, WalksTo, is_storing, keeps_out, top_place, wanted_number, writes_at}
 use Rattle.vm_fault.specs.declared.step.FaultStep.{FaultStep}
 use Rattle.vm_fault.specs.declared.step.FaultStep.TheVariants as step
 use Rattle.vm_kernel.proofs.Accessing.{works_loaded, works_raised, works_stored, works_touched, works_zeroed}
 use Rattle.vm_kernel.proofs.Asking.{works_asked, works_joined, works_turned}
 use Rattle.vm_kernel.proofs.Follows.{comes_at, loaded_follows, raised_follows, request_follows, shadowed_follows, stored_follows, zeroed_follows}
 use Rattle.vm_kernel.proofs.Growing.{goes_both, goes_none, goes_one, suffices}
-use Rattle.vm_kernel.proofs.Leading.{Leads, it_waits, leads_of, shown_of, storing_is, top_at}
+use Rattle.vm_kernel.proofs.Leading.{Leads, it_waits, leads_of, storing_is, top_at}
 use Rattle.vm_kernel.proofs.Ordering.{PutsInOrder}
 use Rattle.vm_kernel.proofs.Own.{named_host, own_host}
 use Rattle.vm_kernel.proofs.Shadows.{works_shadowed}
@@ -26,6 +25,11 @@ use Rattle.vm_state.specs.Waiters.{IsPagerTold, IsPlaceOf}
 use Rattle.vm_supply.specs.declared.woken.Woken.TheVariants as woken
 use Rattle.vm_waits.specs.declared.waiting.On.TheVariants as on
 use Rattle.vm_waits.specs.declared.waiting.Want.TheVariants as want
+use Rattle.vm_kernel.proofs.Shown.{shown_at}
+use Rattle.vm_kernel.proofs.Claiming.{plain_open}
+use Rattle.std.proofs.lemmas.Bool.{and_parts}
+use Rattle.vm_kernel.proofs.Returning.{untold_temporary}
+use Rattle.vm_state.proofs.Declared.{kind_cases}
 
 -- what a fault may change of a kernel, and a kernel with that changed
 
@@ -55,13 +59,6 @@ leads_there header h past k ids w top t = leads_of header h k ids past woken.Nob
 open_row : (header : Header) (h : ℕ) (past : List Event) (k : Parts) (ids : Ids) (w : Waiting) (top key : PageKey) (row : PageRow) → Tries header h past k ids w top → row_at k.memory.resident key.object.0 key.page.0 ≡ Some row → row.lock ≡ unlocked
 open_row header h past k ids w top key row t found = (t.works.matches.fits.plain key.object.0 key.page.0 row found).lock
 
-pub never_kept_out : (lock : Lock) (writes : Bool) → lock ≡ unlocked → keeps_out lock writes ≡ false
-never_kept_out lock writes is = ap (λ (z : Lock). keeps_out z writes) is ∙ none writes
-  where
-    none : (b : Bool) → keeps_out unlocked b ≡ false
-    none true = refl
-    none false = refl
-
 -- a want that stores
 pub record IsStore (what : Want) : Type 0 where
   pub address : ℕ
@@ -83,7 +80,7 @@ hit_load header h outside doing past k ids w top events steps key row address si
     let loaded : Event = event.Loaded w.task key.object key.page value in
     let works = works_loaded header h moment k ids w key value waits2 t.works t.is t.now put in
     let to = leads_there header h moment k ids w top t in
-    let s = shown_of header h moment k ids woken.Nobody t.works in
+    let s = shown_at t.works.matches in
     let enough = suffices header h k.memory.frames (loaded ∷ moment) works.matches.frames in
     subst (λ (z : Event). Reaches header h outside doing past events (record k { memory = m2; waits = waits2 }) ids (z ∷ events)) (sym hits.2)
     (record {
@@ -101,7 +98,7 @@ hit_store header h outside doing past k ids w top events row address size number
     let stored : Event = event.Stored w.task top.object top.page (address % header.size) size number in
     let works = works_stored header h moment k ids w top row.frame (address % header.size) size number row mid waits2 t.works t.is t.now put hits.1.1 finds.found finds.here in
     let to = leads_there header h moment k ids w top t in
-    let s = shown_of header h moment k ids woken.Nobody t.works in
+    let s = shown_at t.works.matches in
     let enough = suffices header h mid.frames (stored ∷ moment) works.matches.frames in
     subst (λ (z : Event). Reaches header h outside doing past events (record k { memory = m2; waits = waits2 }) ids (z ∷ events)) (sym hits.2)
     (record {
@@ -129,6 +126,30 @@ tries_on : (header : Header) (h : ℕ) (past past2 : List Event) (k : Parts) (id
     → Tries header h past2 (record k { memory = m2 }) ids w top
 tries_on header h past past2 k ids w top m2 t works = record { works = works; is = t.is; now = t.now; at = t.at; clear = t.clear }
 
+-- the walk that finds a page nowhere passes over its top place
+passes_top : (parts : HostParts) (chains : ChainTable) (top : PageKey) → Sinks parts chains top → PassesOver parts top
+passes_top parts chains top sinks = by sinks.steps sinks.walks
+  where
+    by : (steps : ℕ) → WalksTo parts chains steps top sinks.last → PassesOver parts top
+    by zero walks = subst (PassesOver parts) (sym walks) sinks.passes
+    by (suc steps) walks = walks.0
+
+-- so that is a place of a temporary object: a declared one that is referred to has a pager, which may have each of its pages
+top_temporary : (header : Header) (h : ℕ) (past : List Event) (k : Parts) (ids : Ids) (w : Waiting) (top : PageKey) → Tries header h past k ids w top → Sinks k.memory k.chains top → named header ≤ top.object.0
+top_temporary header h past k ids w top t sinks = elim (over.none) [
+  | inl without ↦ untold_temporary header k.memory.objects top.object.0 over.row (leads_there header h past k ids w top t).referred over.known (m.kinds.kinds top.object.0 over.row over.known) without
+  | inr lacked ↦ elim (kind_cases header top.object.0) [
+    | inl declared ↦ absurd (let bad : false ≡ true = sym (m.kinds.present top.object.0 top.page.0 declared) ∙ lacked in cc)
+    | inr temporary ↦ temporary
+  ]
+]
+  where
+    m : Matches header h k ids [] past
+    m = t.works.matches
+
+    over : PassesOver k.memory top
+    over = passes_top k.memory k.chains top sinks
+
 -- it ends with its page, after a copy or zeros came, or at once
 ended : (header : Header) (h : ℕ) (outside : Outside) (doing : Command) (past : List Event) (k : Parts) (ids : Ids) (w : Waiting) (top : PageKey) (events : List Event) (value : ℕ) (m2 : HostParts) (after : List Event) (waits2 : WaitTable)
     → Tries header h (events ++ past) k ids w top → Ended (host_id h) w.task w.want top (address_in w.want % header.size) value k.memory m2 k.chains events after
@@ -139,7 +160,7 @@ ended header h outside doing past k ids w top events value m2 after waits2 t (Ra
     let moment = events ++ past in
     let raised : Event = event.Raised (host_id h) key.object key.page top.object top.page in
     let to = leads_there header h moment k ids w top t in
-    let s = shown_of header h moment k ids woken.Nobody t.works in
+    let s = shown_at t.works.matches in
     let store = store_of w.want stores in
     let works1 = works_raised header h moment k ids key top row frame copied t.works to.referred finds.found finds.here raises keeps in
     let t1 = tries_on header h moment (raised ∷ moment) k ids w top copied t works1 in
@@ -158,11 +179,11 @@ ended header h outside doing past k ids w top events value m2 after waits2 t (Af
     let moment = events ++ past in
     let zeros : Event = event.Zeroed (host_id h) top.object top.page in
     let to = leads_there header h moment k ids w top t in
-    let s = shown_of header h moment k ids woken.Nobody t.works in
+    let s = shown_at t.works.matches in
     let works1 = works_zeroed header h moment k ids top frame brought t.works to.referred brings keeps in
     let t1 = tries_on header h moment (zeros ∷ moment) k ids w top brought t works1 in
     let one = goes_one header h outside doing past events zeros t.works.matches.settled
-    (zeroed_follows header h outside doing moment k w.task.0 w.want top t.at t.works.matches.plain to s t.clear sinks (suffices header h brought.frames (zeros ∷ moment) works1.matches.frames)) in
+    (zeroed_follows header h outside doing moment k w.task.0 w.want top t.at (top_temporary header h moment k ids w top t sinks) to s t.clear sinks (suffices header h brought.frames (zeros ∷ moment) works1.matches.frames)) in
     let row2 : PageRow = clean_row frame unlocked false in
     let there : Finds brought k.chains 0 top top row2 = record { walks = refl; found = row_put k.memory.resident brought.resident top.object.0 top.page.0 (Some row2) brings.row; here = refl } in
     let two = hit header h outside doing past (record k { memory = brought }) ids w top (zeros ∷ events) 0 top row2 value e m2 waits2 t1 there (λ is. refl) hits put in
@@ -182,7 +203,7 @@ asked header h outside doing past k ids w top key events m2 after waits2 t a put
     let number = wanted_number w.want a.steps in
     let request : Event = event.Sent (Up (host_id h) key.object) (message.Request a.object.control key.page number) in
     let to = leads_there header h moment k ids w top t in
-    let s = shown_of header h moment k ids woken.Nobody t.works in
+    let s = shown_at t.works.matches in
     let place = place_of_walk k w top key a.steps t.at a.comes.walks in
     let may = may_ask s a.steps top key a.object a.comes a.ready in
     let works = works_asked header h moment k ids w key a.object number a.frame m2 waits2 t.works t.is t.now (referred_down s a.steps top key to.referred place.leads) place a.comes.known a.ready may.live a.page a.plan put in
@@ -202,10 +223,6 @@ pub record Prepared (header : Header) (h : ℕ) (outside : Outside) (doing : Com
   pub is_front : IsFront front
   pub told : mid.events ≡ front ++ events
   pub frames : mid.parts.frames ≡ k.memory.frames
-
-both_true : (a b : Bool) → (a && b) ≡ true → (a ≡ true) × (b ≡ true)
-both_true true b is = (refl, is)
-both_true false b is = absurd (let bad : false ≡ true = is in cc)
 
 not_both : (a b : Bool) → (a && b) ≡ false → a ≡ true → b ≡ false
 not_both true b is one = is
@@ -238,7 +255,7 @@ prepared header h outside doing past k ids w may answer events new works is now 
         bare f.mid (sym same) f.at
         (λ stores. its_mark k f.mid.chains w f.top f.row f.entry f.at f.found (ap (λ (z : FaultState). region_at z.chains f.entry.region.0) same ∙ f.region) (not_both (is_storing w.want) f.row.marked test stores))
     by true test made =
-        let both = both_true (is_storing w.want) f.row.marked test in
+        let both = and_parts (is_storing w.want) f.row.marked test in
         let store = store_of w.want both.0 in
         let before : PageKey = top_place f.row (page_at k.maps.size (address_in w.want) f.entry) in
         let at : IsAt k.maps k.chains w.task.0 w.want before = record { entry = f.entry; found = f.found; row = f.row; region = f.region; is = refl } in
@@ -330,7 +347,7 @@ page_reaches header h outside doing past k ids w may answer key events new waits
     let f : Faulted k.maps k.host w.task w.want may (step.Unlock key) (state_of k ids events) new = subst (λ (z : FaultStep). Faulted k.maps k.host w.task w.want may z (state_of k ids events) new) unlocks faulted in
     let p = prepared header h outside doing past k ids w may (step.Unlock key) events new works is now f in
     let a = f.comes in
-    let open_it = never_kept_out a.row.lock (writes_at w.want a.steps) (open_row header h (f.mid.events ++ past) (with_state k f.mid) f.mid.ids w f.top key a.row p.tries a.finds.found) in
+    let open_it = plain_open a.row.lock (writes_at w.want a.steps) (open_row header h (f.mid.events ++ past) (with_state k f.mid) f.mid.ids w f.top key a.row p.tries a.finds.found) in
     absurd (let bad : false ≡ true = sym open_it ∙ a.locked in cc)
 page_reaches header h outside doing past k ids w may answer key events new waits2 works is now faulted (inr (inr joins)) put =
     settle header h outside doing past k events f.mid new waits2 p.goes (stays header h outside doing past k f.mid new waits2 f.comes.1 (by f.comes.0.why)) f.chains f.ids
@@ -350,7 +367,7 @@ page_reaches header h outside doing past k ids w may answer key events new waits
     by : (Finds f.mid.parts f.mid.chains steps f.top key row × (keeps_out row.lock (writes_at w.want steps) ≡ true) × (row.unlock_sent ≡ true)) ⊎ StopsAsked f.mid.parts f.mid.chains steps f.top key row
         → Works header h (record (with_state k f.mid) { waits = waits2 }) f.mid.ids woken.Nobody (f.mid.events ++ past)
     by (inl locked) =
-        let open_it = never_kept_out row.lock (writes_at w.want steps) (open_row header h (f.mid.events ++ past) (with_state k f.mid) f.mid.ids w f.top key row p.tries locked.0.found) in
+        let open_it = plain_open row.lock (writes_at w.want steps) (open_row header h (f.mid.events ++ past) (with_state k f.mid) f.mid.ids w f.top key row p.tries locked.0.found) in
         absurd (let bad : false ≡ true = sym open_it ∙ locked.1 in cc)
     by (inr stops) =
         works_joined header h (f.mid.events ++ past) (with_state k f.mid) f.mid.ids w key waits2 p.tries.works is now (place_of_walk (with_state k f.mid) w f.top key steps p.tries.at stops.walks)
@@ -381,15 +398,15 @@ frame_why : (header : Header) (h : ℕ) (past : List Event) (k : Parts) (ids : I
     → WantsFrame header h w.task.0 (access_in w.want) t.at.entry.region.0 (page_of header w.task.0 (access_in w.want) past t.at.entry) past
 frame_why header h past k ids w top t (Nowhere sinks) =
     let to = leads_there header h past k ids w top t in
-    legal.Nowhere top.object.0 top.page.0 sinks.steps (top_at header h past k w.task.0 w.want top t.at to) (sinks_of (shown_of header h past k ids woken.Nobody t.works) top to.referred sinks)
+    legal.Nowhere top.object.0 top.page.0 sinks.steps (top_at header h past k w.task.0 w.want top t.at to) (sinks_of (shown_at t.works.matches) top to.referred sinks)
 frame_why header h past k ids w top t (ToAsk steps key object comes ready) =
     let to = leads_there header h past k ids w top t in
-    let s = shown_of header h past k ids woken.Nobody t.works in
+    let s = shown_at t.works.matches in
     let may = may_ask s steps top key object comes ready in
     legal.Elsewhere key.object.0 key.page.0 (comes_at header h past k w.task.0 w.want top t.at to s steps key comes.walks) may.away may.unasked may.may_have may.ready
 frame_why header h past k ids w top t (ToRaise steps key row finds stores out) =
     let to = leads_there header h past k ids w top t in
-    let s = shown_of header h past k ids woken.Nobody t.works in
+    let s = shown_at t.works.matches in
     legal.Raises top.object.0 top.page.0 steps key.object.0 key.page.0 (top_at header h past k w.task.0 w.want top t.at to) (walks_of s (suc steps) top key finds.walks) (shows_row s key.object.0 key.page.0 row finds.found finds.here).here
     (storing_is w.want ∙ stores)
 
@@ -399,7 +416,7 @@ frame_source header h past k ids w top t (Nowhere sinks) = tt
 frame_source header h past k ids w top t (ToAsk steps key object comes ready) = tt
 frame_source header h past k ids w top t (ToRaise steps key row finds stores out) =
     let to = leads_there header h past k ids w top t in
-    let s = shown_of header h past k ids woken.Nobody t.works in (
+    let s = shown_at t.works.matches in (
       record {
         task = w.task.0;
         access = access_in w.want;

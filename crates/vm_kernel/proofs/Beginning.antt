@@ -102,9 +102,12 @@ absent_row header h task what past k ids before s = idle_of (entry k.waits.rows 
 begun_matches : (header : Header) (h : ℕ) (k : Parts) (ids : Ids) (past : List Event) (waits : WaitTable) (task : TaskId) (what : Want) (rows : List Entry) → Matches header h k ids [] past → entries_in task.0 k.maps ≡ Some rows
     → Matches header h (record k { waits = waits }) ids [] (begun task what ∷ past)
 begun_matches header h k ids past waits task (want.Load address size) rows m lives =
-    let leaves : Leaves header past (begun task (want.Load address size) ∷ past) = record { regions_made = refl; objects_made = refl; region = λ r. refl; backing = λ o. refl; home = λ r. refl; made_for = λ o. refl; used = λ g r. refl } in
+    let leaves : Leaves header past (begun task (want.Load address size) ∷ past) = record { regions_made = refl; objects_made = refl; region = λ r. refl; backing = λ o. refl; home = λ r. refl; made_for = λ o. refl; used = λ g r. refl; target = λ task. refl } in
     record {
-      plain = m.plain;
+      ranged = m.ranged;
+      declared = m.declared;
+      kinds = m.kinds;
+      shared = m.shared;
       known = m.known;
       size = m.size;
       host = m.host;
@@ -113,7 +116,7 @@ begun_matches header h k ids past waits task (want.Load address size) rows m liv
       regions = regions_after leaves m.regions;
       entries = m.entries;
       pages = m.pages;
-      uses = uses_still k.maps _ _ _ _ _ m.uses (λ t r none. holds_waits header.size task.0 t r k.maps rows past _ lives none);
+      uses = uses_still header k.maps _ _ _ _ _ m.uses (λ t r none. holds_waits header.size task.0 t r k.maps rows past _ lives none);
       controls = controls_after leaves m.controls;
       homeless = homeless_after leaves m.homeless;
       homes = m.homes;
@@ -122,9 +125,12 @@ begun_matches header h k ids past waits task (want.Load address size) rows m liv
       frames = m.frames;
     }
 begun_matches header h k ids past waits task (want.Store address size value) rows m lives =
-    let leaves : Leaves header past (begun task (want.Store address size value) ∷ past) = record { regions_made = refl; objects_made = refl; region = λ r. refl; backing = λ o. refl; home = λ r. refl; made_for = λ o. refl; used = λ g r. refl } in
+    let leaves : Leaves header past (begun task (want.Store address size value) ∷ past) = record { regions_made = refl; objects_made = refl; region = λ r. refl; backing = λ o. refl; home = λ r. refl; made_for = λ o. refl; used = λ g r. refl; target = λ task. refl } in
     record {
-      plain = m.plain;
+      ranged = m.ranged;
+      declared = m.declared;
+      kinds = m.kinds;
+      shared = m.shared;
       known = m.known;
       size = m.size;
       host = m.host;
@@ -133,7 +139,7 @@ begun_matches header h k ids past waits task (want.Store address size value) row
       regions = regions_after leaves m.regions;
       entries = m.entries;
       pages = m.pages;
-      uses = uses_still k.maps _ _ _ _ _ m.uses (λ t r none. holds_waits header.size task.0 t r k.maps rows past _ lives none);
+      uses = uses_still header k.maps _ _ _ _ _ m.uses (λ t r none. holds_waits header.size task.0 t r k.maps rows past _ lives none);
       controls = controls_after leaves m.controls;
       homeless = homeless_after leaves m.homeless;
       homes = m.homes;

@@ -1,6 +1,11 @@
 -- Commands that change a task's entries, from their beginning to their end.
-use Rattle.vm_kernel.proofs.Common.{Access, AllReferred, AllRows, AllUsed, ChainTable, ChangesOnly, Code, Entry, Event, HasEntries, HasHomes, HasPages, HasRegions, HasUse, HasWaiters, Header, Ids, Inherit, IsInside, List, Lowered, MapChange, Mapped, None, Option, Outside, Parts, Prot, Raised, Ran, RegionRow, Rests, Some, Starts, TaskId, Waiting, [], acting, all_tasks, ap, arith, backing_of, code_where, copy_target, count_by, count_on, entries_in, entries_in_row, entries_of, entry, eqb_tells, false, fills, has_entry, has_region, holds, home_of, host_of, if◌then◌else◌, in_use, inheritance, inherited, inl, inr, is_none, is_some, length, local, marked_regions, most_entries, next_object, next_region, place_of, protected, protection, refl, region_at, region_entries, region_of, rows_in, rows_map, subst, suc, sym, tasks, true, unwrap_or, waiting, waiting_in, zero, ℕ, ◌*◌, ◌+◌, ◌-◌, ◌<◌, ◌==◌, ◌||◌, ◌∙◌, ◌∷◌, ◌≡◌, ◌≤◌}
+use Rattle.vm_kernel.proofs.Common.{Access, AllReferred, AllRows, AllUsed, ChainTable, ChangesOnly, Code, Entry, Event, HasEntries, HasHomes, HasKinds, HasPages, HasRegions, HasUse, HasWaiters, Header, Ids, Inherit, IsInside, List, Lowered, MapChange, Mapped, None, Option, Outside, Parts, Prot, Raised, Ran, RegionRow, Rests, Some, Starts, TaskId, Waiting, [], acting, all_tasks, ap, arith, backing_of, code_where, copy_target, count_by, count_on, entries_in, entries_in_row, entries_of, entry, eqb_tells, false, fills, has_entry, has_region, holds, home_of, host_of, if◌then◌else◌, in_use, inheritance, inherited, inl, inr, is_copied, is_none, is_range, is_some, length, local, marked_regions, meets_declared, most_entries, named, next_object, next_region, place_of, protected, protection, refl, refusal, region_at, region_entries, region_of, rows_in, rows_map, subst, suc, sym, tasks, true, unwrap_or, waiting, waiting_in, zero, ℕ, ◌&&◌, ◌*◌, ◌+◌, ◌-◌, ◌<◌, ◌==◌, ◌||◌, ◌∙◌, ◌∷◌, ◌≡◌, ◌≤◌}
+use Rattle.vm_state.specs.Places.{known_local}
+use Rattle.std.proofs.Common.{not}
+use Rattle.std.proofs.lemmas.Bool.{or_parts}
+use Rattle.vm_base.specs.Entries.{is_mapped}
 use Rattle.vm_base.specs.declared.code.Code.TheVariants as code
+use Rattle.vm_legal.specs.Refusal.{are_too_many}
 use Rattle.vm_model.specs.declared.event.Event.TheVariants as event
 use Rattle.vm_model.specs.declared.command.Command.TheVariants as command
 use Rattle.vm_supply.specs.declared.woken.Woken.TheVariants as woken
@@ -15,6 +20,8 @@ use Rattle.vm_kernel.proofs.Rewrites.{entries_changed, lives_below, on_among, re
 use Rattle.vm_kernel.proofs.Uses.{uses_same, holds_rows}
 use Rattle.vm_state.proofs.Waited.{waits_changed, told_changed}
 use Rattle.vm_kernel.proofs.Mine.{own_task}
+use Rattle.vm_kernel.proofs.Own.{rows_here}
+use Rattle.vm_kernel.proofs.Sharing.{kinds_recounted, shared_changed, shared_inherited, shared_protected}
 
 -- how many entries lead to a region
 
@@ -67,8 +74,9 @@ not_there header h past k ids task rows rests lives none = no_row (entry k.waits
 pub record Changed (header : Header) (h : ℕ) (past : List Event) (k : Parts) (ids : Ids) (maps : Mapped) (chains : ChainTable) (lost : List Entry) : Type 0 where
   pub regions : HasRegions chains k.memory.objects ids (λ r. region_of header r past) (λ o. backing_of header o past) (next_region header past) (next_object header past) (marked_regions header past)
   pub entries : HasEntries header.size maps chains lost
-  pub homes : HasHomes h chains (λ r. home_of r past)
-  pub pages : HasPages k.memory.frames k.memory.resident k.memory.objects (λ o p. local header.size h (place_of o p) past)
+  pub kinds : HasKinds header k.memory.objects chains
+  pub homes : HasHomes header h chains (λ r. home_of r past)
+  pub pages : HasPages k.memory.frames k.memory.resident k.memory.objects (λ o p. known_local header o p (local header.size h (place_of o p) past))
   pub used : AllUsed chains
   pub referred : AllReferred chains k.memory.objects k.memory.resident
   pub waits : HasWaiters maps chains k.memory.resident k.memory.objects k.waits.rows woken.Nobody (λ t. waiting t past)
@@ -83,7 +91,8 @@ changed_by header h past k ids maps chains task rows lost count rests idle chang
     record {
       regions = recount_regions count k.chains chains k.memory.objects ids (λ r. region_of header r past) (λ o. backing_of header o past) (next_region header past) (next_object header past) (marked_regions header past) is m.regions;
       entries = entries_changed header.size task k.maps maps k.chains chains count rows lost m.entries changes lives is sums cuts.inside cuts.known cuts.few;
-      homes = recount_homes count h k.chains chains (λ r. home_of r past) is m.homes;
+      kinds = kinds_recounted header count k.memory.objects k.chains chains is m.kinds;
+      homes = recount_homes count header h k.chains chains (λ r. home_of r past) is m.homes;
       pages = m.pages;
       used = recount_used count k.chains chains is (λ r there some. let sum = sums r there in let kept = cuts.kept r in omega arith) rests.used;
       referred = recount_referred count k.chains chains k.memory.objects k.memory.resident is rests.referred;
@@ -109,10 +118,10 @@ uses_fewer size task r maps new cs rows has changes lives own some = by_count (c
 
 pub uses_kept : (header : Header) (h : ℕ) (past : List Event) (k : Parts) (ids : Ids) (maps : Mapped) (task : ℕ) (two : List Entry) → Rests header h k ids past → ChangesOnly k.maps maps task (Some two) → entries_in task k.maps ≡ Some (rows_in task k.maps)
     → Cuts header.size k.chains (rows_in task k.maps) two [] → (own : ℕ → List Entry)
-    → HasUse maps (λ r. in_use header h r past) (tasks past) (λ t r. has_entry r (if task == t then own t else entries_of header.size t past) || fills r (waiting t past) (copy_target t past)) (next_region header past)
+    → HasUse header maps (λ r. in_use header h r past) (tasks past) (λ t r. has_entry r (if task == t then own t else entries_of header.size t past) || fills r (waiting t past) (copy_target t past)) (next_region header past)
 uses_kept header h past k ids maps task two rests changes lives cuts own =
     let m = rests.matches in
-    uses_same k.maps maps (λ r. in_use header h r past) (tasks past) (λ t r. holds header.size t r past) _ (next_region header past) task two m.uses changes lives
+    uses_same header k.maps maps (λ r. in_use header h r past) (tasks past) (λ t r. holds header.size t r past) _ (next_region header past) task two m.uses changes lives
     (λ r some. let moved = by_changed all_tasks r task k.maps maps (Some two) (lives_below header.size task k.maps k.chains [] m.entries lives) changes in let kept = cuts.kept r in omega arith)
     (λ r some. uses_fewer header.size task r k.maps maps k.chains (Some two) m.entries changes lives cuts.own some)
     (λ t r none. holds_rows header.size task t r k.maps (rows_in task k.maps) (own t) past lives none)
@@ -161,12 +170,15 @@ ran_protect header h outside task address bytes prot past events k ids maps mid 
     let c = changed_counts header h past k ids maps mid chains task.0 one two s.rests idle (record { size = changes.size; changed = now; others = changes.others }) value cuts down up in
     let same : ChangesOnly k.maps maps task.0 (Some (protected header.size address bytes prot rows)) =
     record { size = changes.size; changed = changes.changed ∙ ap Some (ap (λ z. protected k.maps.size z.address z.bytes z.prot rows) is ∙ ap (λ z. protected z address bytes prot rows) m.tasks.sized); others = changes.others } in
-    let leaves : Leaves header past (event.Protected task address bytes prot ∷ past) = record { regions_made = refl; objects_made = refl; region = λ r. refl; backing = λ o. refl; home = λ r. refl; made_for = λ o. refl; used = λ g r. refl } in
+    let leaves : Leaves header past (event.Protected task address bytes prot ∷ past) = record { regions_made = refl; objects_made = refl; region = λ r. refl; backing = λ o. refl; home = λ r. refl; made_for = λ o. refl; used = λ g r. refl; target = λ task. refl } in
     let rests : Rests header h (record k { maps = maps; chains = chains }) ids (event.Protected task address bytes prot ∷ past) =
     record {
       matches =
           record {
-            plain = m.plain;
+            ranged = m.ranged;
+            declared = m.declared;
+            kinds = c.kinds;
+            shared = shared_changed (named header) task.0 k.maps maps (Some (protected header.size address bytes prot rows)) same (shared_protected (named header) header.size address bytes prot rows (m.shared task.0)) m.shared;
             known = m.known;
             size = m.size;
             host = m.host;
@@ -195,6 +207,19 @@ ran_protect header h outside task address bytes prot past events k ids maps mid 
       done = tt;
     }
 
+-- no entry on a declared object is in a range that a fork is to copy
+not_met : (header : Header) (task address bytes : ℕ) (inherit : Inherit) (past : List Event) → refusal header past (command.Inherit (record { 0 = task }) address bytes inherit) ≡ None
+    → (is_copied inherit && meets_declared (named header) address bytes (entries_of header.size task past)) ≡ false
+not_met header task address bytes inherit past accepted =
+    let rows = entries_of header.size task past in
+    let tests = not (is_range header.size address bytes) || (is_copied inherit && meets_declared (named header) address bytes rows) in
+    let last = code_where (not (is_mapped header.size address bytes rows)) code.InvalidAddress (code_where (are_too_many (inherited header.size address bytes inherit rows)) code.TableFull None) in
+    let next = code_where tests code.InvalidArgument last in
+    let first = passed (is_none (host_of task past)) code.NoSuchName (code_where (is_some (waiting task past)) code.Blocked next) accepted in
+    let second = passed (is_some (waiting task past)) code.Blocked next first.1 in
+    let third = passed tests code.InvalidArgument last second.1 in
+    (or_parts (not (is_range header.size address bytes)) (is_copied inherit && meets_declared (named header) address bytes rows) third.0).1
+
 pub ran_inherit : (header : Header) (h : ℕ) (outside : Outside) (task : TaskId) (address bytes : ℕ) (inherit : Inherit) (past events : List Event) (k : Parts) (ids : Ids) (maps : Mapped) (mid chains : ChainTable) (change : MapChange) (one two : List Entry)
     → Starts header h (command.Inherit task address bytes inherit) past k ids events → change ≡ inheritance address bytes inherit
     → ChangesOnly k.maps maps task.0 (Some (inherited k.maps.size change.address change.bytes change.inherit (rows_in task.0 k.maps)))
@@ -206,15 +231,21 @@ ran_inherit header h outside task address bytes inherit past events k ids maps m
     let rows = rows_in task.0 k.maps in
     let cuts = inherit_cuts header.size address bytes task.0 inherit k.maps maps k.chains change two m.entries m.tasks.sized is changes now few in
     let idle = acts task.0 past _ s.accepted in
+    let apart : (is_copied inherit && meets_declared (named header) address bytes rows) ≡ false =
+    ap (λ (z : List Entry). is_copied inherit && meets_declared (named header) address bytes z) (sym (rows_here m.tasks live.1))
+    ∙ not_met header task.0 address bytes inherit past s.accepted in
     let c = changed_counts header h past k ids maps mid chains task.0 one two s.rests idle (record { size = changes.size; changed = now; others = changes.others }) value cuts down up in
     let same : ChangesOnly k.maps maps task.0 (Some (inherited header.size address bytes inherit rows)) =
     record { size = changes.size; changed = changes.changed ∙ ap Some (ap (λ z. inherited k.maps.size z.address z.bytes z.inherit rows) is ∙ ap (λ z. inherited z address bytes inherit rows) m.tasks.sized); others = changes.others } in
-    let leaves : Leaves header past (event.Inherited task address bytes inherit ∷ past) = record { regions_made = refl; objects_made = refl; region = λ r. refl; backing = λ o. refl; home = λ r. refl; made_for = λ o. refl; used = λ g r. refl } in
+    let leaves : Leaves header past (event.Inherited task address bytes inherit ∷ past) = record { regions_made = refl; objects_made = refl; region = λ r. refl; backing = λ o. refl; home = λ r. refl; made_for = λ o. refl; used = λ g r. refl; target = λ task. refl } in
     let rests : Rests header h (record k { maps = maps; chains = chains }) ids (event.Inherited task address bytes inherit ∷ past) =
     record {
       matches =
           record {
-            plain = m.plain;
+            ranged = m.ranged;
+            declared = m.declared;
+            kinds = c.kinds;
+            shared = shared_changed (named header) task.0 k.maps maps (Some (inherited header.size address bytes inherit rows)) same (shared_inherited (named header) header.size address bytes inherit rows (m.shared task.0) apart) m.shared;
             known = m.known;
             size = m.size;
             host = m.host;

@@ -212,7 +212,7 @@ unasked maps chains resident objects rows waiting_at key t v has absent found wa
     let bad : None ≡ Some reason.1.row = sym absent ∙ reason.1.found in cc
 
 -- no plain lock keeps an access out
-plain_open : (lock : Lock) (writes : Bool) → lock ≡ unlocked → keeps_out lock writes ≡ false
+pub plain_open : (lock : Lock) (writes : Bool) → lock ≡ unlocked → keeps_out lock writes ≡ false
 plain_open lock true is = ap (λ z. keeps_out z true) is
 plain_open lock false is = ap (λ z. keeps_out z false) is
 

@@ -92,6 +92,7 @@ pub use Rattle.vm_parts.proofs.Rows.{asked_is, if_true, of_found, one_case, row_
 pub use Rattle.vm_parts.specs.Changes.{AsksPage, Brings, Cancels, Changes, Discards, FillsPage, Writes, asked_row, clean_row, led, unlocked}
 pub use Rattle.vm_parts.specs.Controls.{AllLive}
 pub use Rattle.vm_parts.specs.Fits.{Fit, IsStart, object_pages, pages_of_row}
+pub use Rattle.vm_parts.specs.Locks.{lock_numbered}
 pub use Rattle.vm_parts.specs.declared.parts.HostParts.{HostParts}
 pub use Rattle.vm_queues.proofs.Balance.{balanced_done, none_needed, spared_done}
 pub use Rattle.vm_queues.proofs.Queued.{queued_victim}
@@ -103,7 +104,7 @@ pub use Rattle.vm_shadow.specs.Chains.{ChainTable, PutsRegion, region_at, shadow
 pub use Rattle.vm_shadow.specs.declared.ids.Ids.{Ids}
 pub use Rattle.vm_shadow.specs.declared.region_row.RegionRow.{RegionRow}
 pub use Rattle.vm_shadow.specs.declared.shadow_row.ShadowRow.{ShadowRow}
-pub use Rattle.vm_supply.specs.Answers.{AnswerEffects, AnswerOutcome, Discarded, Failed, FailsPage, IsAnswer, Lacked, Lacks, Readied, Readies, Supplied, Supplies, Zeroed, key_of, live_outcome, lock_numbered, outcome_of, ready_outcome, unavailable_outcome}
+pub use Rattle.vm_supply.specs.Answers.{AnswerEffects, AnswerOutcome, Discarded, Failed, FailsPage, IsAnswer, Lacked, Lacks, Readied, Readies, Supplied, Supplies, Zeroed, key_of, live_outcome, outcome_of, ready_outcome, unavailable_outcome}
 pub use Rattle.vm_supply.specs.declared.woken.Woken.{Woken}
 pub use Rattle.vm_terminate.specs.Finishes.{IsReferred}
 pub use Rattle.vm_waits.proofs.Entries.{none_again, none_queued, puts_cases, puts_elsewhere, puts_here}
@@ -123,17 +124,17 @@ pub use Rattle.vm_state.specs.Counts.{count_by, count_on}
 unfoldable pub use Rattle.vm_state.specs.Counts.{all_tasks}
 pub use Rattle.vm_kernel.specs.Fits.{ArePlain, IsPlainRow, PartsFit}
 pub use Rattle.vm_kernel.specs.Forking.{CanCopy, CanShare, EntersCopy, Shares, entry_on, got}
-pub use Rattle.vm_state.specs.Stands.{AllEntriesInside, AllUsed, EachApart, HasControls, HasEntries, HasFrames, HasHomes, HasLaundry, HasPages, HasRegions, HasTasks, HasUse, IsInside, IsTemporary, IsWashed, is_among}
+pub use Rattle.vm_state.specs.Stands.{AllEntriesInside, AllUsed, AreShared, EachApart, HasControls, HasEntries, HasFrames, HasHomes, HasKinds, HasLaundry, HasPages, HasRegions, HasTasks, HasUse, IsDeclared, IsInside, IsOfKind, IsShared, IsTemporary, IsWashed, is_among}
 pub use Rattle.vm_state.specs.References.{AllReferred, AllReferredBut}
-pub use Rattle.vm_kernel.specs.Matches.{HasOrder, HasWaits, IsPlain, IsSettled, Matches, Rests, Works, first_ids, host_id}
+pub use Rattle.vm_kernel.specs.Matches.{HasOrder, HasWaits, IsPlain, IsRanged, IsSettled, Matches, Rests, Works, first_ids, host_id}
 pub use Rattle.vm_state.specs.Pagers.{has_pager, is_ready_state, last_in, live_in, ready_in}
 pub use Rattle.vm_state.specs.Places.{entries_in_row, has_region, local_of_row, lock_number, pages_in, place_of, region_entries, region_pages, with_entries}
 pub use Rattle.vm_kernel.specs.Plays.{AnswerBrings, DepartsFrom, Does, IsVictim, Marks, Paging, Plays, PlaysAnswer, Still, Then, frame_here, paging, places_with_frame}
 pub use Rattle.vm_kernel.specs.Refusing.{IsForHere, acting_in, code_of, is_marked, object_total, takes_name}
 pub use Rattle.vm_kernel.specs.Serving.{Attempts, FreesOrReturns, HasQueue, IsHere, IsNextAccess, JoinsQueue, QueueIsServed, RunsFirst}
 pub use Rattle.vm_kernel.specs.Sweeping.{EndsObject, EndsRegion, Lowered, PutsEntries, Raised, Sweeps}
-pub use Rattle.vm_kernel.specs.Taking.{EachGone, EndsAll, EndsEach, EndsNobody, FailsNow, HasAsker, HasEnded, HasFailed, IsAnswered, IsErrorPaid, IsTempAnswer}
-pub use Rattle.vm_kernel.specs.Turns.{ClaimsInTurn, Did, ForAsked, ForZeros, Found, Goes, Joins, KeepsOthers, LeavesInTurn, Nothing, QueueAfter, QueueIsStill, Restarted, Restarts, RunsNone, RunsOnce, Start}
+pub use Rattle.vm_kernel.specs.Taking.{EachGone, EndsAll, EndsEach, EndsNobody, FailsNow, HasAsker, HasEnded, HasFailed, IsAbsencePaid, IsAnswered, IsErrorPaid, IsTempAnswer}
+pub use Rattle.vm_kernel.specs.Turns.{ClaimsInTurn, Did, ForAsked, ForZeros, Found, Goes, IsBrought, Joins, KeepsOthers, LeavesInTurn, Nothing, QueueAfter, QueueIsStill, Restarted, Restarts, RunsNobody, RunsNone, RunsNoneYet, RunsOnce, Start}
 pub use Rattle.vm_state.specs.Waiters.{Asker, BeganInOrder, HasWaiters, IsAsked, IsPagerTold, IsPlaceOf, LeadsTo, Reason, access_in, is_woken, waiting_in}
 pub use Rattle.vm_fault.specs.Walks.{IsAt, IsUnder}
 pub use Rattle.vm_kernel.specs.declared.parts.Parts.{Parts}

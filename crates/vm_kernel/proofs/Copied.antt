@@ -1,6 +1,6 @@
 -- How many entries a fork copies, and how many regions it marks, counted one after another.
-use Rattle.vm_kernel.proofs.Common.{Bool, Entry, List, Some, [], ap, arith, copies, copies_from, drop, false, is_copied, length, new_marks, refl, suc, true, zero, ℕ, ◌&&◌, ◌+◌, ◌==◌, ◌||◌, ◌∙◌, ◌∷◌, ◌≡◌, ◌≤◌}
-use Rattle.std.proofs.Common.{if◌then◌else◌, not, slice_get}
+use Rattle.vm_kernel.proofs.Common.{Bool, Entry, List, Some, [], meets_declared, meets_range, ap, arith, copies, copies_from, drop, false, is_copied, length, new_marks, refl, suc, true, zero, ℕ, ◌&&◌, ◌+◌, ◌==◌, ◌||◌, ◌∙◌, ◌∷◌, ◌≡◌, ◌≤◌}
+use Rattle.std.proofs.Common.{if◌then◌else◌, nat_lt, not, slice_get}
 use Rattle.vm_kernel.proofs.Recounts.{next_row}
 
 pub drop_past : (rows : List Entry) (i : ℕ) → length rows ≤ i → drop i rows ≡ []
@@ -46,3 +46,12 @@ marks_few marked (row ∷ rows) = more (is_copied row.inherit) (not (copies_from
     more true true n m le = omega (arith, le)
     more true false n m le = omega (arith, le)
     more false marks n m le = le
+
+-- whether one of the entries is on a declared object and in a range, one after another
+
+pub meets_one : (rows : List Entry) (i declared address bytes : ℕ) (row : Entry) → slice_get rows i ≡ Some row → (nat_lt row.region.0 declared && meets_range address bytes (row ∷ [])) ≡ true → meets_declared declared address bytes (drop i rows) ≡ true
+meets_one rows i declared address bytes row found is = ap (meets_declared declared address bytes) (next_row rows i row found) ∙ ap (λ b. b || meets_declared declared address bytes (drop (i + 1) rows)) is
+
+pub meets_other : (rows : List Entry) (i declared address bytes : ℕ) (row : Entry) → slice_get rows i ≡ Some row → (nat_lt row.region.0 declared && meets_range address bytes (row ∷ [])) ≡ false
+    → meets_declared declared address bytes (drop i rows) ≡ meets_declared declared address bytes (drop (i + 1) rows)
+meets_other rows i declared address bytes row found is = ap (meets_declared declared address bytes) (next_row rows i row found) ∙ ap (λ b. b || meets_declared declared address bytes (drop (i + 1) rows)) is

@@ -1,5 +1,5 @@
 -- A task gets an entry on a symmetric copy of a region.
-use Rattle.vm_kernel.proofs.Common.{Access, AllReferred, AllRows, AllUsed, ArePlain, Bool, ChainTable, ChangesOnly, Code, Command, Enters, Entry, Event, Fit, HasControls, HasEntries, HasRegions, HasWaiters, Header, HostParts, Ids, Inside, IsAllowed, IsInside, IsPlain, List, Mapped, None, ObjectRow, ObjectTable, Option, Outside, Parts, Place, PutsEntries, PutsObject, Ran, RegionRow, ResidentTable, Rests, Some, Starts, TaskId, Temp, Waiting, [], all_tasks, allows, ap, arith, backing_of, code_of, code_where, count_again, count_by, count_on, entered, entering, entries_in, entries_of, entry, entry_at, eqb_tells, false, fit_objects, found_row, got, has_entry, has_region, head, holds, home_entered, home_of, home_stays, homes_next, host_of, if◌then◌else◌, in_use, inl, inr, is_none, is_on, is_range, is_ready, is_some, last_control, last_in, length, length_entered, live_control, live_in, lives_on, local_of_row, marked_below, marked_regions, meets_range, most_entries, named, nat_le, nat_tests, next_object, next_region, object_at, one_case, page_at, page_below, pages_in, pages_of_row, place_at, ready_in, refl, refusal, region_at, region_entries, region_of, region_pages, row_at, rows_entered, rows_in, rows_map, same_pages, some_is, subst, suc, sym, tasks, true, waiting, waiting_in, whole_entry, zero, ℕ, ◌%◌, ◌&&◌, ◌++◌, ◌+◌, ◌-◌, ◌/◌, ◌<◌, ◌==◌, ◌^◌, ◌||◌, ◌∙◌, ◌∷◌, ◌≡◌, ◌≤◌, ◌⊎◌}
+use Rattle.vm_kernel.proofs.Common.{Access, AllReferred, AllRows, AllUsed, ArePlain, Backing, Bool, ChainTable, ChangesOnly, Command, Enters, Entry, Event, Fit, HasEntries, HasKinds, HasRegions, HasWaiters, Header, HostParts, Ids, Inside, IsAllowed, IsInside, List, Mapped, None, ObjectRow, ObjectTable, Option, Outside, Parts, Place, PutsEntries, PutsObject, Ran, Region, RegionRow, ResidentTable, Rests, SameMarks, Some, Starts, TaskId, Waiting, [], all_tasks, allows, ap, arith, code_where, count_again, count_by, count_on, entered, entering, entries_in, entries_of, entry, entry_at, eqb_tells, false, fit_objects, found_row, got, has_entry, head, holds, home_entered, home_of, home_stays, homes_next, host_of, if◌then◌else◌, in_use, inl, inr, is_none, is_on, is_range, is_ready, is_some, last_control, length, length_entered, live_control, lives_on, local_of_row, marked_regions, meets_range, most_entries, named, nat_le, nat_tests, next_object, next_region, object_at, one_case, page_at, page_below, pages_in, pages_of_row, place_at, refl, region_at, region_entries, region_of, region_pages, row_at, rows_entered, rows_in, rows_map, same_pages, some_is, subst, suc, sym, tasks, true, waiting, waiting_in, whole_entry, zero, ℕ, ◌%◌, ◌&&◌, ◌++◌, ◌+◌, ◌-◌, ◌/◌, ◌<◌, ◌==◌, ◌^◌, ◌||◌, ◌∙◌, ◌∷◌, ◌≡◌, ◌≤◌, ◌⊎◌}
 use Rattle.std.proofs.Common.{nat_lt, not}
 use Rattle.std.specs.Prelude.{IsSome}
 use Rattle.vm_base.specs.declared.code.Code.TheVariants as code
@@ -7,7 +7,6 @@ use Rattle.vm_base.specs.declared.ids.RegionId.{RegionId}
 use Rattle.vm_base.specs.Limits.{most_objects, most_pages, most_regions}
 use Rattle.vm_base.specs.declared.ids.Access.TheVariants as need
 use Rattle.vm_maps.specs.Judge.{judged}
-use Rattle.vm_model.specs.Named.{declared}
 use Rattle.vm_model.specs.Rows.{div_grows, div_sum}
 use Rattle.vm_model.specs.declared.command.Command.TheVariants as command
 use Rattle.vm_model.specs.declared.event.Event.TheVariants as event
@@ -23,43 +22,31 @@ use Rattle.vm_state.proofs.Waited.{KeepsPlaces, waits_changed, told_changed}
 use Rattle.vm_state.specs.Places.{with_entries}
 use Rattle.vm_state.specs.References.{is_backing, is_over, tally}
 use Rattle.vm_kernel.specs.Forking.{CanCopy, EntersCopy, entry_on}
-use Rattle.vm_abroad.proofs.Home.{object_stays}
+use Rattle.vm_abroad.proofs.Home.{named_regions, object_stays}
 use Rattle.vm_legal.specs.Accesses.{At}
 use Rattle.vm_legal.specs.Follows.{copy_head}
 use Rattle.vm_legal.specs.Licences as cause
-use Rattle.vm_legal.specs.Outside.{is_wild_kind, kind_in, kind_of}
+use Rattle.vm_legal.specs.Outside.{is_file}
 use Rattle.vm_legal.specs.Refusal as refusing
 use Rattle.vm_legal.specs.Refusal.{is_uncopied}
-use Rattle.vm_state.proofs.Referring.{row_of, small_region}
+use Rattle.vm_state.proofs.Declared.{kind_cases, kind_referred, kinds_put}
+use Rattle.vm_state.proofs.Referring.{refers_region, row_of, small_region}
 use Rattle.vm_state.proofs.Told.{waits_referred}
 use Rattle.vm_supply.specs.declared.woken.Woken.TheVariants as woken
-use Rattle.vm_kernel.proofs.Counts.{by_none, on_entered}
+use Rattle.vm_kernel.proofs.Counts.{by_none, none_on, on_entered, one_on}
 use Rattle.vm_kernel.proofs.Growing.{licensed, suffices}
 use Rattle.vm_kernel.proofs.Heads.{Heads, IsOne, passed, ran_head}
 use Rattle.vm_kernel.proofs.Mine.{mine_of, own_task}
-use Rattle.vm_kernel.proofs.Own.{lives_here, lives_in, on_is, own_host, rows_here}
-use Rattle.vm_kernel.specs.Refusing.{is_copy_full, is_marked, source_code}
+use Rattle.vm_kernel.proofs.Own.{lives_here, lives_in, rows_here}
 use Rattle.vm_kernel.proofs.Recounts.{recounts_put}
-use Rattle.vm_kernel.proofs.Regions.{region_row}
+use Rattle.vm_kernel.proofs.Regions.{apart_there, none_leads, region_row}
 use Rattle.vm_kernel.proofs.Tasks.{Keeps, entries_changed, inside_kept, tasks_entered}
-use Rattle.vm_kernel.proofs.Uses.{holds_rows, unfilled, uses_entered}
-
--- how many regions are marked, where the marks of all are the same
-pub marked_as : (header : Header) (n : ℕ) (past past2 : List Event) → ((r : ℕ) → (region_of header r past2).mark ≡ (region_of header r past).mark) → marked_below header n past2 ≡ marked_below header n past
-marked_as header zero past past2 same = refl
-marked_as header (suc n) past past2 same =
-    ap (λ b. if b then marked_below header n past2 + 1 else marked_below header n past2) (same n)
-    ∙ ap (λ z. if (region_of header n past).mark then z + 1 else z) (marked_as header n past past2 same)
-
--- an entry marks none
-pub marked_entered : (header : Header) (task : TaskId) (row : Entry) (past : List Event) → marked_regions header (got task row ∷ past) ≡ marked_regions header past
-marked_entered header task row past = marked_as header (next_region header past) past (got task row ∷ past) (λ r. refl)
-
-pub regions_entered : (header : Header) (task : TaskId) (row : Entry) (past : List Event) (cs : ChainTable) (os : ObjectTable) (ids : Ids)
-    → HasRegions cs os ids (λ r. region_of header r past) (λ o. backing_of header o past) (next_region header past) (next_object header past) (marked_regions header past)
-    → HasRegions cs os ids (λ r. region_of header r (got task row ∷ past)) (λ o. backing_of header o (got task row ∷ past)) (next_region header (got task row ∷ past)) (next_object header (got task row ∷ past)) (marked_regions header (got task row ∷ past))
-regions_entered header task row past cs os ids has =
-    subst (λ (z : ℕ). HasRegions cs os ids (λ r. region_of header r past) (λ o. backing_of header o past) (next_region header past) (next_object header past) z) (sym (marked_entered header task row past)) has
+use Rattle.vm_kernel.proofs.Sharing.{shared_entered, temporary_shared}
+use Rattle.vm_kernel.proofs.Uses.{holds_rows, paged_temporary, unfilled, uses_entered}
+use Rattle.vm_kernel.proofs.After.{controls_stay, regions_behind}
+use Rattle.vm_kernel.proofs.Rewrites.{lives_below}
+use Rattle.vm_kernel.proofs.Strands.{controls_referred}
+use Rattle.std.proofs.lemmas.Bool.{and_parts, not-false, or_parts}
 
 -- regions that count other entries
 
@@ -131,9 +118,6 @@ row_now source copy offset pages region old mid new c r row found = elim (eqb_te
 ]
 
 -- the regions that were there stay
-apart_there : (chains : ChainTable) (n r : ℕ) → region_at chains n ≡ None → has_region chains r ≡ true → n ≡ r → ⊥
-apart_there chains n r none there same = let bad : false ≡ true = sym (ap is_some none) ∙ (ap (has_region chains) same ∙ there) in cc
-
 keeps_copy : (source copy offset pages : ℕ) (region : RegionRow) (old mid new : ChainTable) → CopiesOnce source copy offset pages region old mid new → Keeps old new
 keeps_copy source copy offset pages region old mid new c =
     record {
@@ -158,20 +142,6 @@ used_copy source copy offset pages region old mid new c used r row found = by (r
     by (OfCopy same is) = let one = ap (λ z. z.entries) is in omega (arith, one)
     by (OfSource same is) = let count = ap (λ z. z.entries) is in let some = used source region c.there in omega (arith, count, some)
     by (OfOther apart was) = used r row was
-
--- nothing leads to a region that isn't there
-none_leads : (size : ℕ) (chains : ChainTable) (n : ℕ) (rows : List Entry) → region_at chains n ≡ None → AllRows (IsInside size chains) rows → has_entry n rows ≡ false
-none_leads size chains n [] none all = refl
-none_leads size chains n (row ∷ rows) none all = elim (eqb_tells row.region.0 n) [
-  | inl same ↦ absurd (apart_there chains n row.region.0 none all.0.region (sym same.1))
-  | inr apart ↦ rw apart.0 (none_leads size chains n rows none all.1)
-]
-
-pub one_on : (n r : ℕ) → n ≡ r → ◌≡◌ {A = ℕ} (if n == r then 1 else 0) 1
-one_on n r same = elim (eqb_tells n r) [ inl is ↦ ap (λ b. if b then 1 else 0) is.0 | inr apart ↦ absurd (apart.1 same) ]
-
-pub none_on : (n r : ℕ) → (n ≡ r → ⊥) → ◌≡◌ {A = ℕ} (if n == r then 1 else 0) 0
-none_on n r apart = elim (eqb_tells n r) [ inl is ↦ absurd (apart is.1) | inr other ↦ ap (λ b. if b then 1 else 0) other.0 ]
 
 -- an entry that holds an address
 pub entry_within : (address : ℕ) (rows : List Entry) (row : Entry) → entry_at address rows ≡ Some row → (row.address ≤ address) × (address < row.address + row.bytes)
@@ -227,44 +197,6 @@ entries_copy size maps new source offset region cs mid cs2 task copy row has c c
         omega (arith, count, was, other, on_entered r (entry_on row copy) (rows_in task maps))
     by r now (OfOther apart found) = omega (arith, has.counts r now found, none_on copy.0 r apart, on_entered r (entry_on row copy) (rows_in task maps))
 
--- an object has another number of references
-
-record Referred (row : ObjectRow) (before : Option ObjectRow) : Type 0 where
-  left : ℕ
-  was : ObjectRow
-  found : before ≡ Some was
-  is : row ≡ record was { references = left }
-
-referred_at : (r left : ℕ) (was : ObjectRow) (os os2 : ObjectTable) → object_at os r ≡ Some was → PutsObject r (Some (record was { references = left })) os os2 → (o : ℕ) (row : ObjectRow) → object_at os2 o ≡ Some row → Referred row (object_at os o)
-referred_at r left was os os2 found put o row is = elim (one_case r o (Some (record was { references = left })) (object_at os o) (object_at os2 o) (put.at o)) [
-  | inl this ↦ record { left = left; was = was; found = subst (λ (z : ℕ). object_at os z ≡ Some was) this.0 found; is = some_is row (record was { references = left }) (sym is ∙ this.1) }
-  | inr other ↦ record { left = row.references; was = row; found = sym other.1 ∙ is; is = refl }
-]
-
-same_but : {A : Type 0} (f : Option ObjectRow → A) → ((row : ObjectRow) (n : ℕ) → f (Some (record row { references = n })) ≡ f (Some row)) → (r left : ℕ) (was : ObjectRow) (os os2 : ObjectTable)
-    → object_at os r ≡ Some was → PutsObject r (Some (record was { references = left })) os os2 → (o : ℕ) → f (object_at os o) ≡ f (object_at os2 o)
-same_but f same r left was os os2 found put o = elim (one_case r o (Some (record was { references = left })) (object_at os o) (object_at os2 o) (put.at o)) [
-  | inl this ↦ ap f (subst (λ (z : ℕ). object_at os z ≡ Some was) this.0 found) ∙ (sym (same was left) ∙ sym (ap f this.1))
-  | inr other ↦ sym (ap f other.1)
-]
-
--- its controls are what they were, and objects that have a home keep it
-pub controls_counted : {h : ℕ} {home_at home2 : ℕ → Option ℕ} (r left : ℕ) (was : ObjectRow) (os os2 : ObjectTable) (last_at : ℕ → ℕ) (live_at : ℕ → Option ℕ) (ready_at : ℕ → Bool) → object_at os r ≡ Some was → PutsObject r (Some (record was { references = left })) os os2
-    → ((o : ℕ) → home_at o ≡ Some h → home2 o ≡ Some h) → HasControls h os last_at live_at ready_at home_at → HasControls h os2 last_at live_at ready_at home2
-controls_counted r left was os os2 last_at live_at ready_at found put stay has =
-    record {
-      last = λ o. has.last o ∙ same_but last_in (λ row n. refl) r left was os os2 found put o;
-      live = λ o. has.live o ∙ same_but live_in (λ row n. refl) r left was os os2 found put o;
-      ready = λ o control is. has.ready o control is ∙ same_but ready_in (λ row n. refl) r left was os os2 found put o;
-      all_live = record { at = λ o row is told. let b = before o row is in ap (λ z. z.live) b.is ∙ has.all_live.at o b.was b.found (λ none. told (ap (λ z. z.state) b.is ∙ none)) };
-      numbers = record { at = λ o row is. let b = before o row is in subst (λ (z : ℕ). z < 2 ^ 32 - 1) (sym (ap (λ z. z.control) b.is)) (has.numbers.at o b.was b.found) };
-      home = λ o row is. let b = before o row is in stay o (has.home o b.was b.found);
-      ended = λ o row is live none. let b = before o row is in has.ended o b.was b.found (sym (ap (λ z. z.live) b.is) ∙ live) (sym (ap (λ z. z.state) b.is) ∙ none);
-    }
-  where
-    before : (o : ℕ) (row : ObjectRow) → object_at os2 o ≡ Some row → Referred row (object_at os o)
-    before o row is = referred_at r left was os os2 found put o row is
-
 -- the pages of the region are among those of an entry
 pub record IsFrom (header : Header) (source offset pages : ℕ) (past : List Event) : Type 0 where
   pub task : ℕ
@@ -282,6 +214,7 @@ pub record MayCopy (header : Header) (task : ℕ) (source : RegionId) (offset : 
   pub pages : row.bytes / header.size < 2 ^ 32
   pub region : RegionRow
   pub there : region_at k.chains source.0 ≡ Some region
+  pub temporary : named header ≤ source.0
   pub inside : offset + row.bytes / header.size ≤ region.pages
   pub regions : next_region header past + 1 ≤ most_regions
   pub objects : next_object header past + (marked_regions header past + (if (region_of header source.0 past).mark then 1 else 2)) ≤ most_objects
@@ -358,20 +291,29 @@ others_use header h copy source offset pages past r apart = elim (eqb_tells r co
 copy_pages : (header : Header) (copy source : RegionId) (offset pages : ℕ) (past : List Event) → (region_of header copy.0 (copied copy source offset pages ∷ past)).pages ≡ pages
 copy_pages header copy source offset pages past = elim (eqb_tells copy.0 copy.0) [ inl same ↦ ap (λ (b : Bool). if b then pages else (region_of header copy.0 past).pages) same.0 | inr apart ↦ absurd (apart.1 refl) ]
 
+-- a declared region of one host is a file's
+file_of : (header : Header) (r : ℕ) → r < named header → cause.is_paged header r ≡ true → is_file header r ≡ true
+file_of header r declared paged = let test : nat_lt r (named header) ≡ true = grind (arith, nat_tests) in sym (ap (λ b. not b || is_file header r) test) ∙ paged
+
 some_use : (n : ℕ) → 0 < n → nat_lt 0 n ≡ true
 some_use n some = grind (arith, nat_tests)
 
--- a region that is there is in use
-pub used_there : (header : Header) (h : ℕ) (k : Parts) (ids : Ids) (past : List Event) (r : ℕ) (row : RegionRow) → Rests header h k ids past → region_at k.chains r ≡ Some row → in_use header h r past ≡ true
-used_there header h k ids past r row rests there =
-    rests.matches.uses.used r ∙ some_use (count_by all_tasks r k.maps) (let counts = rests.matches.entries.counts r row there in let some = rests.used r row there in omega (arith, counts, some))
+-- a region that is there is in use, if it is temporary or a file's
+pub used_there : (header : Header) (h : ℕ) (k : Parts) (ids : Ids) (past : List Event) (r : ℕ) (row : RegionRow) → Rests header h k ids past → region_at k.chains r ≡ Some row → cause.is_paged header r ≡ true → in_use header h r past ≡ true
+used_there header h k ids past r row rests there paged =
+    let m = rests.matches in
+    let some : 0 < count_by all_tasks r k.maps = let counts = m.entries.counts r row there in let used = rests.used r row there in omega (arith, counts, used) in
+    elim (kind_cases header r) [
+      | inl declared ↦ m.uses.files r (file_of header r declared paged) some
+      | inr temporary ↦ m.uses.used r temporary ∙ some_use (count_by all_tasks r k.maps) some
+    ]
 
 -- the entry on the copy has its cause
 pub copy_enters : (header : Header) (h : ℕ) (task : TaskId) (copy source : RegionId) (offset : ℕ) (row : Entry) (past : List Event) (k : Parts) (ids : Ids) → Rests header h k ids past → MayCopy header task.0 source offset row past k → copy.0 ≡ next_region header past
     → Enters header task.0 row.bytes copy.0 0 (copied copy source offset (row.bytes / header.size) ∷ past)
 copy_enters header h task copy source offset row past k ids rests may number =
     let m = rests.matches in
-    let used : in_use header h copy.0 (copied copy source offset (row.bytes / header.size) ∷ past) ≡ true = copy_use header h copy source offset (row.bytes / header.size) past ∙ used_there header h k ids past source.0 may.region rests may.there in
+    let used : in_use header h copy.0 (copied copy source offset (row.bytes / header.size) ∷ past) ≡ true = copy_use header h copy source offset (row.bytes / header.size) past ∙ used_there header h k ids past source.0 may.region rests may.there (paged_temporary header source.0 may.temporary) in
     record {
       idle = may.idle;
       host = h;
@@ -385,19 +327,9 @@ copy_enters header h task copy source offset row past k ids rests may number =
     }
 
 -- the copy has its cause
-pub copy_cause : (header : Header) (copy source : RegionId) (offset pages : ℕ) (past : List Event) → IsPlain header → IsFrom header source.0 offset pages past → copy.0 ≡ next_region header past → cause.CopiesRegion header copy.0 source.0 offset pages past
-copy_cause header copy source offset pages past plain from number =
-    let none : named header ≡ 0 = ap length plain.objects in
-    record { next = number; temporary = omega (arith, none); task = from.task; address = from.address; at = from.at; source_is = from.source_is; inside = from.inside }
-
-pub task_below : (size task : ℕ) (maps : Mapped) (cs : ChainTable) (lost : List Entry) → HasEntries size maps cs lost → entries_in task maps ≡ Some (rows_in task maps) → task < all_tasks
-task_below size task maps cs lost has lives = by (nat_lt task all_tasks) refl
-  where
-    by : (b : Bool) → nat_lt task all_tasks ≡ b → task < all_tasks
-    by true less = grind (arith, nat_tests)
-    by false less =
-        let le : all_tasks ≤ task = grind (arith, nat_tests) in
-        absurd (let bad : None ≡ Some (rows_in task maps) = sym (has.most task le) ∙ lives in cc)
+pub copy_cause : (header : Header) (copy source : RegionId) (offset pages : ℕ) (past : List Event) → named header ≤ source.0 → IsFrom header source.0 offset pages past → copy.0 ≡ next_region header past → cause.CopiesRegion header copy.0 source.0 offset pages past
+copy_cause header copy source offset pages past temporary from number =
+    record { next = number; temporary = temporary; task = from.task; address = from.address; at = from.at; source_is = from.source_is; inside = from.inside }
 
 -- who doesn't wait in the history has no row
 pub no_row : (x : Option Waiting) (w : Option Access) → w ≡ waiting_in x → w ≡ None → x ≡ None
@@ -412,6 +344,29 @@ use_before header h copy source offset pages past r number (inl used) = elim (eq
   | inr apart ↦ inl (sym (others_use header h copy source offset pages past r apart.1) ∙ used)
 ]
 use_before header h copy source offset pages past r number (inr high) = inr (omega (arith, high))
+
+-- the source's top is referred to
+referred_source : {chains : ChainTable} {objects : ObjectTable} {ids : Ids} {region_from : ℕ → Region} {backing_from : ℕ → Backing} {regions_made objects_made marked : ℕ} → HasRegions chains objects ids region_from backing_from regions_made objects_made marked
+    → (r : ℕ) (row : RegionRow) (known : ObjectRow) → region_at chains r ≡ Some row → object_at objects row.top.0 ≡ Some known → 0 < known.references
+referred_source has r row known there found = let is = refers_region has r row there in subst (λ (z : ObjectRow). 0 < z.references) (some_is is.row known (sym is.known ∙ found)) is.some
+
+-- the copy of a temporary region is over what that is over
+kinds_copied : (header : Header) (source copy offset pages : ℕ) (region : RegionRow) (known : ObjectRow) (cs mid cs2 : ChainTable) (os os2 : ObjectTable) → CopiesOnce source copy offset pages region cs mid cs2 → named header ≤ source → 0 < known.references
+    → object_at os region.top.0 ≡ Some known → PutsObject region.top.0 (Some (record known { references = known.references + 1 })) os os2 → SameMarks os os2 → HasKinds header os cs → HasKinds header os2 cs2
+kinds_copied header source copy offset pages region known cs mid cs2 os os2 once temporary some found put marks has =
+    let now = kinds_put header region.top.0 (record known { references = known.references + 1 }) os os2 cs put marks (kind_referred header region.top.0 known (known.references + 1) some (has.kinds region.top.0 known found)) has in
+    let top : named header ≤ region.top.0 = has.tops source region temporary once.there in
+    record {
+      kinds = now.kinds;
+      present = now.present;
+      tops = λ r row least there. by_row top r row least (row_now source copy offset pages region cs mid cs2 once r row there);
+      unders = λ o row there. has.unders o row (sym (ap (λ f. f o) once.copies.shadows) ∙ (sym (ap (λ f. f o) once.counts.shadows) ∙ there));
+    }
+  where
+    by_row : named header ≤ region.top.0 → (r : ℕ) (row : RegionRow) → named header ≤ r → RowNow source copy offset pages region cs r row → named header ≤ row.top.0
+    by_row top r row least (OfCopy same is) = subst (λ (z : RegionRow). named header ≤ z.top.0) (sym is) top
+    by_row top r row least (OfSource same is) = subst (λ (z : RegionRow). named header ≤ z.top.0) (sym is) top
+    by_row top r row least (OfOther apart was) = has.tops r row least was
 
 -- the kernel behind a copy and its entry
 pub rests_copied : (header : Header) (h : ℕ) (outside : Outside) (doing : Command) (task : TaskId) (source : RegionId) (offset : ℕ) (row : Entry) (past : List Event) (k k2 : Parts) (ids ids2 : Ids) (before after : List Event) → Rests header h k ids past
@@ -430,7 +385,7 @@ rests_copied header h outside doing task source offset row past k k2 ids ids2 be
     let once : CopiesOnce source.0 s.copy.0 offset pages s.region k.chains s.mid k2.chains = record { free = m.regions.unmade s.copy.0 (omega (arith, number)); there = s.there; copies = copies; counts = s.counts } in
     let free : IsFree size row (rows_in task.0 k.maps) = subst (λ (z : ℕ). IsFree z row (rows_in task.0 k.maps)) m.tasks.sized (free_of k.maps.size row (rows_in task.0 k.maps) may.free) in
     let lives = may.lives in
-    let below = task_below size task.0 k.maps k.chains [] m.entries lives in
+    let below = lives_below size task.0 k.maps k.chains [] m.entries lives in
     let enters = copy_enters header h task s.copy source offset row past k ids rests may number in
     let recount = same_put s.copy.0 1 s.mid k2.chains s.counts in
     let small = small_region m.regions source.0 s.region s.there in
@@ -455,7 +410,10 @@ rests_copied header h outside doing task source offset row past k k2 ids ids2 be
     record {
       matches =
           record {
-            plain = m.plain;
+            ranged = m.ranged;
+            declared = s.declared ∙ m.declared;
+            kinds = kinds_copied header source.0 s.copy.0 offset pages s.region s.known k.chains s.mid k2.chains k.memory.objects k2.memory.objects once may.temporary (referred_source m.regions source.0 s.region s.known s.there s.object) s.object s.refers s.absent m.kinds;
+            shared = shared_entered (named header) task.0 k.maps k2.maps new s.maps (temporary_shared (named header) new (let more = named_regions header past in omega (arith, number, more))) m.shared;
             known = m.known;
             size = s.size ∙ m.size;
             host = rw s.host m.host;
@@ -467,21 +425,22 @@ rests_copied header h outside doing task source offset row past k k2 ids ids2 be
                 };
             tasks = tasks_entered h size k.maps k2.maps (now ∷ past) task new m.tasks s.maps lives;
             regions =
-                regions_entered header task new (now ∷ past) k2.chains k2.memory.objects ids2
+                regions_behind header e (now ∷ past) k2.chains k2.memory.objects ids2 (λ r. refl)
                 (regions_recounted s.mid k2.chains k2.memory.objects ids2 _ _ _ _ _ recount
                 (regions_copied header past s.copy source offset pages s.region s.known k.chains s.mid k.memory.objects k2.memory.objects ids ids2 (next_region header past) (next_object header past) (marked_regions header past) (marked_regions header (now ∷ past)) s.there number within copies s.object s.refers
                 (ap (λ z. z.next_region) s.ids) (ap (λ z. z.next_object) s.ids) marks few m.regions));
-            homes = λ r found_row found. by_row number r found_row (row_now source.0 s.copy.0 offset pages s.region k.chains s.mid k2.chains once r found_row found);
+            homes = λ r found_row paged found. by_row number r found_row paged (row_now source.0 s.copy.0 offset pages s.region k.chains s.mid k2.chains once r found_row found);
             entries = entries_copy size k.maps k2.maps source.0 offset s.region k.chains s.mid k2.chains task.0 s.copy row m.entries once s.maps below free;
             pages = record { shown = λ o p. rw (frames_are, rows_are) (m.pages.shown o p ∙ ap (local_of_row k.memory.frames (row_at k.memory.resident o p)) (sym (s.absent.at o p))) };
-            uses = uses_entered k.maps k2.maps (λ r. in_use header h r (now ∷ past)) (tasks past) (λ t r. holds header.size t r (e ∷ now ∷ past)) (next_region header past + 1) task.0 new (lives_on h task.0 (now ∷ past))
-                (λ r apart. others_use header h s.copy source offset pages past r apart ∙ m.uses.used r)
-                (copy_use header h s.copy source offset pages past ∙ used_there header h k ids past source.0 s.region rests s.there) m.uses.among s.maps lives below
+            uses = uses_entered header k.maps k2.maps (λ r. in_use header h r (now ∷ past)) (tasks past) (λ t r. holds header.size t r (e ∷ now ∷ past)) (next_region header past + 1) task.0 new (lives_on h task.0 (now ∷ past))
+                (λ r temporary apart. others_use header h s.copy source offset pages past r apart ∙ m.uses.used r temporary)
+                (λ r file apart some. others_use header h s.copy source offset pages past r apart ∙ m.uses.files r file some)
+                (λ paged. copy_use header h s.copy source offset pages past ∙ used_there header h k ids past source.0 s.region rests s.there (paged_temporary header source.0 may.temporary)) m.uses.among s.maps lives below
                 (m.tasks.hosts task.0 ∙ ap is_some lives)
                 (λ t r away why. holds_rows header.size task.0 t r k.maps (rows_in task.0 k.maps) _ (now ∷ past) lives away ∙ m.uses.apart t r away (use_before header h s.copy source offset pages past r number why));
-            controls = controls_counted top (s.known.references + 1) s.known k.memory.objects k2.memory.objects (λ o. last_control h o past) (λ o. live_control h o past) (λ o. is_ready h o past) s.object s.refers
-                (λ o home. object_stays o h e (now ∷ past) (object_stays o h now past home)) m.controls;
-            homeless = homes_next header outside e (now ∷ past) (doing, enters) (homes_next header outside now past (doing, copy_cause header s.copy source offset pages past m.plain may.from number) m.homeless);
+            controls = controls_stay (λ o home. object_stays o h e (now ∷ past) (object_stays o h now past home))
+                (controls_referred top (s.known.references + 1) s.known k.memory.objects k2.memory.objects (λ o. last_control h o past) (λ o. live_control h o past) (λ o. is_ready h o past) s.object s.refers m.controls);
+            homeless = homes_next header outside e (now ∷ past) (doing, enters) (homes_next header outside now past (doing, copy_cause header s.copy source offset pages past may.temporary may.from number) m.homeless);
             settled = record { returned = refl; shut = λ region. refl };
             laundry = rw (frames_are, rows_are, s.laundry) m.laundry;
             frames = rw frames_are m.frames;
@@ -493,17 +452,17 @@ rests_copied header h outside doing task source offset row past k k2 ids ids2 be
       idle = ap (λ z. count_again z.rows) s.waits ∙ rests.idle;
     }
   where
-    by_row : s.copy.0 ≡ next_region header past → (r : ℕ) (found_row : RegionRow) → RowNow source.0 s.copy.0 offset (row.bytes / header.size) s.region k.chains r found_row
+    by_row : s.copy.0 ≡ next_region header past → (r : ℕ) (found_row : RegionRow) → cause.is_paged header r ≡ true → RowNow source.0 s.copy.0 offset (row.bytes / header.size) s.region k.chains r found_row
         → home_of r (got task (entry_on row s.copy) ∷ copied s.copy source offset (row.bytes / header.size) ∷ past) ≡ Some h
-    by_row number r found_row (OfCopy same is) =
+    by_row number r found_row paged (OfCopy same is) =
         let m = rests.matches in
         let now : Event = copied s.copy source offset (row.bytes / header.size) in
         subst (λ (z : ℕ). home_of z (got task (entry_on row s.copy) ∷ now ∷ past) ≡ Some h) same
         (home_entered h task row.address row.bytes s.copy 0 row.prot row.inherit (now ∷ past) (m.homeless.regions s.copy.0 (omega (arith, number))) (lives_here m.tasks may.lives))
-    by_row number r found_row (OfSource same is) =
-        home_stays r h (got task (entry_on row s.copy)) (copied s.copy source offset (row.bytes / header.size) ∷ past) (subst (λ (z : ℕ). home_of z past ≡ Some h) same (rests.matches.homes source.0 s.region s.there))
-    by_row number r found_row (OfOther apart was) =
-        home_stays r h (got task (entry_on row s.copy)) (copied s.copy source offset (row.bytes / header.size) ∷ past) (rests.matches.homes r found_row was)
+    by_row number r found_row paged (OfSource same is) =
+        home_stays r h (got task (entry_on row s.copy)) (copied s.copy source offset (row.bytes / header.size) ∷ past) (subst (λ (z : ℕ). home_of z past ≡ Some h) same (rests.matches.homes source.0 s.region (paged_temporary header source.0 may.temporary) s.there))
+    by_row number r found_row paged (OfOther apart was) =
+        home_stays r h (got task (entry_on row s.copy)) (copied s.copy source offset (row.bytes / header.size) ∷ past) (rests.matches.homes r found_row paged was)
 
 -- the head of a command with an event more
 pub heads_more : (header : Header) (h : ℕ) (outside : Outside) (doing : Command) (past events : List Event) (e : Event) → Heads header h outside doing past events → IsOne header h outside doing (events ++ past) e → Heads header h outside doing past (e ∷ events)
@@ -523,18 +482,17 @@ pub heads_copied : (header : Header) (h : ℕ) (outside : Outside) (doing : Comm
 heads_copied header h outside doing task copy source offset row past events k ids rests may number heads =
     let m = rests.matches in
     let now : Event = copied copy source offset (row.bytes / header.size) in
-    let none : named header ≡ 0 = ap length m.plain.objects in
     let fine = suffices header h k.memory.frames (events ++ past) m.frames in
     heads_more header h outside doing past (now ∷ events) (got task (entry_on row copy))
     (heads_more header h outside doing past events now heads
     (record {
       settled = m.settled;
-      cause = copy_cause header copy source offset (row.bytes / header.size) (events ++ past) m.plain may.from number;
+      cause = copy_cause header copy source offset (row.bytes / header.size) (events ++ past) may.temporary may.from number;
       own_bytes = tt;
       frames = fine;
       inner = tt;
       said = tt;
-      own = λ g used. m.homeless.stay g h source.0 (omega (arith, none)) used (m.homes source.0 may.region may.there);
+      own = λ g used. m.homeless.stay g h source.0 used (m.homes source.0 may.region (paged_temporary header source.0 may.temporary) may.there);
       creates = tt;
     }))
     (record {
@@ -555,37 +513,22 @@ told_copied header h task source offset row past k k2 ids ids2 before after rest
 
 -- The copy of a range that isn't refused.
 
--- no object is declared
+-- a copy costs an object, and one for its source where that can get a mark
+pub is_full_copy : (header : Header) (source : ℕ) (past : List Event) (a b : Bool) → nat_lt source (named header) ≡ a → (region_of header source past).mark ≡ b
+    → refusing.is_copy_full header source past ≡ (nat_le most_regions (next_region header past) || nat_lt most_objects (next_object header past + marked_regions header past + (if a || b then 1 else 2)))
+is_full_copy header source past true b declared mark = rw declared refl
+is_full_copy header source past false true declared mark = rw (declared, mark) refl
+is_full_copy header source past false false declared mark = rw (declared, mark) refl
 
-none_named : (header : Header) (r : ℕ) → IsPlain header → nat_lt r (named header) ≡ false
-none_named header r plain = let none : named header ≡ 0 = ap length plain.objects in grind (arith, nat_tests)
+-- a copy that is run is of a temporary region
 
-temporary_kind : (header : Header) (r : ℕ) → IsPlain header → kind_of header r ≡ Temp
-temporary_kind header r plain = ap (λ b. if b then kind_in (declared header r) else Temp) (none_named header r plain)
+some_head : (b : Bool) (first : List Event) → IsSome (if b then None else Some first) → b ≡ false
+some_head true first is = absurd (let bad : false ≡ true = is in cc)
+some_head false first is = refl
 
-none_uncopied : (header : Header) (own : Bool) (x : Option Entry) → IsPlain header → is_uncopied header own x ≡ false
-none_uncopied header own None plain = refl
-none_uncopied header own (Some row) plain =
-    ap (λ z. is_wild_kind z || (nat_lt row.region.0 (named header) && not own)) (temporary_kind header row.region.0 plain) ∙ ap (λ b. b && not own) (none_named header row.region.0 plain)
-
--- the copy costs its mark, and one for its source where that had none
-is_full_copy : (header : Header) (source : ℕ) (past : List Event) (b : Bool) → IsPlain header → (region_of header source past).mark ≡ b
-    → refusing.is_copy_full header source past ≡ (nat_le most_regions (next_region header past) || nat_lt most_objects (next_object header past + marked_regions header past + (if b then 1 else 2)))
-is_full_copy header source past true plain mark = rw (none_named header source plain, mark) refl
-is_full_copy header source past false plain mark = rw (none_named header source plain, mark) refl
-
-either_none : (a b : Bool) → (a || b) ≡ false → (a ≡ false) × (b ≡ false)
-either_none true b e = absurd (let bad : true ≡ false = e in cc)
-either_none false b e = (refl, e)
-
-both_true : (a b : Bool) → not (a && b) ≡ false → (a ≡ true) × (b ≡ true)
-both_true true true e = (refl, refl)
-both_true true false e = absurd (let bad : true ≡ false = e in cc)
-both_true false b e = absurd (let bad : true ≡ false = e in cc)
-
-is_not : (b : Bool) → not b ≡ false → b ≡ true
-is_not true e = refl
-is_not false e = absurd (let bad : true ≡ false = e in cc)
+temporary_source : (count size next address bytes : ℕ) (target : TaskId) (to : ℕ) (x : Option Entry) (row : Entry) → x ≡ Some row → IsSome (copy_head count size next address bytes target to x) → nat_lt row.region.0 count ≡ false
+temporary_source count size next address bytes target to x row is built =
+    some_head (nat_lt row.region.0 count) _ (subst (λ (z : Option Entry). IsSome (copy_head count size next address bytes target to z)) is built)
 
 -- the numbers of a range
 
@@ -613,13 +556,13 @@ source_of header address bytes target to past (Some entry) fine =
     let two = passed (not (allows need.Load entry.prot)) code.ProtectionFailure next one.1 in
     let three = passed (meets_range to bytes rows) code.NoSpace last two.1 in
     let four = passed (nat_lt most_entries (length rows + 1) || refusing.is_copy_full header entry.region.0 past) code.TableFull None three.1 in
-    let both = either_none (nat_lt most_entries (length rows + 1)) (refusing.is_copy_full header entry.region.0 past) four.0 in
+    let both = or_parts (nat_lt most_entries (length rows + 1)) (refusing.is_copy_full header entry.region.0 past) four.0 in
     let behind = one.0 in
     record {
       entry = entry;
       is = refl;
       ends = grind (arith, nat_tests);
-      allowed = is_not (allows need.Load entry.prot) two.0;
+      allowed = not-false (allows need.Load entry.prot) two.0;
       free = three.0;
       few = both.0;
       full = both.1;
@@ -647,13 +590,13 @@ may_place header h task address bytes target to past k ids events s =
     let one = passed (is_none (host_of task.0 past) || is_none (host_of target.0 past)) code.NoSuchName (code_where waits code.Blocked next) s.accepted in
     let two = passed waits code.Blocked next one.1 in
     let three = passed numbers code.InvalidArgument last two.1 in
-    let tests = either_none (not (is_range size address bytes && is_range size to bytes)) (nat_lt most_pages (bytes / size) || (not (refusing.same_host (host_of task.0 past) (host_of target.0 past)) || is_uncopied header (task.0 == target.0) (entry_at address own))) three.0 in
-    let ranges = both_true (is_range size address bytes) (is_range size to bytes) tests.0 in
-    let sized = either_none (nat_lt most_pages (bytes / size)) (not (refusing.same_host (host_of task.0 past) (host_of target.0 past)) || is_uncopied header (task.0 == target.0) (entry_at address own)) tests.1 in
-    let hosts = either_none (not (refusing.same_host (host_of task.0 past) (host_of target.0 past))) (is_uncopied header (task.0 == target.0) (entry_at address own)) sized.1 in
+    let tests = or_parts (not (is_range size address bytes && is_range size to bytes)) (nat_lt most_pages (bytes / size) || (not (refusing.same_host (host_of task.0 past) (host_of target.0 past)) || is_uncopied header (task.0 == target.0) (entry_at address own))) three.0 in
+    let ranges = and_parts (is_range size address bytes) (is_range size to bytes) (not-false (is_range size address bytes && is_range size to bytes) tests.0) in
+    let sized = or_parts (nat_lt most_pages (bytes / size)) (not (refusing.same_host (host_of task.0 past) (host_of target.0 past)) || is_uncopied header (task.0 == target.0) (entry_at address own)) tests.1 in
+    let hosts = or_parts (not (refusing.same_host (host_of task.0 past) (host_of target.0 past))) (is_uncopied header (task.0 == target.0) (entry_at address own)) sized.1 in
     let source = source_of header address bytes target.0 to past (entry_at address own) three.1 in
     let lives = lives_in task.0 m.tasks s.acts in
-    let home : is_on h (host_of target.0 past) ≡ true = subst (λ (z : Option ℕ). refusing.same_host z (host_of target.0 past) ≡ true) (lives_here m.tasks lives) (is_not (refusing.same_host (host_of task.0 past) (host_of target.0 past)) hosts.0) in
+    let home : is_on h (host_of target.0 past) ≡ true = subst (λ (z : Option ℕ). refusing.same_host z (host_of target.0 past) ≡ true) (lives_here m.tasks lives) (not-false (refusing.same_host (host_of task.0 past) (host_of target.0 past)) hosts.0) in
     let there = lives_in target.0 m.tasks home in
     let entry = source.entry in
     let found : entry_at address (rows_in task.0 k.maps) ≡ Some entry = ap (entry_at address) (sym (rows_here m.tasks lives)) ∙ source.is in
@@ -663,8 +606,9 @@ may_place header h task address bytes target to past k ids events s =
     let pages : region_pages k.chains entry.region.0 ≡ region.0.pages = ap pages_in region.1 in
     let free : meets_range to bytes (rows_in target.0 k.maps) ≡ false = ap (meets_range to bytes) (sym (rows_here m.tasks there)) ∙ source.free in
     let few : nat_lt most_entries (length (rows_in target.0 k.maps) + 1) ≡ false = ap (λ (z : List Entry). nat_lt most_entries (length z + 1)) (sym (rows_here m.tasks there)) ∙ source.few in
-    let full = sym (is_full_copy header entry.region.0 past (region_of header entry.region.0 past).mark m.plain refl) ∙ source.full in
-    let counts = either_none (nat_le most_regions (next_region header past)) (nat_lt most_objects (next_object header past + marked_regions header past + (if (region_of header entry.region.0 past).mark then 1 else 2))) full in
+    let unnamed : nat_lt entry.region.0 (named header) ≡ false = temporary_source (named header) size (next_region header past) address bytes target to (entry_at address own) entry source.is s.built in
+    let full = sym (is_full_copy header entry.region.0 past false (region_of header entry.region.0 past).mark unnamed refl) ∙ source.full in
+    let counts = or_parts (nat_le most_regions (next_region header past)) (nat_lt most_objects (next_object header past + marked_regions header past + (if (region_of header entry.region.0 past).mark then 1 else 2))) full in
     let regions : nat_le most_regions (next_region header past) ≡ false = counts.0 in
     let objects = counts.1 in
     let short : nat_lt most_pages (bytes / size) ≡ false = sized.0 in
@@ -687,6 +631,7 @@ may_place header h task address bytes target to past k ids events s =
             pages = let most : bytes / size ≤ most_pages = grind (arith, nat_tests) in omega (arith, most);
             region = region.0;
             there = region.1;
+            temporary = grind (arith, nat_tests);
             inside = subst (λ (z : ℕ). page_at z address entry + bytes / size ≤ region.0.pages) (sym m.tasks.sized) (omega (arith, within, inside, pages));
             regions = grind (arith, nat_tests);
             objects = few_objects (if (region_of header entry.region.0 past).mark then 1 else 2) objects;
@@ -739,75 +684,10 @@ ran_copy header h outside task address bytes target to past k k2 ids ids2 before
     let same : entry_at address (entries_of header.size task.0 past) ≡ Some p.entry = ap (entry_at address) (rows_here m.tasks p.lives) ∙ p.found in
     let written : head header past doing ≡ Some first =
     ap (copy_head (named header) header.size (next_region header past) address bytes target to) same
-    ∙ (ap (λ b. if b then None else Some (copied (record { 0 = next_region header past }) source (page_at header.size address p.entry) (bytes / header.size) ∷ got target (entry_on row (record { 0 = next_region header past })) ∷ [])) (none_named header source.0 m.plain)
+    ∙ (ap (λ b. if b then None else Some (copied (record { 0 = next_region header past }) source (page_at header.size address p.entry) (bytes / header.size) ∷ got target (entry_on row (record { 0 = next_region header past })) ∷ [])) (let least = p.may.temporary in let unnamed : nat_lt source.0 (named header) ≡ false = grind (arith, nat_tests) in unnamed)
     ∙ (ap (λ (z : ℕ). Some (copied (record { 0 = next_region header past }) source (page_at z address p.entry) (bytes / header.size) ∷ got target (entry_on row (record { 0 = next_region header past })) ∷ [])) (sym m.tasks.sized)
     ∙ ap (λ (z : RegionId). Some (copied z source page (bytes / header.size) ∷ got target (entry_on row z) ∷ [])) (sym named_copy))) in
     subst (λ (z : List Event). Ran header h outside doing past k2 ids2 z) (sym told)
     (ran_head header h outside doing past k2 ids2 events first written refl
     (heads_copied header h outside doing target c.copy source page row past [] k ids s.rests p.may number (record { licensed = tt; own_bytes = tt; frames = tt; inner = tt; said = tt; mine = tt })) tt
     (rests_copied header h outside doing target source page row past k k2 ids ids2 before after s.rests p.may c))
-
--- The refusal of a copy is that of its history.
-
--- a list of tests with two in one
-code_both : (a b : Bool) (why : Code) (later : Option Code) → code_where (a || b) why later ≡ code_where a why (code_where b why later)
-code_both true b why later = refl
-code_both false b why later = refl
-
-tests_are : (a b c : Bool) → c ≡ false → (a || (b || (false || c))) ≡ (a || b)
-tests_are true b c none = refl
-tests_are false true c none = refl
-tests_are false false c none = none
-
-marked_is : (k : Parts) (r : ℕ) (row : RegionRow) (b : Bool) → region_at k.chains r ≡ Some row → row.marked ≡ b → is_marked k.chains r ≡ b
-marked_is k r row b there is = rw there is
-
-full_same : (header : Header) (h : ℕ) (k : Parts) (ids : Ids) (past : List Event) (r : ℕ) → Rests header h k ids past → has_region k.chains r ≡ true → refusing.is_copy_full header r past ≡ is_copy_full k.chains ids r
-full_same header h k ids past r rests there =
-    let m = rests.matches in
-    let row = region_row k.chains r there in
-    let mark : (region_of header r past).mark ≡ row.0.marked = ap (λ z. z.mark) (m.regions.rows r row.0 row.1) in
-    is_full_copy header r past row.0.marked m.plain mark
-    ∙ (ap (λ (z : ℕ). nat_le most_regions z || nat_lt most_objects (next_object header past + marked_regions header past + (if row.0.marked then 1 else 2))) (sym m.regions.region)
-    ∙ (ap (λ (z : ℕ). nat_le most_regions ids.next_region || nat_lt most_objects (z + marked_regions header past + (if row.0.marked then 1 else 2))) (sym m.regions.object)
-    ∙ (ap (λ (z : ℕ). nat_le most_regions ids.next_region || nat_lt most_objects (ids.next_object + z + (if row.0.marked then 1 else 2))) (sym m.regions.marks)
-    ∙ ap (λ (b : Bool). nat_le most_regions ids.next_region || nat_lt most_objects (ids.next_object + ids.marks + (if b then 1 else 2))) (sym (marked_is k r row.0 row.0.marked row.1 refl)))))
-
-source_same : (header : Header) (h : ℕ) (k : Parts) (ids : Ids) (past : List Event) (task target address bytes to : ℕ) (x : Option Entry) → Rests header h k ids past → entries_of header.size target past ≡ rows_in target k.maps → entry_at address (rows_in task k.maps) ≡ x
-    → refusing.copy_refusal header address bytes target to past x ≡ source_code k.chains ids (rows_in target k.maps) address bytes to x
-source_same header h k ids past task target address bytes to None rests same found = refl
-source_same header h k ids past task target address bytes to (Some row) rests same found =
-    let is = found_row (IsInside header.size k.chains) address (rows_in task k.maps) row (rests.matches.entries.inside task) found in
-    let full = full_same header h k ids past row.region.0 rests is.is.region in
-    ap (λ (z : List Entry). code_where (nat_lt (row.address + row.bytes) (address + bytes)) code.InvalidAddress
-    (code_where (not (allows need.Load row.prot)) code.ProtectionFailure
-    (code_where (meets_range to bytes z) code.NoSpace
-    (code_where (nat_lt most_entries (length z + 1) || refusing.is_copy_full header row.region.0 past) code.TableFull None)))) same
-    ∙ ap (λ (b : Bool). code_where (nat_lt (row.address + row.bytes) (address + bytes)) code.InvalidAddress
-    (code_where (not (allows need.Load row.prot)) code.ProtectionFailure
-    (code_where (meets_range to bytes (rows_in target k.maps)) code.NoSpace
-    (code_where (nat_lt most_entries (length (rows_in target k.maps) + 1) || b) code.TableFull None)))) full
-
-some_waits : (o : Option Waiting) → is_some (waiting_in o) ≡ is_some o
-some_waits None = refl
-some_waits (Some w) = refl
-
-waits_are : (header : Header) (h : ℕ) (k : Parts) (ids : Ids) (past : List Event) (task : ℕ) → Rests header h k ids past → lives_on h task past ≡ true → is_some (waiting task past) ≡ is_some (entry k.waits.rows task)
-waits_are header h k ids past task rests acts = ap (λ z. is_some z) (rests.waits.is task (ap (λ z. is_some z) (lives_in task rests.matches.tasks acts))) ∙ some_waits (entry k.waits.rows task)
-
-pub copy_refused : (header : Header) (h : ℕ) (k : Parts) (ids : Ids) (past : List Event) (task : TaskId) (address bytes : ℕ) (target : TaskId) (to : ℕ) → Rests header h k ids past → lives_on h task.0 past ≡ true → lives_on h target.0 past ≡ true
-    → refusal header past (command.Copy task address bytes target to) ≡ code_of k ids (command.Copy task address bytes target to)
-copy_refused header h k ids past task address bytes target to rests acts there =
-    let m = rests.matches in
-    let size = header.size in
-    let own : entries_of size task.0 past ≡ rows_in task.0 k.maps = rows_here m.tasks (lives_in task.0 m.tasks acts) in
-    let rows : entries_of size target.0 past ≡ rows_in target.0 k.maps = rows_here m.tasks (lives_in target.0 m.tasks there) in
-    let found = source_same header h k ids past task.0 target.0 address bytes to (entry_at address (rows_in task.0 k.maps)) rests rows refl in
-    let none = none_uncopied header (task.0 == target.0) (entry_at address (rows_in task.0 k.maps)) m.plain in
-    let ranges = not (is_range size address bytes && is_range size to bytes) in
-    let large = nat_lt most_pages (bytes / size) in
-    let later = source_code k.chains ids (rows_in target.0 k.maps) address bytes to (entry_at address (rows_in task.0 k.maps)) in
-    rw (on_is h (host_of task.0 past) acts, on_is h (host_of target.0 past) there, own_host h, waits_are header h k ids past task.0 rests acts, waits_are header h k ids past target.0 rests there, own, found, m.tasks.sized)
-    (code_both (is_some (entry k.waits.rows task.0)) (is_some (entry k.waits.rows target.0)) code.Blocked _
-    ∙ ap (λ (b : Bool). code_where (is_some (entry k.waits.rows task.0)) code.Blocked (code_where (is_some (entry k.waits.rows target.0)) code.Blocked (code_where b code.InvalidArgument later)))
-    (tests_are ranges large (is_uncopied header (task.0 == target.0) (entry_at address (rows_in task.0 k.maps))) none))

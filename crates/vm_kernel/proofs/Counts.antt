@@ -1,5 +1,5 @@
 -- How many entries lead to a region, over each change of a task's entries.
-use Rattle.vm_kernel.proofs.Common.{Bool, ChangesOnly, Entry, List, Mapped, Option, [], all_tasks, ap, arith, count_by, count_on, entered, eqb_tells, false, has_entry, if◌then◌else◌, inl, inr, length, nat_lt, refl, rows_in, subst, suc, true, unwrap_or, zero, ℕ, ◌*◌, ◌++◌, ◌+◌, ◌<◌, ◌==◌, ◌∷◌, ◌≡◌, ◌≢◌, ◌≤◌}
+use Rattle.vm_kernel.proofs.Common.{Bool, ChangesOnly, Entry, List, Mapped, Option, [], all_tasks, ap, arith, count_by, count_on, entered, eqb_tells, false, has_entry, inl, inr, length, nat_lt, refl, rows_in, subst, suc, true, unwrap_or, zero, ℕ, if◌then◌else◌, ◌*◌, ◌++◌, ◌+◌, ◌<◌, ◌==◌, ◌∷◌, ◌≡◌, ◌≢◌, ◌≤◌}
 
 -- nothing leads to a region exactly where it has no entry
 
@@ -36,6 +36,13 @@ on_entered r new (row ∷ rows) = by_test (on_entered r new rows) (nat_lt new.ad
     by_test : count_on r (entered new rows) ≡ count_on r (new ∷ rows) → (b : Bool) → count_on r (if b then new ∷ row ∷ rows else row ∷ entered new rows) ≡ count_on r (new ∷ row ∷ rows)
     by_test later true = refl
     by_test later false = omega arith
+
+-- an entry counts where it leads to the region
+pub one_on : (n r : ℕ) → n ≡ r → ◌≡◌ {A = ℕ} (if n == r then 1 else 0) 1
+one_on n r same = elim (eqb_tells n r) [ inl is ↦ ap (λ b. if b then 1 else 0) is.0 | inr apart ↦ absurd (apart.1 same) ]
+
+pub none_on : (n r : ℕ) → (n ≡ r → ⊥) → ◌≡◌ {A = ℕ} (if n == r then 1 else 0) 0
+none_on n r apart = elim (eqb_tells n r) [ inl is ↦ absurd (apart is.1) | inr other ↦ ap (λ b. if b then 1 else 0) other.0 ]
 
 -- over all tasks
 

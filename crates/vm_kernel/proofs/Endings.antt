@@ -1,5 +1,5 @@
 -- Tasks end, and ranges are unmapped.
-use Rattle.vm_kernel.proofs.Common.{Access, AllRows, Bool, ChainTable, ChangesOnly, Command, Entry, Event, HasTasks, HasUse, HasWaiters, Header, Ids, IsDone, List, Lowered, MapChange, Mapped, None, ObjectTable, Option, Outside, Parts, Raised, Ran, ResidentTable, Rests, Some, Starts, Sweeps, TaskId, Waiting, Woken, [], ap, arith, count_on, entries_in, entries_of, eqb_tells, false, has_region, holds, host_of, if◌then◌else◌, in_use, inl, inr, is_on, length, most_entries, next_region, parts_for, refl, region_entries, removal, removed, rows_in, subst, sym, true, unwrap_or, waiting, ℕ, ◌++◌, ◌+◌, ◌-◌, ◌==◌, ◌∙◌, ◌∷◌, ◌≡◌, ◌≤◌}
+use Rattle.vm_kernel.proofs.Common.{Access, AllRows, Bool, ChainTable, ChangesOnly, Command, Entry, Event, HasTasks, HasUse, HasWaiters, Header, IsShared, Ids, IsDone, List, Lowered, MapChange, Mapped, None, ObjectTable, Option, Outside, Parts, Raised, Ran, ResidentTable, Rests, Some, Starts, Sweeps, TaskId, Waiting, Woken, [], ap, arith, count_on, entries_in, entries_of, eqb_tells, false, has_region, holds, host_of, if◌then◌else◌, in_use, inl, inr, is_on, length, most_entries, named, next_region, parts_for, refl, region_entries, removal, removed, rows_in, rows_rewritten, subst, sym, true, unwrap_or, waiting, ℕ, ◌++◌, ◌+◌, ◌-◌, ◌==◌, ◌∙◌, ◌∷◌, ◌≡◌, ◌≤◌}
 use Rattle.std.proofs.Common.{is_some}
 use Rattle.vm_abroad.proofs.Home.{homes_next, object_stays}
 use Rattle.vm_kernel.proofs.After.{controls_stay, regions_moved}
@@ -13,6 +13,7 @@ use Rattle.vm_kernel.proofs.Growing.{suffices}
 use Rattle.vm_kernel.proofs.Heads.{grows_one}
 use Rattle.vm_kernel.proofs.Recounts.{Recounts, entries_are, entries_most, lowered_recounts, raised_recounts, recounts_as, recounts_same, recounts_twice}
 use Rattle.vm_kernel.proofs.Rewrites.{recount_known, tasks_changed}
+use Rattle.vm_kernel.proofs.Sharing.{kinds_recounted, shared_changed}
 use Rattle.vm_kernel.proofs.Uses.{uses_cut, ApartFrom, elsewhere, holds_rows}
 use Rattle.vm_kernel.proofs.Mine.{own_task}
 
@@ -51,9 +52,9 @@ waits_ended maps cs rs os rows who waiting_at task has none =
     }
 
 -- a task that has ended holds nothing, and others hold what they held
-apart_ended : (size : ℕ) (maps new : Mapped) (used_at : ℕ → Bool) (made : List ℕ) (n : ℕ) (task : TaskId) (past : List Event) → HasUse maps used_at made (λ t r. holds size t r past) n → ChangesOnly maps new task.0 None
+apart_ended : (header : Header) (size : ℕ) (maps new : Mapped) (used_at : ℕ → Bool) (made : List ℕ) (n : ℕ) (task : TaskId) (past : List Event) → HasUse header maps used_at made (λ t r. holds size t r past) n → ChangesOnly maps new task.0 None
     → ApartFrom new used_at (λ t r. holds size t r (event.TaskEnded task ∷ past)) n
-apart_ended size maps new used_at made n task past has changes t r none why = elim (eqb_tells task.0 t) [
+apart_ended header size maps new used_at made n task past has changes t r none why = elim (eqb_tells task.0 t) [
   | inl same ↦ rw same.0 refl
   | inr apart ↦ rw apart.0 (has.apart t r (sym (changes.others t (λ e. apart.1 (sym e))) ∙ none) why)
 ]
@@ -76,7 +77,10 @@ sweeps_exit header h outside task past events k ids maps gone s value changes =
       runs = record {
         begins = s.begins;
         matches = record {
-          plain = m.plain;
+          ranged = m.ranged;
+          declared = m.declared;
+          kinds = m.kinds;
+          shared = shared_changed (named header) task.0 k.maps maps None changes tt m.shared;
           known = m.known;
           size = m.size;
           host = m.host;
@@ -84,10 +88,10 @@ sweeps_exit header h outside task past events k ids maps gone s value changes =
           tasks = shown_tasks;
           regions = regions_moved header past (event.TaskEnded task ∷ past) refl refl (λ r. refl) (λ o. refl) c.regions;
           entries = c.entries;
-          pages = c.pages;
-          uses = uses_cut header k.maps maps (λ r. in_use header h r past) _ (next_region header past) (event.TaskEnded task ∷ past) task.0 None m.plain m.uses changes live.1 (λ r some. uses_fewer header.size task.0 r k.maps maps k.chains None m.entries changes live.1 cuts.own some)
+          pages = m.pages;
+          uses = uses_cut header k.maps maps (λ r. in_use header h r past) _ (next_region header past) (event.TaskEnded task ∷ past) task.0 None m.uses changes live.1 (λ r some. uses_fewer header.size task.0 r k.maps maps k.chains None m.entries changes live.1 cuts.own some)
               (record { rows = shown_tasks.rows; waiting = k.waits.rows; waits = record { is = shown_waits.is } }) c.entries.most
-              (apart_ended header.size k.maps maps (λ r. in_use header h r past) _ (next_region header past) task past m.uses changes);
+              (apart_ended header header.size k.maps maps (λ r. in_use header h r past) _ (next_region header past) task past m.uses changes);
           controls = controls_stay (λ o is. object_stays o h (event.TaskEnded task) past is) m.controls;
           homeless = homes_next header outside (event.TaskEnded task) past (command.Exit task, idle) m.homeless;
           homes = c.homes;
@@ -105,6 +109,10 @@ sweeps_exit header h outside task past events k ids maps gone s value changes =
     }
 
 -- a range is unmapped
+
+-- what is left of entries keeps their inheritance
+shared_removed : (declared size address bytes : ℕ) (rows : List Entry) → AllRows (IsShared declared) rows → AllRows (IsShared declared) (removed size address bytes rows)
+shared_removed declared size address bytes rows all = rows_rewritten size (IsShared declared) (λ row. []) (λ row start end is low less high. is) (λ row is. tt) address bytes rows all
 
 pub raised_few : (rows : List Entry) (old mid : ChainTable) (most : ℕ) → Raised rows old mid → length rows ≤ most_entries → ((r : ℕ) → region_entries old r ≤ most) → (r : ℕ) → region_entries mid r ≤ most + 256
 raised_few rows old mid most up few all r =
@@ -149,7 +157,10 @@ sweeps_removed header h outside task address bytes past events k ids maps mid hi
       runs = record {
         begins = s.begins;
         matches = record {
-          plain = m.plain;
+          ranged = m.ranged;
+          declared = m.declared;
+          kinds = kinds_recounted header count k.memory.objects k.chains chains counts m.kinds;
+          shared = shared_changed (named header) task.0 k.maps maps (Some (removed header.size address bytes rows)) same (shared_removed (named header) header.size address bytes rows (m.shared task.0)) m.shared;
           known = m.known;
           size = m.size;
           host = m.host;
@@ -157,8 +168,8 @@ sweeps_removed header h outside task address bytes past events k ids maps mid hi
           tasks = shown_tasks;
           regions = regions_moved header past (event.Removed task address bytes ∷ past) refl refl (λ r. refl) (λ o. refl) c.regions;
           entries = c.entries;
-          pages = c.pages;
-          uses = uses_cut header k.maps maps (λ r. in_use header h r past) _ (next_region header past) (event.Removed task address bytes ∷ past) task.0 (Some two) m.plain m.uses cut_to live.1 (λ r some. uses_fewer header.size task.0 r k.maps maps k.chains (Some two) m.entries cut_to live.1 cuts.own some)
+          pages = m.pages;
+          uses = uses_cut header k.maps maps (λ r. in_use header h r past) _ (next_region header past) (event.Removed task address bytes ∷ past) task.0 (Some two) m.uses cut_to live.1 (λ r some. uses_fewer header.size task.0 r k.maps maps k.chains (Some two) m.entries cut_to live.1 cuts.own some)
               (record { rows = shown_tasks.rows; waiting = k.waits.rows; waits = record { is = c.waits.is } }) c.entries.most
               (λ t r none why.
               let other = elsewhere maps task.0 t two now none in

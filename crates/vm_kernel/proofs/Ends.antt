@@ -6,6 +6,7 @@ use Rattle.vm_kernel.proofs.Recounts.{Recounts, entries_are, has_same, next_row,
 use Rattle.vm_kernel.proofs.Regions.{region_row, tops_recounted}
 use Rattle.vm_kernel.proofs.Rewrites.{recount_homes, recount_inside, recount_known, recount_referred, recount_regions}
 use Rattle.vm_kernel.proofs.Rows.{region_cases}
+use Rattle.vm_kernel.proofs.Sharing.{kinds_recounted}
 use Rattle.vm_state.proofs.Waited.{waits_kept}
 
 -- what its region counts then
@@ -54,7 +55,10 @@ runs_less header h outside doing past k ids entry rest events chains s put =
     record {
       begins = s.begins;
       matches = record {
-        plain = m.plain;
+        ranged = m.ranged;
+        declared = m.declared;
+        kinds = kinds_recounted header count k.memory.objects k.chains chains is m.kinds;
+        shared = m.shared;
         known = m.known;
         size = m.size;
         host = m.host;
@@ -66,7 +70,7 @@ runs_less header h outside doing past k ids entry rest events chains s put =
         uses = m.uses;
         controls = m.controls;
         homeless = m.homeless;
-        homes = recount_homes count h k.chains chains (λ r. home_of r moment) is m.homes;
+        homes = recount_homes count header h k.chains chains (λ r. home_of r moment) is m.homes;
         settled = m.settled;
         laundry = m.laundry;
         frames = m.frames;

@@ -1,5 +1,6 @@
 -- Those who wait for a page that its pager can't give are ended.
-use Rattle.vm_kernel.proofs.Common.{AllInner, Asked, Asker, BeganInOrder, Command, EndsEach, EndsNobody, Event, Fails, FailsNow, HasEnded, HasFailed, HasUse, Header, Ids, IfSome, IsAnswered, IsErrorPaid, LegalEvents, List, Mapped, Matches, None, On, Outside, PageKey, Parts, PutsEntry, Some, TaskId, WaitTable, Waiting, Woken, Works, [], access_in, address_in, ap, append-nil, append_assoc, begun_at, entries_in, entries_of, entry, entry_at, eqb_tells, error_more, error_taken, fails_access, fails_task, false, holds, homes_next, if◌then◌else◌, in_use, inl, inr, next_page, next_region, oldest_row, or_true, page_key, puts_cases, refl, rows_in, since, since_more, some_is, subst, sym, true, waiting, waiting_in, woken_page, ℕ, ◌++◌, ◌<◌, ◌==◌, ◌||◌, ◌∙◌, ◌∷◌, ◌≡◌, ◌⊎◌}
+use Rattle.vm_kernel.proofs.Common.{AllInner, Asked, Asker, BeganInOrder, Command, EndsEach, EndsNobody, Event, Fails, FailsNow, HasEnded, HasFailed, HasUse, Header, Ids, IfSome, IsAbsencePaid, IsAnswered, IsErrorPaid, LegalEvents, List, Mapped, Matches, None, On, Outside, PageKey, Parts, PutsEntry, Some, TaskId, WaitTable, Waiting, Woken, Works, [], absence_more, absence_taken, access_in, address_in, ap, append_assoc, begun_at, entries_in, entries_of, entry, entry_at, eqb_tells, error_more, error_taken, fails_access, fails_task, false, holds, homes_next, if◌then◌else◌, in_use, inl, inr, next_page, next_region, oldest_row, or_true, page_key, puts_cases, refl, rows_in, since, since_more, some_is, subst, sym, true, waiting, waiting_in, woken_page, ℕ, ◌++◌, ◌<◌, ◌==◌, ◌||◌, ◌∙◌, ◌∷◌, ◌≡◌, ◌⊎◌}
+use Rattle.vm_legal.specs.Licences.{zeroes}
 use Rattle.std.proofs.Common.{is_some}
 use Rattle.vm_abroad.proofs.Home.{object_stays}
 use Rattle.vm_model.specs.declared.event.Event.TheVariants as event
@@ -105,9 +106,9 @@ before_none key rows past none u t w ended found passes = absurd (let bad : fals
 
 uses_failed : (header : Header) (h : ℕ) (k : Parts) (ids : Ids) (past : List Event) (key : PageKey) (task : TaskId) (rows : List Waiting) → Works header h k ids (who.Fails key) past
     → AreTold k.maps rows (λ t. waiting t (event.Failed task key.object key.page ∷ past)) → entries_in task.0 k.maps ≡ Some (rows_in task.0 k.maps)
-    → HasUse k.maps (λ r. in_use header h r (event.Failed task key.object key.page ∷ past)) (made_tasks past) (λ t r. holds header.size t r (event.Failed task key.object key.page ∷ past)) (next_region header past)
+    → HasUse header k.maps (λ r. in_use header h r (event.Failed task key.object key.page ∷ past)) (made_tasks past) (λ t r. holds header.size t r (event.Failed task key.object key.page ∷ past)) (next_region header past)
 uses_failed header h k ids past key task rows works is lives =
-    uses_none header k.maps (λ r. in_use header h r past) (λ t r. holds header.size t r past) (next_region header past) (event.Failed task key.object key.page ∷ past) was.plain was.uses
+    uses_none header k.maps (λ r. in_use header h r past) (λ t r. holds header.size t r past) (next_region header past) (event.Failed task key.object key.page ∷ past) was.uses
     (record { rows = λ t here. was.tasks.rows t here; waiting = rows; waits = record { is = is } }) was.entries.most (λ t r none. holds_waits header.size task.0 t r k.maps (rows_in task.0 k.maps) past None lives none)
   where
     was : Matches header h k ids [] past
@@ -139,7 +140,10 @@ failed_one header h outside doing past old events key k ids w waits f found pass
           record {
             matches =
                 record {
-                  plain = was.plain;
+                  ranged = was.ranged;
+                  declared = was.declared;
+                  kinds = was.kinds;
+                  shared = was.shared;
                   known = was.known;
                   size = was.size;
                   host = was.host;
@@ -231,18 +235,34 @@ pub paid_goes : (header : Header) (h : ℕ) (outside : Outside) (doing : Command
 paid_goes header h outside doing past old new goes paid =
     subst (λ (z : List Event). IsErrorPaid header z) (sym (append_assoc goes.more old past) ∙ ap (λ z. z ++ past) (sym goes.is)) (paid_more header goes.more (old ++ past) goes.inner paid)
 
-pub paid_failed : (header : Header) (h : ℕ) (outside : Outside) (doing : Command) (woke : Woken) (past new : List Event) → FailsNow header h woke past → LegalEvents header h outside doing past [] new → HasFailed woke (new ++ past) → IsErrorPaid header (new ++ past)
-paid_failed header h outside doing who.Nobody past new fails goes failed = paid_goes header h outside doing past [] new goes (λ host object page is. absurd (let bad : None ≡ Some (record { host = host; object = object; page = page }) = sym fails ∙ is in cc))
-paid_failed header h outside doing (who.ReadyOf object) past new fails goes failed = paid_goes header h outside doing past [] new goes (λ host object page is. absurd (let bad : None ≡ Some (record { host = host; object = object; page = page }) = sym fails ∙ is in cc))
-paid_failed header h outside doing (who.Page key) past new fails goes failed = paid_goes header h outside doing past [] new goes (λ host object page is. absurd (let bad : None ≡ Some (record { host = host; object = object; page = page }) = sym fails ∙ is in cc))
-paid_failed header h outside doing (who.Fails key) past new fails goes failed = λ host object page is.
-    let error : error_taken header.size (new ++ past) ≡ error_taken header.size past =
-    ap (error_taken header.size) (ap (λ z. z ++ past) (goes.is ∙ append-nil goes.more)) ∙ error_more header.size goes.more past goes.inner in
-    let same : record { host = h; object = key.object.0; page = key.page.0 } ≡ record { host = host; object = object; page = page } = asked_same (sym fails ∙ (sym error ∙ is)) in
+-- what the step took stays what it took
+error_goes : (header : Header) (h : ℕ) (outside : Outside) (doing : Command) (past old new : List Event) → LegalEvents header h outside doing past old new → error_taken header.size (new ++ past) ≡ error_taken header.size (old ++ past)
+error_goes header h outside doing past old new goes = ap (λ z. error_taken header.size (z ++ past)) goes.is ∙ (ap (error_taken header.size) (append_assoc goes.more old past) ∙ error_more header.size goes.more (old ++ past) goes.inner)
+
+-- the page of the error
+asked_same : {x y : Asked} → Some x ≡ Some y → x ≡ y
+asked_same {x = x} {y = y} is = some_is x y is
+
+none_paid : (header : Header) (past : List Event) → error_taken header.size past ≡ None → IsErrorPaid header past
+none_paid header past none = λ host object page is. absurd (let bad : None ≡ Some (record { host = host; object = object; page = page }) = sym none ∙ is in cc)
+
+pub paid_failed : (header : Header) (h : ℕ) (outside : Outside) (doing : Command) (woke : Woken) (past old new : List Event) → FailsNow header h woke (old ++ past) → LegalEvents header h outside doing past old new → HasFailed woke (new ++ past) → IsErrorPaid header (new ++ past)
+paid_failed header h outside doing who.Nobody past old new fails goes failed = paid_goes header h outside doing past old new goes (none_paid header (old ++ past) fails)
+paid_failed header h outside doing (who.ReadyOf object) past old new fails goes failed = paid_goes header h outside doing past old new goes (none_paid header (old ++ past) fails)
+paid_failed header h outside doing (who.Page key) past old new fails goes failed = paid_goes header h outside doing past old new goes (none_paid header (old ++ past) fails)
+paid_failed header h outside doing (who.Fails key) past old new fails goes failed = λ host object page is.
+    let same : record { host = h; object = key.object.0; page = key.page.0 } ≡ record { host = host; object = object; page = page } = asked_same (sym fails ∙ (sym (error_goes header h outside doing past old new goes) ∙ is)) in
     subst (λ (z : Asked). since (fails_access z.object z.page) (new ++ past) ≡ true) same failed
+
+-- zeros that have come stay so too
+pub absence_goes : (header : Header) (h : ℕ) (outside : Outside) (doing : Command) (past old new : List Event) → LegalEvents header h outside doing past old new → IsAbsencePaid header (old ++ past) → IsAbsencePaid header (new ++ past)
+absence_goes header h outside doing past old new goes paid = λ host object page declared is.
+    subst (λ (z : List Event). since (zeroes object page) z ≡ true) (sym told)
+    (since_more (zeroes object page) goes.more (old ++ past) goes.inner
+    (paid host object page declared (sym (absence_more header.size goes.more (old ++ past) goes.inner) ∙ (sym (ap (absence_taken header.size) told) ∙ is))))
   where
-    asked_same : {x y : Asked} → Some x ≡ Some y → x ≡ y
-    asked_same {x = x} {y = y} is = some_is x y is
+    told : new ++ past ≡ goes.more ++ (old ++ past)
+    told = ap (λ z. z ++ past) goes.is ∙ append_assoc goes.more old past
 
 -- and each who waited has ended
 
@@ -256,15 +276,11 @@ each_goes header h outside doing rows past old new goes each =
 no_error : (header : Header) (rows : List Waiting) (past : List Event) → error_taken header.size past ≡ None → EndsEach header rows past
 no_error header rows past none = λ host object page t w is found waits. absurd (let bad : None ≡ Some (record { host = host; object = object; page = page }) = sym none ∙ is in cc)
 
-pub each_failed : (header : Header) (h : ℕ) (outside : Outside) (doing : Command) (woke : Woken) (rows : List Waiting) (past new : List Event) → FailsNow header h woke past → LegalEvents header h outside doing past [] new → HasEnded woke rows (new ++ past) → EndsEach header rows (new ++ past)
-each_failed header h outside doing who.Nobody rows past new fails goes ended = each_goes header h outside doing rows past [] new goes (no_error header rows past fails)
-each_failed header h outside doing (who.ReadyOf object) rows past new fails goes ended = each_goes header h outside doing rows past [] new goes (no_error header rows past fails)
-each_failed header h outside doing (who.Page key) rows past new fails goes ended = each_goes header h outside doing rows past [] new goes (no_error header rows past fails)
-each_failed header h outside doing (who.Fails key) rows past new fails goes ended = λ host object page t w is found waits.
-    let error : error_taken header.size (new ++ past) ≡ error_taken header.size past =
-    ap (error_taken header.size) (ap (λ z. z ++ past) (goes.is ∙ append-nil goes.more)) ∙ error_more header.size goes.more past goes.inner in
-    let same : record { host = h; object = key.object.0; page = key.page.0 } ≡ record { host = host; object = object; page = page } = asked_same (sym fails ∙ (sym error ∙ is)) in
+pub each_failed : (header : Header) (h : ℕ) (outside : Outside) (doing : Command) (woke : Woken) (rows : List Waiting) (past old new : List Event) → FailsNow header h woke (old ++ past) → LegalEvents header h outside doing past old new → HasEnded woke rows (new ++ past)
+    → EndsEach header rows (new ++ past)
+each_failed header h outside doing who.Nobody rows past old new fails goes ended = each_goes header h outside doing rows past old new goes (no_error header rows (old ++ past) fails)
+each_failed header h outside doing (who.ReadyOf object) rows past old new fails goes ended = each_goes header h outside doing rows past old new goes (no_error header rows (old ++ past) fails)
+each_failed header h outside doing (who.Page key) rows past old new fails goes ended = each_goes header h outside doing rows past old new goes (no_error header rows (old ++ past) fails)
+each_failed header h outside doing (who.Fails key) rows past old new fails goes ended = λ host object page t w is found waits.
+    let same : record { host = h; object = key.object.0; page = key.page.0 } ≡ record { host = host; object = object; page = page } = asked_same (sym fails ∙ (sym (error_goes header h outside doing past old new goes) ∙ is)) in
     subst (λ (z : Asked). w.on ≡ on.Page (page_key z.object z.page) → since (fails_task t z.object z.page) (new ++ past) ≡ true) same (ended t w found) waits
-  where
-    asked_same : {x y : Asked} → Some x ≡ Some y → x ≡ y
-    asked_same {x = x} {y = y} is = some_is x y is

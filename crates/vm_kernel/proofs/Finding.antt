@@ -7,8 +7,8 @@ use Rattle.vm_fault.specs.Walks as walks
 use Rattle.vm_fault.specs.Walks.{Finds, MayCome, StopsAsked, WalksTo, is_storing, keeps_out, top_place, writes_at}
 use Rattle.vm_fault.specs.declared.step.FaultStep.{FaultStep}
 use Rattle.vm_fault.specs.declared.step.FaultStep.TheVariants as step
-use Rattle.vm_kernel.proofs.Attempting.{never_kept_out, state_of}
-use Rattle.vm_kernel.proofs.Leading.{Leads, leads_of, shown_of}
+use Rattle.vm_kernel.proofs.Attempting.{state_of}
+use Rattle.vm_kernel.proofs.Leading.{Leads, leads_of}
 use Rattle.vm_legal.specs.Walks as legal
 use Rattle.vm_legal.specs.Walks.{Passes}
 use Rattle.vm_model.specs.declared.event.Event.TheVariants as event
@@ -19,6 +19,9 @@ use Rattle.vm_state.specs.Places.{place_of}
 use Rattle.vm_supply.specs.declared.woken.Woken.TheVariants as woken
 use Rattle.vm_terminate.specs.Finishes.{IsReferred}
 use Rattle.vm_waits.specs.declared.waiting.Want.TheVariants as want
+use Rattle.vm_kernel.proofs.Shown.{shown_at}
+use Rattle.vm_kernel.proofs.Claiming.{plain_open}
+use Rattle.std.proofs.lemmas.Bool.{and_left, and_right}
 
 pub some_same : {A : Type 0} (x y : A) → Some x ≡ Some y → x ≡ y
 some_same x y e = cc
@@ -133,24 +136,17 @@ record FindsFirst (header : Header) (h : ℕ) (past : List Event) (what : Want) 
   pub finds : FindsAt header h past what top
   pub bare : (is_storing what && row.marked) ≡ false
 
-no_store : (what : Want) (marked : Bool) → is_storing what ≡ false → (is_storing what && marked) ≡ false
-no_store what marked loads = ap (λ b. b && marked) loads
-
-no_mark : (b : Bool) (marked : Bool) → marked ≡ false → (b && marked) ≡ false
-no_mark true marked is = is
-no_mark false marked is = refl
-
 finds_first : (header : Header) (h : ℕ) (past : List Event) (k : Parts) (task : ℕ) (what : Want) (top : PageKey) (at : IsAt k.maps k.chains task what top) → Leads header h past k task what top at → FindsPage header task past
     → FindsFirst header h past what top at.row
 finds_first header h past k task what top at to (ToRead address bytes object page waits comes here open_it) =
-    record { finds = read_at header h past k task address bytes object page what top at to waits comes here; bare = no_store what at.row.marked (loads what refl) }
+    record { finds = read_at header h past k task address bytes object page what top at to waits comes here; bare = and_left (is_storing what) at.row.marked (loads what refl) }
   where
     loads : (want2 : Want) → what ≡ want2 → is_storing what ≡ false
     loads (want.Load a n) is = ap is_storing is
     loads (want.Store a n v) is = absurd (let bad : Some (Storing a n v) ≡ Some (Loading address bytes) = sym (to.waits ∙ ap (λ z. Some (access_in z)) is) ∙ waits.waits in cc)
 finds_first header h past k task what top at to (ToWrite address bytes value object page waits is_top unmarked here open_it) =
     let writes = write_at header h past k task address bytes value object page what top at to waits is_top unmarked here in
-    record { finds = writes.finds; bare = no_mark (is_storing what) at.row.marked (sym to.marks ∙ writes.unmarked) }
+    record { finds = writes.finds; bare = and_right (is_storing what) at.row.marked (sym to.marks ∙ writes.unmarked) }
 
 -- what the kernel's walk comes to is what the history's does
 
@@ -231,7 +227,7 @@ comes_next : {header : Header} {h : ℕ} {past : List Event} {what : Want} {top 
 comes_next host task may at (step.Done value) old new plain f comes = ended_next host task at value old.parts new.parts old.chains old.events new.events f comes
 comes_next host task may at (step.Ask key) old new plain f comes = never (never_comes f comes.steps key comes.object comes.comes (ap has_pager comes.ready))
 comes_next {what = what} host task may at (step.Unlock key) old new plain f comes =
-    let open_it = never_kept_out comes.row.lock (writes_at what comes.steps) (plain key.object.0 key.page.0 comes.row comes.finds.found).lock in
+    let open_it = plain_open comes.row.lock (writes_at what comes.steps) (plain key.object.0 key.page.0 comes.row comes.finds.found).lock in
     absurd (let bad : false ≡ true = sym open_it ∙ comes.locked in cc)
 comes_next host task may at (step.WaitReady object) old new plain f comes =
     let why = comes.0 in
@@ -240,7 +236,7 @@ comes_next {what = what} {top = top} host task may at (step.WaitAnswer key) old 
   where
     by : (Finds old.parts old.chains comes.0.steps top key comes.0.row × (keeps_out comes.0.row.lock (writes_at what comes.0.steps) ≡ true) × (comes.0.row.unlock_sent ≡ true)) ⊎ StopsAsked old.parts old.chains comes.0.steps top key comes.0.row → EndsNext task.0 old.events new.events
     by (inl locked) =
-        let open_it = never_kept_out comes.0.row.lock (writes_at what comes.0.steps) (plain key.object.0 key.page.0 comes.0.row locked.0.found).lock in
+        let open_it = plain_open comes.0.row.lock (writes_at what comes.0.steps) (plain key.object.0 key.page.0 comes.0.row locked.0.found).lock in
         absurd (let bad : false ≡ true = sym open_it ∙ locked.1 in cc)
     by (inr stops) = never (never_asked f comes.0.steps key comes.0.row stops)
 comes_next host task may at (step.NeedFrame source) old new plain f comes = never (never_needs f comes.0)
@@ -275,7 +271,7 @@ ends_next header h past k ids w may answer events new works is f finds =
         let comes : fault.Comes k.host w.task w.want may f.top (address_in w.want % k.memory.buffers.size) answer (state_of k ids events) new =
         subst (λ (z : FaultState). fault.Comes k.host w.task w.want may f.top (address_in w.want % k.memory.buffers.size) answer z new) same f.comes in
         comes_next k.host w.task may (address_in w.want % k.memory.buffers.size) answer (state_of k ids events) new works.matches.fits.plain
-        (record { shown = shown_of header h moment k ids woken.Nobody works; referred = referred; finds = found2.finds }) comes
+        (record { shown = shown_at works.matches; referred = referred; finds = found2.finds }) comes
 
 -- what comes later doesn't change that
 pub next_more : (task : ℕ) (before events more : List Event) → EndsNext task before events → EndsNext task before (more ++ events)

@@ -1,10 +1,17 @@
 -- An object to which nothing refers can end, and what its end leaves: its pages, its control and what stood under it are gone, and so on down.
-use Rattle.vm_kernel.proofs.Common.{Bool, ChainTable, Command, EachOf, EndsObject, Entry, Err, Event, Fit, HasRegions, Header, HostId, HostParts, Ids, IsPlaceOf, IsUnder, LaundryList, LeadsTo, List, Mapped, Matches, None, ObjectId, ObjectRow, ObjectTable, Ok, OnOk, Outside, PageKey, PageNo, PageRow, Parts, Plays, QueueIsStill, Result, RunsNone, ShadowRow, Some, Still, Sweeps, Want, ap, arith, eqb_tells, false, host_id, inl, inr, nat_lt, nat_tests, object_at, page_key, paging, refl, returns_out, row_at, row_cases, row_put, some_is, subst, suc, sym, true, zero, ℕ, ◌++◌, ◌<◌, ◌∙◌, ◌∷◌, ◌≡◌}
+use Rattle.vm_kernel.proofs.Common.{Bool, ChainTable, Changes, Command, Declared, EachOf, EndsObject, EndsRegion, Entry, Event, Fit, FrameNo, HasRegions, Header, HostId, HostParts, Ids, IsPlaceOf, IsRanged, IsUnder, LaundryList, LeadsTo, List, Mapped, Matches, None, ObjectId, ObjectRow, ObjectTable, Option, Outside, PageKey, PageNo, PageRow, Parts, Plays, Queues, QueueIsStill, RunsNone, ShadowRow, Some, Still, Sweeps, Temp, Want, ap, arith, eqb_tells, false, get_or, host_id, if◌then◌else◌, inl, inr, length, length-reverse, named, nat_lt, nat_tests, object_at, page_in, page_key, paging, refl, returns_out, reverse, row_at, row_cases, row_put, slice_get, some_is, subst, suc, sym, true, zero, ℕ, ◌++◌, ◌-◌, ◌<◌, ◌||◌, ◌∙◌, ◌∷◌, ◌≡◌, ◌≢◌}
 use Rattle.vm_kernel.proofs.Own.{named_host}
 use Rattle.vm_kernel.proofs.Playing.{plays_both, plays_told}
 use Rattle.vm_kernel.proofs.Holding.{room_once}
+use Rattle.std.proofs.lemmas.List.Elements.{All-get_or}
+use Rattle.std.proofs.lemmas.List.{get_or-reverse}
+use Rattle.std.proofs.lemmas.Option.{slice_get_cases}
+use Rattle.vm_legal.specs.Outside.{kind_in, kind_of}
 use Rattle.vm_queues.specs.Queues.{EachOnce}
-use Rattle.vm_kernel.proofs.Terminating.{LeavesOne, ends_dropped, ends_lost, ends_told, lost_plays, quiet_row, sweeps_dropped}
+use Rattle.vm_kernel.specs.Sweeping.{IsKnownToPager}
+use Rattle.vm_kernel.proofs.Strands.{LosesRegion}
+use Rattle.vm_kernel.proofs.Terminating.{GoesToPager, LeavesOne, departs_unheld, ends_dropped, ends_lost, ends_returned, ends_told, going_back, lost_plays, quiet_row, sweeps_dropped}
+use Rattle.vm_state.proofs.Declared.{kind_cases}
 use Rattle.vm_state.proofs.Knowing.{known_put}
 use Rattle.vm_model.specs.Regions.{Backing, Region}
 use Rattle.vm_model.specs.declared.event.Event.TheVariants as event
@@ -14,6 +21,7 @@ use Rattle.vm_state.proofs.Referred.{all_ended}
 use Rattle.vm_state.proofs.Referring.{refers_shadow, sole_region, sole_shadow, unreferred_region, unreferred_shadow}
 use Rattle.vm_state.specs.Waiters.{Asker}
 use Rattle.vm_terminate.specs.Finishes.{Alone, CanFinish, ControlEnds, Downward, EndsWith, Finishes, FinishState, Further, GoesBack, IsDropped, IsTold, Itself, LosesUnder, Next, NoControl, NoMore, OverOne, PageLeaves, PagesLeave}
+use Rattle.vm_kernel.proofs.Untold.{matches_with}
 
 -- no place of an access is in an object that ends with one to which nothing refers
 
@@ -78,8 +86,9 @@ led_both : (header : Header) (past : List Event) (k : Parts) (old mid new : Fini
 led_both header past k old mid new one two = record { plays = plays_both one.plays two.plays; quiet = λ all. two.quiet (one.quiet all) }
 
 -- the change of a page, whatever the buffers are
-changes_beside : (key : PageKey) (row : PageRow) (old new : HostParts) (k : Parts) → Discards key row old new → Discards key row (record old { buffers = k.memory.buffers }) (record new { buffers = k.memory.buffers })
-changes_beside key row old new k c =
+changes_beside : {key : PageKey} {frame : FrameNo} {was now : Option PageRow} {held : Bool} {bytes : List ℕ} {lists : Queues} (old new : HostParts) (k : Parts) → Changes key frame was now held bytes lists old new
+    → Changes key frame was now held bytes lists (record old { buffers = k.memory.buffers }) (record new { buffers = k.memory.buffers })
+changes_beside old new k c =
     record {
       found = c.found;
       was_in = c.was_in;
@@ -99,25 +108,84 @@ changes_beside key row old new k c =
       lists_are = c.lists_are;
     }
 
+-- no declared object is temporary
+declared_kind : (header : Header) (o : ℕ) → IsRanged header → o < named header → kind_of header o ≢ Temp
+declared_kind header o ranged less same = elim ((slice_get_cases (reverse items) o).1) [
+  | inl it ↦
+      let test : nat_lt o (named header) ≡ true = grind (arith, nat_tests) in
+      let here : get_or items (length items - 1 - o) it.0 ≡ it.0 = sym (get_or-reverse items o it.0 less) ∙ it.3 in
+      let kind : it.0.kind ≡ Temp = sym (ap (λ b. if b then kind_in (slice_get (reverse items) o) else Temp) test ∙ ap kind_in it.2) ∙ same in
+      subst (λ (z : Declared). z.kind ≢ Temp) here (All-get_or (λ (z : Declared). z.kind ≢ Temp) items (length items - 1 - o) it.0 (omega arith) ranged.kinds) kind
+  | inr past ↦ absurd (omega (arith, length-reverse items, past.0, less))
+]
+  where
+    items : List Declared
+    items = header.objects.items
+
 -- a page of the object has gone
 record IsLess (header : Header) (h : ℕ) (outside : Outside) (doing : Command) (past : List Event) (k : Parts) (ids : Ids) (rest : List Entry) (object : ObjectId) (page : ℕ) (old new : FinishState) : Type 0 where
   ends : EndsObject header h outside doing past (of_state k new) ids rest object.0 new.events
   led : Led header past k old new
-  objects : new.parts.objects ≡ old.parts.objects
+  found : object_at new.parts.objects object.0 ≡ object_at old.parts.objects object.0
   gone : row_at new.parts.resident object.0 page ≡ None
   before : (q : ℕ) → row_at old.parts.resident object.0 q ≡ None → row_at new.parts.resident object.0 q ≡ None
 
 page_leaves : (header : Header) (h : ℕ) (outside : Outside) (doing : Command) (past : List Event) (k : Parts) (ids : Ids) (rest : List Entry) (object : ObjectId) (known : ObjectRow) (page : PageNo) (row : PageRow) (old new : FinishState)
-    → EndsObject header h outside doing past (of_state k old) ids rest object.0 old.events → object_at old.parts.objects object.0 ≡ Some known → ((q : ℕ) → q < page.0 → row_at old.parts.resident object.0 q ≡ None) → row.here ≡ true → new.chains ≡ old.chains
-    → PageLeaves (host_id h) (record { object = object; page = page }) known row old new → IsLess header h outside doing past k ids rest object page.0 old new
-page_leaves header h outside doing past k ids rest object known page row old new e found first here chains (GoesBack other wanted c objects absent held room events) = absurd (other (e.runs.matches.regions.temporary object.0 known found).kind)
-page_leaves header h outside doing past k ids rest object known page row old new e found first here chains (IsDropped why c objects held room events) =
+    → EndsObject header h outside doing past (of_state k old) ids rest object.0 old.events → object_at old.parts.objects object.0 ≡ Some known → (object.0 < named header → known.live ≡ true) → ((q : ℕ) → q < page.0 → row_at old.parts.resident object.0 q ≡ None) → row.here ≡ true
+    → new.chains ≡ old.chains → PageLeaves (host_id h) (record { object = object; page = page }) known row old new → IsLess header h outside doing past k ids rest object page.0 old new
+page_leaves header h outside doing past k ids rest object known page row old new e found live first here chains (GoesBack other wanted c objects absent held room events) =
+    record {
+      ends = subst (λ (z : List Event). EndsObject header h outside doing past (of_state k new) ids rest object.0 z) (sym events)
+          (subst (λ (z : Parts). EndsObject header h outside doing past z ids rest object.0 (going_back h key known row (page_in old.parts.frames row.frame.0) ∷ old.events)) (sym same)
+          (ends_returned header h outside doing past base ids rest key known row memory laundry old.events e goes));
+      led = record { plays = plays_told events (inr (departs_unheld header h outside doing past base ids rest key row _ _ memory old.events e declared here (changes_beside old.parts new.parts k c))); quiet = λ all. subst (EachOf RunsNone) (sym events) (tt, all) };
+      found = objects.at object.0;
+      gone = row_put old.parts.resident new.parts.resident object.0 page.0 None c.row;
+      before = λ q none. elim (row_cases object.0 page.0 None old.parts.resident new.parts.resident c.row object.0 q) [ inl put ↦ put.is | inr apart ↦ apart.is ∙ none ];
+    }
+  where
+    key : PageKey
+    key = record { object = object; page = page }
+
+    base : Parts
+    base = of_state k old
+
+    memory : HostParts
+    memory = record (new.parts) { buffers = k.memory.buffers }
+
+    laundry : LaundryList
+    laundry = record { held = new.held; room = new.room }
+
+    declared : object.0 < named header
+    declared = elim (kind_cases header object.0) [
+      | inl less ↦ less
+      | inr temporary ↦ absurd (other ((e.runs.matches.kinds.kinds object.0 known found).temporary temporary).kind)
+    ]
+
+    goes : GoesToPager header base key known row memory laundry
+    goes = record {
+      declared = declared;
+      found = found;
+      live = live declared;
+      here = here;
+      wanted = wanted;
+      removes = changes_beside old.parts new.parts k c;
+      objects = objects;
+      absent = absent;
+      buffers = refl;
+      held = held;
+      room = room;
+    }
+
+    same : of_state k new ≡ record base { memory = memory; laundry = laundry }
+    same = λ i. record k { memory = memory; chains = chains i; laundry = laundry }
+page_leaves header h outside doing past k ids rest object known page row old new e found live first here chains (IsDropped why c objects held room events) =
     record {
       ends = subst (λ (z : List Event). EndsObject header h outside doing past (of_state k new) ids rest object.0 z) (sym events)
           (subst (λ (z : Parts). EndsObject header h outside doing past z ids rest object.0 (event.Dropped (host_id h) object page ∷ old.events)) (sym same)
-          (ends_lost header h outside doing past base ids rest key row memory old.events e first here beside objects refl));
+          (ends_lost header h outside doing past base ids rest key row memory old.events e first here clean beside objects refl));
       led = record { plays = plays_told events (lost_plays header h outside doing past base ids rest key row memory old.events e here beside); quiet = λ all. subst (EachOf RunsNone) (sym events) (tt, all) };
-      objects = objects;
+      found = ap (λ z. object_at z object.0) objects;
       gone = row_put old.parts.resident new.parts.resident object.0 page.0 None c.row;
       before = λ q none. elim (row_cases object.0 page.0 None old.parts.resident new.parts.resident c.row object.0 q) [ inl put ↦ put.is | inr apart ↦ apart.is ∙ none ];
     }
@@ -132,10 +200,19 @@ page_leaves header h outside doing past k ids rest object known page row old new
     memory = record (new.parts) { buffers = k.memory.buffers }
 
     beside : Discards key row base.memory memory
-    beside = changes_beside key row old.parts new.parts k c
+    beside = changes_beside old.parts new.parts k c
 
     same : of_state k new ≡ record base { memory = memory }
     same = λ i. record k { memory = memory; chains = chains i; laundry = record { held = held i; room = room i } }
+
+    m : Matches header h base ids rest (old.events ++ past)
+    m = e.runs.matches
+
+    clean : object.0 < named header → (row.dirty || row.precious) ≡ false
+    clean less = elim why [
+      | inl temporary ↦ absurd (declared_kind header object.0 m.ranged less (sym ((m.kinds.kinds object.0 known found).declared less).kind ∙ temporary))
+      | inr is ↦ is
+    ]
 
 -- all its pages have gone
 record IsBare (header : Header) (h : ℕ) (outside : Outside) (doing : Command) (past : List Event) (k : Parts) (ids : Ids) (rest : List Entry) (object : ObjectId) (known : ObjectRow) (old new : FinishState) : Type 0 where
@@ -145,17 +222,17 @@ record IsBare (header : Header) (h : ℕ) (outside : Outside) (doing : Command) 
   none : (p : ℕ) → row_at new.parts.resident object.0 p ≡ None
 
 pages_leave : (header : Header) (h : ℕ) (outside : Outside) (doing : Command) (past : List Event) (k : Parts) (ids : Ids) (rest : List Entry) (object : ObjectId) (known : ObjectRow) (from : ℕ) (old new : FinishState)
-    → EndsObject header h outside doing past (of_state k old) ids rest object.0 old.events → object_at old.parts.objects object.0 ≡ Some known → ((q : ℕ) → q < from → row_at old.parts.resident object.0 q ≡ None) → PagesLeave (host_id h) object known from old new
+    → EndsObject header h outside doing past (of_state k old) ids rest object.0 old.events → object_at old.parts.objects object.0 ≡ Some known → (object.0 < named header → known.live ≡ true) → ((q : ℕ) → q < from → row_at old.parts.resident object.0 q ≡ None) → PagesLeave (host_id h) object known from old new
     → IsBare header h outside doing past k ids rest object known old new
-pages_leave header h outside doing past k ids rest object known _ _ _ e found low (NoMore from s none) =
+pages_leave header h outside doing past k ids rest object known _ _ _ e found live low (NoMore from s none) =
     record { ends = e; led = led_none header past k s; found = found; none = λ p. by_test p (nat_lt p from) refl }
   where
     by_test : (p : ℕ) (b : Bool) → nat_lt p from ≡ b → row_at s.parts.resident object.0 p ≡ None
     by_test p true less = low p (grind (arith, nat_tests))
     by_test p false less = none p (grind (arith, nat_tests))
-pages_leave header h outside doing past k ids rest object known _ _ _ e found low (Next from page row old mid new le none there here chains leaves more) =
-    let less = page_leaves header h outside doing past k ids rest object known page row old mid e found (λ q below. first q below (nat_lt q from) refl) here chains leaves in
-    let all = pages_leave header h outside doing past k ids rest object known (suc page.0) mid new less.ends (ap (λ z. object_at z object.0) less.objects ∙ found) (λ q below. next less q below) more in
+pages_leave header h outside doing past k ids rest object known _ _ _ e found live low (Next from page row old mid new le none there here chains leaves more) =
+    let less = page_leaves header h outside doing past k ids rest object known page row old mid e found live (λ q below. first q below (nat_lt q from) refl) here chains leaves in
+    let all = pages_leave header h outside doing past k ids rest object known (suc page.0) mid new less.ends (less.found ∙ found) live (λ q below. next less q below) more in
     record { ends = all.ends; led = led_both header past k old mid new less.led all.led; found = all.found; none = all.none }
   where
     first : (q : ℕ) → q < page.0 → (b : Bool) → nat_lt q from ≡ b → row_at old.parts.resident object.0 q ≡ None
@@ -195,9 +272,9 @@ control_ends header h outside doing past k ids rest object known start old new b
 
 -- nothing is left of an object that ends but what stands under it
 ends_above : (header : Header) (h : ℕ) (outside : Outside) (doing : Command) (past : List Event) (k : Parts) (ids : Ids) (rest : List Entry) (object : ObjectId) (known : ObjectRow) (old bare quiet : FinishState) → EndsObject header h outside doing past (of_state k old) ids rest object.0 old.events → object_at old.parts.objects object.0 ≡ Some known
-    → PagesLeave (host_id h) object known 0 old bare → ControlEnds (host_id h) object known bare quiet → IsQuiet header h outside doing past k ids rest object old quiet
-ends_above header h outside doing past k ids rest object known old bare quiet e found pages control =
-    control_ends header h outside doing past k ids rest object known old bare quiet (pages_leave header h outside doing past k ids rest object known 0 old bare e found (λ q below. absurd (omega arith)) pages) control
+    → (object.0 < named header → known.live ≡ true) → PagesLeave (host_id h) object known 0 old bare → ControlEnds (host_id h) object known bare quiet → IsQuiet header h outside doing past k ids rest object old quiet
+ends_above header h outside doing past k ids rest object known old bare quiet e found live pages control =
+    control_ends header h outside doing past k ids rest object known old bare quiet (pages_leave header h outside doing past k ids rest object known 0 old bare e found live (λ q below. absurd (omega arith)) pages) control
 
 leaves_one : (header : Header) (h : ℕ) (outside : Outside) (doing : Command) (past : List Event) (k : Parts) (ids : Ids) (rest : List Entry) (object : ObjectId) (row : ShadowRow) (known : ObjectRow) (left : ℕ) (start old new : FinishState) → IsQuiet header h outside doing past k ids rest object start old → LosesUnder object row known left old new
     → LeavesOne (of_state k old) object.0 left row known new.chains new.parts.objects
@@ -214,53 +291,47 @@ pub record Swept (header : Header) (h : ℕ) (outside : Outside) (doing : Comman
   pub sweeps : Sweeps header h outside doing past (of_state k new) ids rest new.events
   pub led : Led header past k old new
 
-pub finished : (header : Header) (h : ℕ) (outside : Outside) (doing : Command) (past : List Event) (k : Parts) (ids : Ids) (rest : List Entry) (object : ObjectId) (old new : FinishState) → EndsObject header h outside doing past (of_state k old) ids rest object.0 old.events → Finishes (host_id h) object old new → Swept header h outside doing past k ids rest old new
-finished header h outside doing past k ids rest _ _ _ e (Alone object known old bare new found pages control alone) =
-    let quiet = ends_above header h outside doing past k ids rest object known old bare new e found pages control in
+-- the pager of a declared object knows it still, as it did while the region that goes was over it
+pub pager_knows : (header : Header) (h : ℕ) (outside : Outside) (doing : Command) (past : List Event) (k : Parts) (ids : Ids) (rest : List Entry) (r left : ℕ) (events : List Event) (object : ObjectId) (chains : ChainTable) (objects : ObjectTable) → EndsRegion header h outside doing past k ids rest r events
+    → LosesRegion k r left object chains objects → IsKnownToPager header objects object.0
+pager_knows header h outside doing past k ids rest r left events object chains objects e loses known found less =
+    let top = loses.row.top.0 in
+    let same : object.0 ≡ top = ap (λ (z : ObjectId). z.0) loses.top in
+    let one = loses.less in
+    let its = (e.runs.matches.kinds.kinds top loses.was loses.known).declared (omega (arith, same, less)) in
+    let now = known_put top (record (loses.was) { references = left }) k.memory.objects objects loses.put in
+    ap (λ z. z.live) (some_is known (record (loses.was) { references = left }) (sym found ∙ (ap (object_at objects) same ∙ now))) ∙ its.told (omega (arith, one))
+
+pub finished : (header : Header) (h : ℕ) (outside : Outside) (doing : Command) (past : List Event) (k : Parts) (ids : Ids) (rest : List Entry) (object : ObjectId) (old new : FinishState) → EndsObject header h outside doing past (of_state k old) ids rest object.0 old.events → IsKnownToPager header old.parts.objects object.0
+    → Finishes (host_id h) object old new → Swept header h outside doing past k ids rest old new
+finished header h outside doing past k ids rest _ _ _ e told (Alone object known old bare new found pages control alone) =
+    let quiet = ends_above header h outside doing past k ids rest object known old bare new e found (told known found) pages control in
     record {
       sweeps = record { runs = quiet.ends.runs; used = quiet.ends.used; referred = all_ended object.0 new.chains new.parts.objects new.parts.resident quiet.ends.referred quiet.dead quiet.none alone };
       led = quiet.led;
     }
-finished header h outside doing past k ids rest _ _ _ e (OverOne object known under row left old bare quiet new found pages control loses some) =
-    let above = ends_above header h outside doing past k ids rest object known old bare quiet e found pages control in
+finished header h outside doing past k ids rest _ _ _ e told (OverOne object known under row left old bare quiet new found pages control loses some) =
+    let above = ends_above header h outside doing past k ids rest object known old bare quiet e found (told known found) pages control in
     let leaves = leaves_one header h outside doing past k ids rest object row under left old quiet new above loses in
     subst (λ (z : FinishState). Swept header h outside doing past k ids rest old z) (sym loses.rest)
     (record { sweeps = sweeps_dropped header h outside doing past (of_state k quiet) ids rest object.0 left row under quiet.events new.chains new.parts.objects above.ends leaves some; led = record { plays = above.led.plays; quiet = above.led.quiet } })
-finished header h outside doing past k ids rest _ _ _ e (Downward object known under row old bare quiet next new found pages control loses more) =
-    let above = ends_above header h outside doing past k ids rest object known old bare quiet e found pages control in
+finished header h outside doing past k ids rest _ _ _ e told (Downward object known under row old bare quiet next new found pages control loses more) =
+    let above = ends_above header h outside doing past k ids rest object known old bare quiet e found (told known found) pages control in
     let leaves = leaves_one header h outside doing past k ids rest object row under 0 old quiet next above loses in
     let down : IsNext header h outside doing past k ids rest row.under.0 old next =
     subst (λ (z : FinishState). IsNext header h outside doing past k ids rest row.under.0 old z) (sym loses.rest)
     (record { ends = ends_dropped header h outside doing past (of_state k quiet) ids rest object.0 row under quiet.events next.chains next.parts.objects above.ends leaves; led = record { plays = above.led.plays; quiet = above.led.quiet } }) in
-    let all = finished header h outside doing past k ids rest row.under next new down.ends more in
+    let all = finished header h outside doing past k ids rest row.under next new down.ends (λ its found less. let least = above.ends.runs.matches.kinds.unders object.0 row loses.found in absurd (omega (arith, less, least))) more in
     record { sweeps = all.sweeps; led = led_both header past k old next new down.led all.led }
 
 -- buffers of the same size do as well
 sweeps_beside : (header : Header) (h : ℕ) (outside : Outside) (doing : Command) (past : List Event) (k : Parts) (ids : Ids) (rest : List Entry) (memory : HostParts) (events : List Event) → Sweeps header h outside doing past (record k { memory = record memory { buffers = k.memory.buffers } }) ids rest events → Fit memory → memory.buffers.size ≡ k.memory.buffers.size
     → Sweeps header h outside doing past (record k { memory = memory }) ids rest events
 sweeps_beside header h outside doing past k ids rest memory events s fit size =
-    let m = s.runs.matches in
     record {
       runs = record {
         begins = s.runs.begins;
-        matches = record {
-          plain = m.plain;
-          known = m.known;
-          size = m.size;
-          host = m.host;
-          fits = record { parts = fit; plain = m.fits.plain; buffers = size ∙ m.fits.buffers };
-          tasks = m.tasks;
-          regions = m.regions;
-          homes = m.homes;
-          entries = m.entries;
-          pages = m.pages;
-          uses = m.uses;
-          controls = m.controls;
-          homeless = m.homeless;
-          settled = m.settled;
-          laundry = m.laundry;
-          frames = m.frames;
-        };
+        matches = matches_with memory.queues memory.buffers k.waits fit size s.runs.matches;
         waits = s.runs.waits;
         order = s.runs.order;
         idle = s.runs.idle;
@@ -275,29 +346,24 @@ abbrev pub state_of : HostParts → ChainTable → LaundryList → List Event �
 state_of memory chains laundry events = record { parts = memory; chains = chains; held = laundry.held; room = laundry.room; events = events }
 
 swept_led : (header : Header) (h : ℕ) (outside : Outside) (doing : Command) (past : List Event) (k : Parts) (ids : Ids) (rest : List Entry) (object : ObjectId) (events after : List Event) (memory : HostParts) (chains : ChainTable) (laundry : LaundryList) → EndsObject header h outside doing past k ids rest object.0 events
-    → Finishes k.host object (state_of k.memory k.chains k.laundry events) (state_of memory chains laundry after) → Swept header h outside doing past k ids rest (state_of k.memory k.chains k.laundry events) (state_of memory chains laundry after)
-swept_led header h outside doing past k ids rest object events after memory chains laundry e is =
-    finished header h outside doing past k ids rest object (state_of k.memory k.chains k.laundry events) (state_of memory chains laundry after) e
+    → IsKnownToPager header k.memory.objects object.0 → Finishes k.host object (state_of k.memory k.chains k.laundry events) (state_of memory chains laundry after) → Swept header h outside doing past k ids rest (state_of k.memory k.chains k.laundry events) (state_of memory chains laundry after)
+swept_led header h outside doing past k ids rest object events after memory chains laundry e told is =
+    finished header h outside doing past k ids rest object (state_of k.memory k.chains k.laundry events) (state_of memory chains laundry after) e told
     (subst (λ (z : HostId). Finishes z object (state_of k.memory k.chains k.laundry events) (state_of memory chains laundry after)) (named_host k.host h e.runs.matches.host) is)
 
 -- an object has ended
 pub sweeps_finished : (header : Header) (h : ℕ) (outside : Outside) (doing : Command) (past : List Event) (k : Parts) (ids : Ids) (rest : List Entry) (object : ObjectId) (events after : List Event) (memory : HostParts) (chains : ChainTable) (laundry : LaundryList) → EndsObject header h outside doing past k ids rest object.0 events
-    → Finishes k.host object (state_of k.memory k.chains k.laundry events) (state_of memory chains laundry after) → Fit memory → memory.buffers.size ≡ k.memory.buffers.size
+    → IsKnownToPager header k.memory.objects object.0 → Finishes k.host object (state_of k.memory k.chains k.laundry events) (state_of memory chains laundry after) → Fit memory → memory.buffers.size ≡ k.memory.buffers.size
     → Sweeps header h outside doing past (record k { memory = memory; chains = chains; laundry = laundry }) ids rest after
-sweeps_finished header h outside doing past k ids rest object events after memory chains laundry e is fit size =
-    sweeps_beside header h outside doing past (record k { chains = chains; laundry = laundry }) ids rest memory after (swept_led header h outside doing past k ids rest object events after memory chains laundry e is).sweeps fit size
+sweeps_finished header h outside doing past k ids rest object events after memory chains laundry e told is fit size =
+    sweeps_beside header h outside doing past (record k { chains = chains; laundry = laundry }) ids rest memory after (swept_led header h outside doing past k ids rest object events after memory chains laundry e told is).sweeps fit size
 
 -- the lists of pages are as its events say
 pub plays_finished : (header : Header) (h : ℕ) (outside : Outside) (doing : Command) (past : List Event) (k : Parts) (ids : Ids) (rest : List Entry) (object : ObjectId) (events after : List Event) (memory : HostParts) (chains : ChainTable) (laundry : LaundryList) → EndsObject header h outside doing past k ids rest object.0 events
-    → Finishes k.host object (state_of k.memory k.chains k.laundry events) (state_of memory chains laundry after) → Plays header past events (paging k) after (paging (record k { memory = memory; chains = chains; laundry = laundry }))
-plays_finished header h outside doing past k ids rest object events after memory chains laundry e is = (swept_led header h outside doing past k ids rest object events after memory chains laundry e is).led.plays
+    → IsKnownToPager header k.memory.objects object.0 → Finishes k.host object (state_of k.memory k.chains k.laundry events) (state_of memory chains laundry after) → Plays header past events (paging k) after (paging (record k { memory = memory; chains = chains; laundry = laundry }))
+plays_finished header h outside doing past k ids rest object events after memory chains laundry e told is = (swept_led header h outside doing past k ids rest object events after memory chains laundry e told is).led.plays
 
 -- and no access was run
 pub quiet_finished : (header : Header) (h : ℕ) (outside : Outside) (doing : Command) (past : List Event) (k : Parts) (ids : Ids) (rest : List Entry) (object : ObjectId) (events after : List Event) (memory : HostParts) (chains : ChainTable) (laundry : LaundryList) → EndsObject header h outside doing past k ids rest object.0 events
-    → Finishes k.host object (state_of k.memory k.chains k.laundry events) (state_of memory chains laundry after) → QueueIsStill k.waits.queue k.waits.queue events after
-quiet_finished header h outside doing past k ids rest object events after memory chains laundry e is = record { queue = refl; none = (swept_led header h outside doing past k ids rest object events after memory chains laundry e is).led.quiet }
-
--- what follows from three facts where a call was Ok
-pub on_three : {A B : Type 0} (r : Result A B) (P Q R S : Type 0) → (P → Q → R → S) → OnOk r P → OnOk r Q → OnOk r R → OnOk r S
-on_three (Ok x) P Q R S f p q s = f p q s
-on_three (Err e) P Q R S f p q s = tt
+    → IsKnownToPager header k.memory.objects object.0 → Finishes k.host object (state_of k.memory k.chains k.laundry events) (state_of memory chains laundry after) → QueueIsStill k.waits.queue k.waits.queue events after
+quiet_finished header h outside doing past k ids rest object events after memory chains laundry e told is = record { queue = refl; none = (swept_led header h outside doing past k ids rest object events after memory chains laundry e told is).led.quiet }

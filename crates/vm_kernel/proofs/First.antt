@@ -1,5 +1,7 @@
 -- The kernel before anything has happened.
-use Rattle.vm_kernel.proofs.Common.{All, BeganInOrder, EachApart, Event, Header, Ids, IsPlain, IsStart, IsWashed, List, None, Parts, Rests, Some, Starts, TaskId, Waiting, [], absent_among, absent_at, all_tasks, ap, arith, begun_at, claimed, count_again, count_by, count_claims, entry, false, first_ids, frame_count, host_id, in_use, last_in, length, length-replicate, live_in, marked_below, marked_regions, named, nat_lt, nat_tests, none_of, object_among, object_at, refl, region_at, replicate, reverse, row_at, shadow_at, slice_get, subst, suc, sym, waiting_in, zero, ℕ, ◌<◌, ◌∙◌, ◌∷◌, ◌≡◌}
+use Rattle.vm_kernel.proofs.Common.{All, BeganInOrder, EachApart, Event, Header, Ids, IsRanged, IsStart, IsWashed, List, None, Parts, Rests, Some, Starts, TaskId, Waiting, [], absent_among, absent_at, all_tasks, away, ap, arith, begun_at, claimed, count_again, count_by, count_claims, entry, false, first_ids, frame_count, host_id, in_use, last_in, length, length-replicate, live_in, marked_below, marked_regions, named, nat_lt, nat_tests, none_of, not, object_among, object_at, refl, region_at, replicate, reverse, row_at, shadow_at, slice_get, subst, suc, sym, waiting_in, zero, ℕ, ◌<◌, ◌≤◌, ◌∙◌, ◌∷◌, ◌≡◌}
+use Rattle.std.proofs.Math.Bool.{and-false}
+use Rattle.vm_abroad.proofs.Home.{homes_start}
 use Rattle.vm_model.specs.declared.command.Command.TheVariants as command
 use Rattle.vm_model.specs.declared.event.Event.TheVariants as event
 use Rattle.vm_kernel.proofs.After.{Leaves, controls_after, homeless_after, regions_after}
@@ -10,34 +12,43 @@ no_claims : (n : ℕ) → count_claims (replicate n false) ≡ 0
 no_claims zero = refl
 no_claims (suc n) = no_claims n
 
--- no region is in use yet
-unused : (header : Header) (h : ℕ) (r : ℕ) → IsPlain header → in_use header h r [] ≡ nat_lt 0 (count_by all_tasks r (record { size = header.size; tasks = [] }))
-unused header h r plain =
-    let none : named header ≡ 0 = ap length plain.objects in
+-- no entry leads to a region yet
+no_entries : (size r : ℕ) → count_by all_tasks r (record { size = size; tasks = [] }) ≡ 0
+no_entries size r = by_none all_tasks r (record { size = size; tasks = [] }) (λ task. refl)
+
+-- no temporary region is in use yet
+unused : (header : Header) (h : ℕ) (r : ℕ) → named header ≤ r → in_use header h r [] ≡ nat_lt 0 (count_by all_tasks r (record { size = header.size; tasks = [] }))
+unused header h r temporary =
     let new : nat_lt r (named header) ≡ false = grind (arith, nat_tests) in
-    let nothing : count_by all_tasks r (record { size = header.size; tasks = [] }) ≡ 0 = by_none all_tasks r (record { size = header.size; tasks = [] }) (λ task. refl) in
+    let nothing = no_entries header.size r in
     rw (new, nothing) refl
 
-pub first_rests : (header : Header) (h : ℕ) (k : Parts) (count : ℕ) → IsPlain header → h < length header.frames.items → k.size ≡ header.size → k.host.0 ≡ h → slice_get (reverse header.frames.items) h ≡ Some count → IsStart count header.size k.memory
+-- no region is marked yet
+unmarked : (header : Header) (n : ℕ) → marked_below header n [] ≡ 0
+unmarked header zero = refl
+unmarked header (suc n) = unmarked header n
+
+pub first_rests : (header : Header) (h : ℕ) (k : Parts) (count : ℕ) → IsRanged header → h < length header.frames.items → k.size ≡ header.size → k.host.0 ≡ h → k.declared ≡ named header → slice_get (reverse header.frames.items) h ≡ Some count → IsStart count header.size k.memory
     → k.maps ≡ record { size = header.size; tasks = [] } → ((r : ℕ) → region_at k.chains r ≡ None) → ((o : ℕ) → shadow_at k.chains o ≡ None) → k.laundry.held ≡ [] → k.laundry.room ≡ count → k.waits.rows ≡ []
-    → Rests header h k first_ids []
-first_rests header h k count plain known size host hosts start maps regions shadows held room waits =
+    → Rests header h k (first_ids header) []
+first_rests header h k count ranged known size host declared hosts start maps regions shadows held room waits =
     let frames = start.frames_are in
     let rows = start.rows in
     let claims : k.memory.frames.claims ≡ replicate count false = ap (λ z. z.claims) frames in
     let counted : frame_count k.memory.frames ≡ count = ap length claims ∙ length-replicate count false in
     let nothing : claimed k.memory.frames ≡ 0 = ap count_claims claims ∙ no_claims count in
-    let declared : length header.objects.items ≡ 0 = ap length plain.objects in
-    let no_marks : marked_regions header [] ≡ 0 = ap (λ n. marked_below header n []) declared in
+    let no_marks : marked_regions header [] ≡ 0 = unmarked header (named header) in
+    let few = ranged.objects in
     let objects : (o : ℕ) → object_at k.memory.objects o ≡ None = λ o. ap (object_among o) start.objects in
     let marks : (o p : ℕ) → absent_at k.memory.objects o p ≡ false = λ o p. ap (absent_among o p) start.objects in
     record {
       matches =
           record {
-            plain = plain;
+            ranged = ranged;
             known = known;
             size = size;
             host = host;
+            declared = declared;
             fits =
                 record {
                   parts = start.fit;
@@ -47,10 +58,10 @@ first_rests header h k count plain known size host hosts start maps regions shad
             tasks = rw maps (record { sized = refl; hosts = λ task. refl; rows = λ task here. refl });
             regions =
                 record {
-                  region = sym declared;
-                  object = sym declared;
+                  region = refl;
+                  object = refl;
                   marks = sym no_marks;
-                  few = omega (arith, declared, no_marks);
+                  few = omega (arith, few, no_marks);
                   rows = λ r row is. none_of (region_at k.chains r) row (regions r) is;
                   shadows = λ o row is. none_of (shadow_at k.chains o) row (shadows o) is;
                   bottoms = λ o referred none. refl;
@@ -60,12 +71,19 @@ first_rests header h k count plain known size host hosts start maps regions shad
                   unders = λ o row is. none_of (shadow_at k.chains o) row (shadows o) is;
                   older = λ o row is. none_of (shadow_at k.chains o) row (shadows o) is;
                   fits = record { tops = λ r row is. none_of (region_at k.chains r) row (regions r) is; unders = λ o row is. none_of (shadow_at k.chains o) row (shadows o) is };
-                  temporary = λ o row is. none_of (object_at k.memory.objects o) row (objects o) is;
                   counts = λ o row is. none_of (object_at k.memory.objects o) row (objects o) is;
                 };
+            kinds =
+                record {
+                  kinds = λ o row is. none_of (object_at k.memory.objects o) row (objects o) is;
+                  present = λ o p less. marks o p;
+                  tops = λ r row least is. none_of (region_at k.chains r) row (regions r) is;
+                  unders = λ o row is. none_of (shadow_at k.chains o) row (shadows o) is;
+                };
+            shared = rw maps (λ task. tt);
             entries = rw maps (record { inside = λ task. tt; known = tt; most = λ task le. refl; few = λ task. omega arith; counts = λ r row is. none_of (region_at k.chains r) row (regions r) is });
-            pages = record { shown = λ o p. rw (rows o p, marks o p) refl };
-            uses = rw maps (record { used = λ r. unused header h r plain; among = λ task rows is. none_of None rows refl is; apart = λ task r none why. refl });
+            pages = record { shown = λ o p. rw (rows o p, marks o p) (ap (λ z. record away { absent = z }) (and-false (not (nat_lt o (named header))))) };
+            uses = rw maps (record { used = unused header h; files = λ r file some. let nothing = no_entries header.size r in absurd (omega (arith, some, nothing)); among = λ task rows is. none_of None rows refl is; apart = λ task r none why. refl });
             controls =
                 record {
                   last = λ o. sym (ap last_in (objects o));
@@ -74,10 +92,10 @@ first_rests header h k count plain known size host hosts start maps regions shad
                   all_live = record { at = λ o row is. none_of (object_at k.memory.objects o) row (objects o) is };
                   numbers = record { at = λ o row is. none_of (object_at k.memory.objects o) row (objects o) is };
                   ended = λ o row is. none_of (object_at k.memory.objects o) row (objects o) is;
-                  home = λ o row is. none_of (object_at k.memory.objects o) row (objects o) is;
+                  home = λ o row least is. none_of (object_at k.memory.objects o) row (objects o) is;
                 };
-            homeless = record { regions = λ r le. refl; objects = λ o le. refl; stay = λ g h r temporary used home. none_of None h refl home };
-            homes = λ r row is. none_of (region_at k.chains r) row (regions r) is;
+            homeless = homes_start header;
+            homes = λ r row paged is. none_of (region_at k.chains r) row (regions r) is;
             settled = record { returned = refl; shut = λ region. refl };
             laundry =
                 record {
@@ -112,11 +130,14 @@ first_rests header h k count plain known size host hosts start maps regions shad
 pub rests_line : (header : Header) (h : ℕ) (k : Parts) (ids : Ids) (line : ℕ) (past : List Event) → Rests header h k ids past → Rests header h k ids (event.Line line ∷ past)
 rests_line header h k ids line past rests =
     let m = rests.matches in
-    let leaves : Leaves header past (event.Line line ∷ past) = record { regions_made = refl; objects_made = refl; region = λ r. refl; backing = λ o. refl; home = λ r. refl; made_for = λ o. refl; used = λ g r. refl } in
+    let leaves : Leaves header past (event.Line line ∷ past) = record { regions_made = refl; objects_made = refl; region = λ r. refl; backing = λ o. refl; home = λ r. refl; made_for = λ o. refl; used = λ g r. refl; target = λ task. refl } in
     record {
       matches =
           record {
-            plain = m.plain;
+            ranged = m.ranged;
+            declared = m.declared;
+            kinds = m.kinds;
+            shared = m.shared;
             known = m.known;
             size = m.size;
             host = m.host;
@@ -144,5 +165,5 @@ rests_line header h k ids line past rests =
 pub may_make : (header : Header) (h : ℕ) (given : Header) (past : List Event) (task : TaskId) (line : ℕ) (k : Parts) (ids : Ids) → given ≡ header → past ≡ event.Line line ∷ [] → Rests header h k ids [] → task.0 < 1024 → Starts given h (command.Task task (host_id h)) past k ids []
 may_make header h given past task line k ids same is rests below =
     let starts : Starts header h (command.Task task (host_id h)) (event.Line line ∷ []) k ids [] =
-    record { rests = rests_line header h k ids line [] rests; acts = own_host h; range = (below, rests.matches.known); accepted = refl; begins = record { line = line; before = []; is = refl }; nothing = refl } in
+    record { rests = rests_line header h k ids line [] rests; acts = own_host h; range = (below, rests.matches.known); accepted = refl; built = refl; begins = record { line = line; before = []; is = refl }; nothing = refl } in
     subst (λ (z : Header). Starts z h (command.Task task (host_id h)) past k ids []) (sym same) (subst (λ (z : List Event). Starts header h (command.Task task (host_id h)) z k ids []) (sym is) starts)

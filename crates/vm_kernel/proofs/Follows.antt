@@ -1,8 +1,8 @@
 -- The causes of what an access does: in the history in front of it stands what its event wants.
-use Rattle.vm_kernel.proofs.Common.{Command, Comes, Event, Header, Ids, IsAt, IsPlain, List, Matches, ObjectId, ObjectRow, Outside, PageKey, PageRow, Parts, Some, Suffice, TaskId, Up, Waits, Want, [], access_in, address_in, ap, arith, desired_access, entries_of, entry_at, false, host_id, if◌then◌else◌, inl, inr, is_store, little_endian, lock_number, named, nat_tests, number_at, page_at, page_in, page_of, refl, region_of, slice_range, subst, suc, sym, true, unlocked, zero, ℕ, ◌%◌, ◌+◌, ◌==◌, ◌∙◌, ◌∷◌, ◌≡◌, ◌≤◌}
+use Rattle.vm_kernel.proofs.Common.{Command, Comes, Event, Header, Ids, IsAt, List, Matches, ObjectId, ObjectRow, Outside, PageKey, PageRow, Parts, Some, Suffice, TaskId, Up, Waits, Want, [], access_in, address_in, ap, arith, desired_access, entries_of, entry_at, false, host_id, if◌then◌else◌, inl, inr, is_store, little_endian, lock_number, named, nat_tests, number_at, page_at, page_in, page_of, refl, region_of, slice_range, subst, suc, sym, true, unlocked, zero, ℕ, ◌%◌, ◌+◌, ◌==◌, ◌∙◌, ◌∷◌, ◌≡◌, ◌≤◌}
 use Rattle.vm_fault.specs.Walks.{Finds, MayCome, Sinks, WalksTo, is_storing, wanted_number}
 use Rattle.vm_kernel.proofs.Growing.{Follows}
-use Rattle.vm_kernel.proofs.Leading.{Leads, it_waits, none_named, storing_is, top_at}
+use Rattle.vm_kernel.proofs.Leading.{Leads, it_waits, storing_is, top_at}
 use Rattle.vm_kernel.proofs.Mine.{own_lives, own_named}
 use Rattle.vm_legal.specs.Walks.{IsTop}
 use Rattle.vm_model.specs.Regions.{Region}
@@ -10,6 +10,8 @@ use Rattle.vm_model.specs.Waiting.{Loading, Storing}
 use Rattle.vm_model.specs.declared.event.Event.TheVariants as event
 use Rattle.vm_model.specs.declared.message.Message.TheVariants as message
 use Rattle.vm_objects.specs.declared.row.PagerState.TheVariants as state
+use Rattle.vm_kernel.proofs.Uses.{paged_temporary}
+use Rattle.vm_state.proofs.Declared.{marked_temporary}
 use Rattle.vm_state.proofs.Shown.{IsShown, may_ask, shows_row}
 use Rattle.vm_state.proofs.Walks.{sinks_of, walks_of}
 use Rattle.vm_waits.specs.declared.waiting.Want.TheVariants as want
@@ -70,18 +72,15 @@ shadowed_follows header h outside doing past k ids task what top at object addre
       frames = frames;
       inner = tt;
       said = tt;
-      own = λ g used. m.homeless.stay g h r (below (named header) r (none_named header m.plain)) used (m.homes r at.row at.region);
+      own = λ g used. m.homeless.stay g h r used (m.homes r at.row (paged_temporary header r (marked_temporary m.regions m.homeless r at.row at.region marked)) at.region);
       creates = tt;
     }
-  where
-    below : (n r : ℕ) → n ≡ 0 → n ≤ r
-    below n r none = omega (arith, none)
 
 -- a page of zeros comes
-pub zeroed_follows : (header : Header) (h : ℕ) (outside : Outside) (doing : Command) (past : List Event) (k : Parts) (task : ℕ) (what : Want) (top : PageKey) (at : IsAt k.maps k.chains task what top) → IsPlain header → Leads header h past k task what top at
+pub zeroed_follows : (header : Header) (h : ℕ) (outside : Outside) (doing : Command) (past : List Event) (k : Parts) (task : ℕ) (what : Want) (top : PageKey) (at : IsAt k.maps k.chains task what top) → named header ≤ top.object.0 → Leads header h past k task what top at
     → IsShown header h k.memory k.chains past → (is_storing what ≡ true → at.row.marked ≡ false) → Sinks k.memory k.chains top → Suffice header h (event.Zeroed (host_id h) top.object top.page ∷ past)
     → Follows header h outside doing (event.Zeroed (host_id h) top.object top.page) past
-zeroed_follows header h outside doing past k task what top at plain to s clear sinks frames =
+zeroed_follows header h outside doing past k task what top at temporary to s clear sinks frames =
     record {
       consequence = tt;
       cause = inr (record {
@@ -89,7 +88,7 @@ zeroed_follows header h outside doing past k task what top at plain to s clear s
         access = access_in what;
         waits = it_waits header h past k task what top at to;
         on_host = refl;
-        temporary = let none = none_named header plain in omega (arith, none);
+        temporary = temporary;
         unmarked = unmarked_of header h past k task what top at to clear;
         is_top = top_at header h past k task what top at to;
         steps = sinks.steps;

@@ -1,7 +1,10 @@
 -- There is room for the frames of all pages that are here: each stands on the lists once, and none of them is held by a return.
-use Rattle.vm_kernel.proofs.Common.{Bool, EachApart, Fit, FrameNo, FrameTable, HasLaundry, HostParts, LaundryList, List, None, Option, Page, PageKey, ResidentTable, Some, [], ap, arith, claimed, eqb_tells, false, frame_count, has_page, inl, inr, is_claimed, is_queued, is_skipped, length, length-append, owner_of, refl, sym, true, ℕ, ◌++◌, ◌+◌, ◌==◌, ◌||◌, ◌∙◌, ◌∷◌, ◌≡◌, ◌≤◌}
+use Rattle.vm_kernel.proofs.Common.{Bool, EachApart, Fit, FrameNo, FrameTable, HasLaundry, HostParts, LaundryList, List, None, Option, Page, PageKey, ResidentTable, Some, [], ap, arith, claimed, false, frame_count, has_page, is_claimed, is_queued, is_skipped, length, length-append, owner_of, refl, sym, true, ℕ, ◌++◌, ◌+◌, ◌==◌, ◌||◌, ◌∙◌, ◌∷◌, ◌≡◌, ◌≤◌}
 use Rattle.vm_queues.specs.Queues.{EachOnce}
 use Rattle.vm_kernel.proofs.Washing.{each_counted, unheld, washed_at}
+use Rattle.std.proofs.lemmas.Bool.{or_from, or_left, or_right}
+use Rattle.std.proofs.Math.Bool.{or_assoc}
+use Rattle.vm_kernel.proofs.Pages.{itself}
 
 -- the frames of pages, and some behind them
 abbrev frames_of : List Page → List FrameNo → List FrameNo
@@ -10,35 +13,18 @@ frames_of (page ∷ pages) held = record { 0 = page.frame } ∷ frames_of pages 
 
 skipped_of : (pages : List Page) (held : List FrameNo) (g : ℕ) → is_skipped (frames_of pages held) g ≡ (has_page pages g || is_skipped held g)
 skipped_of [] held g = refl
-skipped_of (page ∷ pages) held g = ap (λ b. (page.frame == g) || b) (skipped_of pages held g) ∙ either (page.frame == g) (has_page pages g) (is_skipped held g)
-  where
-    either : (a b c : Bool) → (a || (b || c)) ≡ ((a || b) || c)
-    either true b c = refl
-    either false b c = refl
+skipped_of (page ∷ pages) held g = ap (λ b. (page.frame == g) || b) (skipped_of pages held g) ∙ sym (or_assoc (page.frame == g) (has_page pages g) (is_skipped held g))
 
 length_of : (pages : List Page) (held : List FrameNo) → length (frames_of pages held) ≡ length pages + length held
 length_of [] held = omega arith
 length_of (page ∷ pages) held = omega (arith, length_of pages held)
 
-both_none : (a b : Bool) → a ≡ false → b ≡ false → (a || b) ≡ false
-both_none a b x y = rw x y
-
-first : (a b : Bool) → a ≡ true → (a || b) ≡ true
-first a b is = rw is refl
-
-second : (a b : Bool) → b ≡ true → (a || b) ≡ true
-second true b is = refl
-second false b is = is
-
 apart_of : (pages : List Page) (held : List FrameNo) → ((g : ℕ) → has_page pages g ≡ true → is_skipped held g ≡ false) → EachOnce pages → EachApart held → EachApart (frames_of pages held)
 apart_of [] held other once apart = apart
 apart_of (page ∷ pages) held other once apart = (
-  skipped_of pages held page.frame ∙ both_none (has_page pages page.frame) (is_skipped held page.frame) once.0 (other page.frame (first (page.frame == page.frame) (has_page pages page.frame) (itself page.frame))),
-  apart_of pages held (λ g there. other g (second (page.frame == g) (has_page pages g) there)) once.1 apart,
+  skipped_of pages held page.frame ∙ or_from (has_page pages page.frame) (is_skipped held page.frame) once.0 (other page.frame (or_left (page.frame == page.frame) (has_page pages page.frame) (itself page.frame))),
+  apart_of pages held (λ g there. other g (or_right (page.frame == g) (has_page pages g) there)) once.1 apart,
 )
-  where
-    itself : (n : ℕ) → (n == n) ≡ true
-    itself n = elim (eqb_tells n n) [ inl same ↦ same.0 | inr apart ↦ absurd (apart.1 refl) ]
 
 -- the frame of a page that is here is claimed, and leads to a page
 record IsHeldByPage (fs : FrameTable) (rs : ResidentTable) (g : ℕ) : Type 0 where

@@ -2,8 +2,10 @@
 use Rattle.vm_kernel.proofs.Common.{All, Bool, EachApart, Event, FrameNo, FrameTable, HasFrames, HasLaundry, HasPages, Header, Ids, IsLaundered, IsWashed, LaundryList, List, Local, ObjectId, ObjectTable, Option, PageNo, Parts, Releases, ResidentTable, Rests, Some, Up, [], ap, arith, eqb_tells, false, fit_released, frame_count, frames_held, frames_wired, get_or, host_id, inl, inr, is_claimed, is_skipped, length, length-set, local, mark_there, one_case, place_of, refl, returns_out, reverse, set, set_cases, slice_get, subst, suc, sym, true, zero, ℕ, ◌++◌, ◌+◌, ◌-◌, ◌<◌, ◌∙◌, ◌∷◌, ◌≡◌}
 use Rattle.vm_model.specs.declared.event.Event.TheVariants as event
 use Rattle.vm_model.specs.declared.message.Message.TheVariants as message
+use Rattle.vm_state.specs.Places.{known_local}
 use Rattle.vm_kernel.proofs.After.{Leaves, controls_after, homeless_after, regions_after}
 use Rattle.vm_kernel.proofs.Own.{own_host}
+use Rattle.vm_state.specs.Places.{known_local}
 
 -- no frame of the list is this one
 list_apart : (list : List FrameNo) (f : ℕ) → is_skipped list f ≡ false → (i : ℕ) (d : FrameNo) → i < length list → (get_or list i d).0 ≡ f → ⊥
@@ -68,12 +70,15 @@ rests_taken : (header : Header) (h : ℕ) (k : Parts) (ids : Ids) (past : List E
     → Rests header h (record k { memory = record k.memory { frames = fs }; laundry = laundry }) ids (event.Taken (Up (host_id h) object) (message.Return control page dirty false bytes) ∷ past)
 rests_taken header h k ids past object control page dirty bytes f fs laundry rests held room releases =
     let was = rests.matches in
-    let leaves : Leaves header past (event.Taken (Up (host_id h) object) (message.Return control page dirty false bytes) ∷ past) = record { regions_made = refl; objects_made = refl; region = λ r. refl; backing = λ o. refl; home = λ r. refl; made_for = λ o. refl; used = λ g r. refl } in
+    let leaves : Leaves header past (event.Taken (Up (host_id h) object) (message.Return control page dirty false bytes) ∷ past) = record { regions_made = refl; objects_made = refl; region = λ r. refl; backing = λ o. refl; home = λ r. refl; made_for = λ o. refl; used = λ g r. refl; target = λ task. refl } in
     let washed = washed_first k.memory.frames k.memory.resident k.laundry (returns_out h past) f laundry.held was.laundry held in
     record {
       matches =
           record {
-            plain = was.plain;
+            ranged = was.ranged;
+            declared = was.declared;
+            kinds = was.kinds;
+            shared = was.shared;
             known = was.known;
             size = was.size;
             host = was.host;
@@ -81,7 +86,7 @@ rests_taken header h k ids past object control page dirty bytes f fs laundry res
             tasks = was.tasks;
             regions = regions_after leaves was.regions;
             entries = was.entries;
-            pages = pages_same k.memory.frames fs k.memory.resident k.memory.objects (λ o p. local header.size h (place_of o p) past) f.0 was.pages releases;
+            pages = pages_same k.memory.frames fs k.memory.resident k.memory.objects (λ o p. known_local header o p (local header.size h (place_of o p) past)) f.0 was.pages releases;
             uses = was.uses;
             controls = controls_after leaves was.controls;
             homeless = homeless_after leaves was.homeless;

@@ -1,5 +1,5 @@
 -- Where a waiting access leads: its entry, its region, and the top place of its page; and that it can be run.
-use Rattle.vm_kernel.proofs.Common.{ChainTable, Entry, Event, FoundRow, HasWaits, Header, Ids, IsAt, IsInside, IsPlain, IsTop, List, Matches, PageKey, Parts, RegionRow, Some, Waiting, Waits, Want, Woken, Works, [], access_in, address_in, address_of, ap, arith, entries_of, entry, entry_at, found_row, has_region, host_of, is_some, is_store, length, named, next_page, page_at, page_of, pages_in, refl, region_at, region_of, region_pages, rows_in, subst, sym, true, waiting, waiting_in, ℕ, ◌<◌, ◌^◌, ◌∙◌, ◌≡◌, ◌≤◌}
+use Rattle.vm_kernel.proofs.Common.{ChainTable, Entry, Event, FoundRow, HasWaits, Header, Ids, IsAt, IsInside, IsPlain, IsTop, List, Matches, PageKey, Parts, RegionRow, Some, Waiting, Waits, Want, Woken, Works, [], access_in, address_in, ap, arith, entries_of, entry, entry_at, found_row, has_region, host_of, is_some, is_store, length, named, next_page, page_at, page_of, pages_in, refl, region_at, region_of, region_pages, rows_in, subst, sym, true, waiting, waiting_in, ℕ, ◌<◌, ◌^◌, ◌∙◌, ◌≡◌, ◌≤◌}
 use Rattle.std.specs.Prelude.{◌-◌}
 use Rattle.vm_fault.specs.Faults.{CanFault}
 use Rattle.vm_fault.specs.Sources.{CanWalk}
@@ -9,11 +9,11 @@ use Rattle.vm_kernel.proofs.Regions.{region_row}
 use Rattle.vm_model.specs.Regions.{Region}
 use Rattle.vm_shadow.specs.Chains.{ObjectsBelow}
 use Rattle.vm_state.proofs.Marks.{marked_some}
-use Rattle.vm_state.proofs.Referring.{objects_below, refers_region, refers_shadow, small_region}
-use Rattle.vm_state.proofs.Shown.{IsShown}
+use Rattle.vm_state.proofs.Referring.{objects_below, refers_region, small_region}
 use Rattle.vm_state.proofs.Walks.{top_of}
 use Rattle.vm_terminate.specs.Finishes.{IsReferred}
 use Rattle.vm_waits.specs.declared.waiting.Want.TheVariants as want
+use Rattle.vm_kernel.proofs.Shown.{shown_at, want_address}
 
 pub region_is : (cs : ChainTable) (r : ℕ) (row : RegionRow) → region_at cs r ≡ Some row → has_region cs r ≡ true
 region_is cs r row is = ap is_some is
@@ -26,25 +26,6 @@ none_named header plain = ap length plain.objects
 pub inside_of : (header : Header) (h : ℕ) (k : Parts) (ids : Ids) (past : List Event) (lost : List Entry) (task address : ℕ) (entry : Entry) → Matches header h k ids lost past → entry_at address (rows_in task k.maps) ≡ Some entry
     → FoundRow (IsInside header.size k.chains) address entry
 inside_of header h k ids past lost task address entry m found = found_row (IsInside header.size k.chains) address (rows_in task k.maps) entry (m.entries.inside task) found
-
--- what the rows of the kernel say of pages and chains, the history says too
-pub shown_at : (header : Header) (h : ℕ) (k : Parts) (ids : Ids) (past : List Event) (lost : List Entry) → Matches header h k ids lost past → IsShown header h k.memory k.chains past
-shown_at header h k ids past lost m =
-    record {
-      declared = none_named header m.plain;
-      pages = m.pages;
-      live = m.controls.live;
-      ready = m.controls.ready;
-      temporary = m.regions.temporary;
-      rows = m.regions.rows;
-      shadows = m.regions.shadows;
-      bottoms = m.regions.bottoms;
-      under_referred = λ o row found. refers_shadow m.regions o row found;
-      top_referred = λ r row found. refers_region m.regions r row found;
-    }
-
-pub shown_of : (header : Header) (h : ℕ) (past : List Event) (k : Parts) (ids : Ids) (who : Woken) → Works header h k ids who past → IsShown header h k.memory k.chains past
-shown_of header h past k ids who works = shown_at header h k ids past [] works.matches
 
 -- an access that waits can be followed down its chain
 pub can_walk : (header : Header) (h : ℕ) (past : List Event) (k : Parts) (ids : Ids) (who : Woken) (task : ℕ) (w : Waiting) → Matches header h k ids [] past → HasWaits k who past → entry k.waits.rows task ≡ Some w
@@ -98,11 +79,6 @@ can_fault header h past k ids who w events works is =
     below_last : (n : ℕ) → n ≤ 8192 → n < 2 ^ 32 - 1
     below_last n less = omega arith
 
--- the address of an access is its own, since none is a slow copy
-pub address_is : (size next : ℕ) (what : Want) → address_of size next (access_in what) ≡ address_in what
-address_is size next (want.Load address n) = refl
-address_is size next (want.Store address n value) = refl
-
 -- it stores as the history has it
 pub storing_is : (what : Want) → is_store (access_in what) ≡ is_storing what
 storing_is (want.Load address n) = refl
@@ -122,7 +98,7 @@ pub leads_of : (header : Header) (h : ℕ) (k : Parts) (ids : Ids) (past : List 
 leads_of header h k ids past who task w top m waits is at =
     let r = at.entry.region.0 in
     let address = address_in w.want in
-    let s = shown_at header h k ids past [] m in
+    let s = shown_at m in
     let sized : top ≡ top_place at.row (page_at header.size address at.entry) = at.is ∙ ap (λ z. top_place at.row (page_at z address at.entry)) m.tasks.sized in
     record {
       lives = lives_here m.tasks (waits.allowed task w is).lives;
@@ -142,11 +118,11 @@ it_waits header h past k task what top at to =
         host = h;
         entry = at.entry;
         lives = to.lives;
-        found = ap (λ z. entry_at z (entries_of header.size task past)) (address_is header.size (next_page task past) what) ∙ to.found;
+        found = ap (λ z. entry_at z (entries_of header.size task past)) (want_address header.size (next_page task past) what) ∙ to.found;
       };
     }
 
 pub top_at : (header : Header) (h : ℕ) (past : List Event) (k : Parts) (task : ℕ) (what : Want) (top : PageKey) (at : IsAt k.maps k.chains task what top) → (to : Leads header h past k task what top at)
     → IsTop (region_of header at.entry.region.0 past) (page_of header task (access_in what) past at.entry) top.object.0 top.page.0
 top_at header h past k task what top at to =
-    subst (λ (z : ℕ). IsTop (region_of header at.entry.region.0 past) (page_at header.size z at.entry) top.object.0 top.page.0) (sym (address_is header.size (next_page task past) what)) to.is_top
+    subst (λ (z : ℕ). IsTop (region_of header at.entry.region.0 past) (page_at header.size z at.entry) top.object.0 top.page.0) (sym (want_address header.size (next_page task past) what)) to.is_top

@@ -6,7 +6,6 @@ pub mod Answers
 pub mod Asking
 pub mod Attempting
 pub mod Beginning
-pub mod Behind
 pub mod Brings
 pub mod Built
 pub mod Changing
@@ -26,8 +25,10 @@ pub mod Follows
 pub mod Forks
 pub mod Growing
 pub mod Heads
+pub mod Heard
 pub mod Hearing
 pub mod Holding
+pub mod Known
 pub mod Laundering
 pub mod Leading
 pub mod Losing
@@ -39,6 +40,7 @@ pub mod Pageout
 pub mod Pages
 pub mod Playing
 pub mod Prompting
+pub mod Ranged
 pub mod Ranges
 pub mod Reclaims
 pub mod Recounts
@@ -51,6 +53,7 @@ pub mod Rows
 pub mod Served
 pub mod Shadows
 pub mod Shares
+pub mod Sharing
 pub mod Shown
 pub mod Sources
 pub mod Stopping
@@ -59,6 +62,8 @@ pub mod Supplying
 pub mod Tasks
 pub mod Terminating
 pub mod Turning
+pub mod Uncopied
+pub mod Untold
 pub mod Uses
 pub mod Washing
 pub mod Wires

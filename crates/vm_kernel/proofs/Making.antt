@@ -1,5 +1,11 @@
 -- A task is made: it doesn't wait, and who waits goes on waiting; and an object is made, which has no control yet.
-use Rattle.vm_kernel.proofs.Common.{Access, Bool, ChainTable, ChangesOnly, Event, HasControls, HasWaiters, Header, HostId, Ids, List, Mapped, None, ObjectRow, ObjectTable, Option, Outside, Parts, PutsObject, Ran, ResidentTable, Some, Starts, TaskId, Temp, Waiting, Without, Woken, [], ap, arith, entries_in, entry, eqb_tells, false, holds, host_id, inl, inr, is_some, last_in, live_in, next_region, object_at, one_case, ready_in, refl, rows_in, some_is, subst, sym, tasks, true, waiting, waiting_in, ℕ, ◌∙◌, ◌∷◌, ◌≡◌}
+use Rattle.vm_kernel.proofs.Common.{Access, Bool, ChainTable, ChangesOnly, Event, HasControls, HasWaiters, Header, HostId, Ids, List, Mapped, None, ObjectRow, ObjectTable, Option, Outside, Parts, PutsObject, Ran, ResidentTable, Rests, Some, Starts, TaskId, Temp, Waiting, Without, Woken, [], ap, arith, entries_in, entry, eqb_tells, false, holds, host_id, inl, inr, is_some, last_in, live_in, next_region, object_at, one_case, ready_in, refl, rows_in, some_is, subst, sym, tasks, true, waiting, waiting_in, ℕ, ◌∙◌, ◌∷◌, ◌≡◌, ◌<◌}
+use Rattle.std.proofs.lemmas.Bool.Decides.{eqb_tells}
+use Rattle.std.specs.Prelude.{unwrap_or}
+use Rattle.vm_base.specs.declared.entry.Entry.{Entry}
+use Rattle.vm_model.specs.Rows.{AllRows}
+use Rattle.vm_maps.specs.Maps.{entries_in}
+use Rattle.vm_state.specs.Stands.{AreShared, IsShared}
 use Rattle.vm_model.specs.declared.event.Event.TheVariants as event
 use Rattle.vm_model.specs.declared.command.Command.TheVariants as command
 use Rattle.vm_kernel.proofs.After.{Leaves, controls_after, homeless_after, regions_after}
@@ -42,31 +48,35 @@ waits_made maps new cs rs os rows who task host past has free changes =
 pub holds_made : (size : ℕ) (task : TaskId) (host : HostId) (past : List Event) (t r : ℕ) → (task.0 ≡ t → ⊥) → holds size t r (event.TaskMade task host ∷ past) ≡ holds size t r past
 holds_made size task host past t r apart = elim (eqb_tells task.0 t) [ inl same ↦ absurd (apart same.1) | inr other ↦ rw other.0 refl ]
 
-pub ran_task : (header : Header) (h : ℕ) (outside : Outside) (task : TaskId) (past : List Event) (k : Parts) (ids : Ids) (before after : List Event) (maps : Mapped) → Starts header h (command.Task task (host_id h)) past k ids before
-    → ChangesOnly k.maps maps task.0 (Some []) → after ≡ event.TaskMade task k.host ∷ before → Ran header h outside (command.Task task (host_id h)) past (record k { maps = maps }) ids after
-ran_task header h outside task past k ids before after maps s changes told =
-    let m = s.rests.matches in
-    let e : Event = event.TaskMade task (host_id h) in
-    let free = can_make header h task past k ids before s in
-    let leaves : Leaves header past (e ∷ past) = record { regions_made = refl; objects_made = refl; region = λ r. refl; backing = λ o. refl; home = λ r. refl; made_for = λ o. refl; used = λ g r. refl } in
-    let log : after ≡ e ∷ [] = told ∙ (ap (λ z. event.TaskMade task z ∷ before) (named_host k.host h m.host) ∙ ap (λ z. e ∷ z) s.nothing) in
-    subst (λ (z : List Event). Ran header h outside (command.Task task (host_id h)) past (record k { maps = maps }) ids z) (sym log)
-    (ran_head header h outside (command.Task task (host_id h)) past (record k { maps = maps }) ids (e ∷ []) (e ∷ []) refl refl
-    (heads_one header h outside (command.Task task (host_id h)) past e (record { settled = m.settled; cause = tt; own_bytes = tt; frames = suffices header h k.memory.frames past m.frames; inner = tt; said = refl; own = own_new h task.0 past (unmade header h task past k ids before s); creates = tt }))
-    tt
-    (record {
+-- a task without entries has none on a declared region
+shared_made : (declared : ℕ) (maps new : Mapped) (task : ℕ) → AreShared declared maps → ChangesOnly maps new task (Some []) → AreShared declared new
+shared_made declared maps new task shared changes t = elim (eqb_tells task t) [
+  | inl same ↦ subst (λ (z : Option (List Entry)). AllRows (IsShared declared) (unwrap_or z [])) (sym changes.changed ∙ ap (λ z. entries_in z new) same.1) tt
+  | inr apart ↦ subst (λ (z : Option (List Entry)). AllRows (IsShared declared) (unwrap_or z [])) (sym (changes.others t (λ e. apart.1 (sym e)))) (shared t)
+]
+
+-- the kernel behind a new task
+pub rests_made : (header : Header) (h : ℕ) (task : TaskId) (past : List Event) (k : Parts) (ids : Ids) (maps : Mapped) → Rests header h k ids past → ChangesOnly k.maps maps task.0 (Some []) → entries_in task.0 k.maps ≡ None → task.0 < 1024
+    → Rests header h (record k { maps = maps }) ids (event.TaskMade task (host_id h) ∷ past)
+rests_made header h task past k ids maps rests changes free below =
+    let m = rests.matches in
+    let leaves : Leaves header past (event.TaskMade task (host_id h) ∷ past) = record { regions_made = refl; objects_made = refl; region = λ r. refl; backing = λ o. refl; home = λ r. refl; made_for = λ o. refl; used = λ g r. refl; target = λ task. refl } in
+    record {
       matches =
           record {
-            plain = m.plain;
+            ranged = m.ranged;
+            declared = m.declared;
+            kinds = m.kinds;
+            shared = shared_made _ k.maps maps task.0 m.shared changes;
             known = m.known;
             size = m.size;
             host = m.host;
             fits = record { parts = m.fits.parts; plain = m.fits.plain; buffers = m.fits.buffers };
             tasks = tasks_made h header.size k.maps maps past task m.tasks changes;
             regions = regions_after leaves m.regions;
-            entries = entries_made header.size k.maps maps k.chains task.0 m.entries changes free s.range.0;
+            entries = entries_made header.size k.maps maps k.chains task.0 m.entries changes free below;
             pages = m.pages;
-            uses = uses_made k.maps maps _ (tasks past) _ _ (next_region header past) task.0 m.uses changes free (rw most_is s.range.0) (holds_made header.size task (host_id h) past);
+            uses = uses_made header k.maps maps _ (tasks past) _ _ (next_region header past) task.0 m.uses changes free (rw most_is below) (holds_made header.size task (host_id h) past);
             controls = controls_after leaves m.controls;
             homeless = homeless_after leaves m.homeless;
             homes = m.homes;
@@ -74,20 +84,33 @@ ran_task header h outside task past k ids before after maps s changes told =
             laundry = m.laundry;
             frames = m.frames;
           };
-      used = s.rests.used;
-      referred = s.rests.referred;
-      waits = waits_made k.maps maps k.chains k.memory.resident k.memory.objects k.waits.rows _ task (host_id h) past s.rests.waits free changes;
-      order = s.rests.order;
-      idle = s.rests.idle;
-    }))
+      used = rests.used;
+      referred = rests.referred;
+      waits = waits_made k.maps maps k.chains k.memory.resident k.memory.objects k.waits.rows _ task (host_id h) past rests.waits free changes;
+      order = rests.order;
+      idle = rests.idle;
+    }
+
+pub ran_task : (header : Header) (h : ℕ) (outside : Outside) (task : TaskId) (past : List Event) (k : Parts) (ids : Ids) (before after : List Event) (maps : Mapped) → Starts header h (command.Task task (host_id h)) past k ids before
+    → ChangesOnly k.maps maps task.0 (Some []) → after ≡ event.TaskMade task k.host ∷ before → Ran header h outside (command.Task task (host_id h)) past (record k { maps = maps }) ids after
+ran_task header h outside task past k ids before after maps s changes told =
+    let m = s.rests.matches in
+    let e : Event = event.TaskMade task (host_id h) in
+    let free = can_make header h task past k ids before s in
+    let log : after ≡ e ∷ [] = told ∙ (ap (λ z. event.TaskMade task z ∷ before) (named_host k.host h m.host) ∙ ap (λ z. e ∷ z) s.nothing) in
+    subst (λ (z : List Event). Ran header h outside (command.Task task (host_id h)) past (record k { maps = maps }) ids z) (sym log)
+    (ran_head header h outside (command.Task task (host_id h)) past (record k { maps = maps }) ids (e ∷ []) (e ∷ []) refl refl
+    (heads_one header h outside (command.Task task (host_id h)) past e (record { settled = m.settled; cause = tt; own_bytes = tt; frames = suffices header h k.memory.frames past m.frames; inner = tt; said = refl; own = own_new h task.0 past (unmade header h task past k ids before s); creates = tt }))
+    tt
+    (rests_made header h task past k ids maps s.rests changes free s.range.0))
 
 -- the row of a new object
 abbrev pub new_object : ℕ → ObjectRow
 new_object pages = record { kind = Temp; pages = pages; state = Without; control = 0; live = false; references = 1 }
 
 -- a new object has no control
-pub controls_made : {h : ℕ} {home_at home_at2 : ℕ → Option ℕ} (os os2 : ObjectTable) (last_at : ℕ → ℕ) (live_at : ℕ → Option ℕ) (ready_at : ℕ → Bool) (n pages : ℕ) → HasControls h os last_at live_at ready_at home_at → object_at os n ≡ None
-    → PutsObject n (Some (new_object pages)) os os2 → ((o : ℕ) → home_at o ≡ Some h → home_at2 o ≡ Some h) → home_at2 n ≡ Some h → HasControls h os2 last_at live_at ready_at home_at2
+pub controls_made : {d h : ℕ} {home_at home_at2 : ℕ → Option ℕ} (os os2 : ObjectTable) (last_at : ℕ → ℕ) (live_at : ℕ → Option ℕ) (ready_at : ℕ → Bool) (n pages : ℕ) → HasControls d h os last_at live_at ready_at home_at → object_at os n ≡ None
+    → PutsObject n (Some (new_object pages)) os os2 → ((o : ℕ) → home_at o ≡ Some h → home_at2 o ≡ Some h) → home_at2 n ≡ Some h → HasControls d h os2 last_at live_at ready_at home_at2
 controls_made {h = h} {home_at2 = home_at2} os os2 last_at live_at ready_at n pages has none put stay home =
     let cases = λ (o : ℕ). one_case n o (Some (new_object pages)) (object_at os o) (object_at os2 o) (put.at o) in
     record {
@@ -119,9 +142,9 @@ controls_made {h = h} {home_at2 = home_at2} os os2 last_at live_at ready_at n pa
         | inl same ↦ absurd (let bad : false ≡ true = ap (λ z. z.live) (some_is (new_object pages) row (sym same.1 ∙ found)) ∙ live in cc)
         | inr apart ↦ has.ended o row (sym apart.1 ∙ found) live
       ];
-      home = λ o row found. elim (cases o) [
+      home = λ o row least found. elim (cases o) [
         | inl same ↦ subst (λ (z : ℕ). home_at2 z ≡ Some h) same.0 home
-        | inr apart ↦ stay o (has.home o row (sym apart.1 ∙ found))
+        | inr apart ↦ stay o (has.home o row least (sym apart.1 ∙ found))
       ];
     }
   where

@@ -1,5 +1,5 @@
 -- What a host has of its pages and frames, once a page and its frame have changed.
-use Rattle.vm_kernel.proofs.Common.{Asks, Bool, Changes, Elsewhere, Fit, FrameNo, FrameTable, HasFrames, HasLaundry, HasPages, HostParts, IsWashed, LaundryList, List, Local, LocalEffect, None, ObjectTable, Option, PageKey, PageRow, Queues, Some, [], absent_at, ap, arith, claimed, eqb_tells, false, frame_apart, frame_count, get_or, if◌then◌else◌, inl, inr, is_claimed, is_some, led, length, length-set, local_after, local_of_row, lock_number, not, one_case, owner_of, page_in, refl, row_at, row_cases, row_put, subst, sym, true, ℕ, ◌&&◌, ◌==◌, ◌∙◌, ◌≡◌}
+use Rattle.vm_kernel.proofs.Common.{Asks, Bool, Changes, Elsewhere, Fit, FrameNo, FrameTable, HasFrames, HasLaundry, HasPages, HostParts, IsWashed, LaundryList, List, Local, LocalEffect, None, ObjectTable, Option, PageKey, PageRow, Queues, ResidentTable, SameMarks, Some, [], absent_at, ap, arith, claimed, eqb_tells, false, frame_apart, frame_count, get_or, inl, inr, is_claimed, is_some, led, length, length-set, local_after, local_of_row, lock_number, not, one_case, owner_of, page_in, refl, row_at, row_cases, row_put, subst, sym, true, ℕ, if◌then◌else◌, ◌&&◌, ◌==◌, ◌∙◌, ◌≡◌}
 
 pub itself : (n : ℕ) → (n == n) ≡ true
 itself n = elim (eqb_tells n n) [ inl same ↦ same.0 | inr apart ↦ absurd (apart.1 refl) ]
@@ -138,3 +138,7 @@ laundry_changed key frame was now held bytes lists old new laundry out has c =
             | inr other ↦ other.1 ∙ washed.unowned
           ];
         }
+
+-- pages show the same where objects have the same marks
+pub pages_marked : (fs : FrameTable) (rs : ResidentTable) (os os2 : ObjectTable) (local_at : ℕ → ℕ → Local) → HasPages fs rs os local_at → SameMarks os os2 → HasPages fs rs os2 local_at
+pages_marked fs rs os os2 local_at has same = record { shown = λ o p. has.shown o p ∙ ap (λ z. local_of_row fs (row_at rs o p) z) (sym (same.at o p)) }

@@ -1,5 +1,5 @@
 -- The lists of pages are as the events say.
-use Rattle.vm_kernel.proofs.Common.{AllSkipped, Bool, Changes, Does, Event, FrameNo, Header, HostParts, Ids, IsChosen, IsVictim, KeepsPages, List, None, Option, Page, PageKey, PageRow, PagerState, Paging, Parts, Plays, PutsRow, Queues, Reclaim, ReclaimEffects, ResidentTable, Rests, Some, Still, TaskId, Then, Up, Want, [], ap, arith, balanced, balanced_done, cleared, controlled, created, false, frame_here, from_unreferenced, front_referenced_of, if◌then◌else◌, inl, inr, is_queued, is_skipped, looked, map, nat_tests, needs_none, none_needed, page_in, paging, places_with_frame, queues_after_search, queues_except, referenced_front, refl, row_at, row_cases, sends, shortage, spared, spared_done, subst, sym, take, told_from, true, victim_frame, with_reference, ℕ, ◌&&◌, ◌++◌, ◌==◌, ◌||◌, ◌∙◌, ◌∷◌, ◌≡◌}
+use Rattle.vm_kernel.proofs.Common.{AllSkipped, Bool, Changes, Does, Event, FrameNo, Header, HostParts, Ids, IsChosen, IsVictim, KeepsPages, List, None, Option, Page, PageKey, PageRow, PagerState, Paging, Parts, Plays, PutsRow, Queues, Reclaim, ReclaimEffects, ResidentTable, Rests, Some, Still, TaskId, Then, Up, Want, [], ap, balanced, balanced_done, cleared, controlled, created, false, frame_here, from_unreferenced, front_referenced_of, if◌then◌else◌, inl, inr, is_queued, is_skipped, looked, map, needs_none, none_needed, page_in, paging, places_with_frame, queues_after_search, queues_except, referenced_front, refl, row_at, row_cases, sends, shortage, spared, spared_done, subst, sym, take, told_from, true, victim_frame, with_reference, ℕ, ◌&&◌, ◌++◌, ◌==◌, ◌||◌, ◌∙◌, ◌∷◌, ◌≡◌}
 use Rattle.std.proofs.lemmas.Bool.Decides.{eqb_tells}
 use Rattle.vm_base.specs.declared.ids.HostId.{HostId}
 use Rattle.vm_fault.specs.Faults.{AfterZeros, AtOnce, Ended, Faulted, FaultState, Hits, Raised, References}
@@ -16,9 +16,7 @@ use Rattle.vm_waits.specs.declared.waiting.Want.TheVariants as want
 use Rattle.vm_kernel.specs.Plays.{Looks, AreSources, Arrives, AsUnreached, AsVictim, Departs, uncreated}
 use Rattle.vm_kernel.specs.Turns.{IsFront, Bare, Shadow}
 use Rattle.vm_kernel.proofs.Claiming.{Front, front_in}
-
-itself : (n : ℕ) → (n == n) ≡ true
-itself n = grind (arith, nat_tests)
+use Rattle.vm_kernel.proofs.Pages.{itself}
 
 -- first some events, and then some more
 pub plays_both : {header : Header} {past before mid : List Event} {old k : Paging} {after : List Event} {new : Paging} → Plays header past before old mid k → Plays header past mid k after new → Plays header past before old after new
@@ -82,7 +80,7 @@ paging_in parts = record { frame_at = λ o p. frame_here (row_at parts.resident 
 
 -- two marks, in either order
 
-or_turned : (a b c : Bool) → (a || (b || c)) ≡ (b || (a || c))
+pub or_turned : (a b c : Bool) → (a || (b || c)) ≡ (b || (a || c))
 or_turned true true c = refl
 or_turned true false c = refl
 or_turned false b c = refl
@@ -285,7 +283,7 @@ reclaim_plays_from header h past ids skip reclaim.Freed k k2 mid before after re
     (AsVictim (victim_of header k.host.0 (before ++ past) skip is.key is.row _ _ k k2 mid same (subst (λ (z : ℕ). AreSources header z (before ++ past) (paging k).frame_at skip) (sym rests.matches.host) sources) is.victim is.page))
 reclaim_plays_from header h past ids skip reclaim.Returned k k2 mid before after rests sources same f queued unskipped is =
     subst (λ (z : List Event). Plays header past before (paging k) z (paging k2)) (sym is.events)
-    (Then goes (told_from is.object.state creation before) (paging k) (paging k2) (made is.object.state) (subst (λ (z : List Event). IsVictim header k.host.0 z is.key.object.0 is.key.page.0 (paging k) (paging k2)) (sym (bare is.object.state)) victim))
+    (Then goes (told_from is.object.state creation before) (paging k) (paging k2) (made is.object.state) (inl (subst (λ (z : List Event). IsVictim header k.host.0 z is.key.object.0 is.key.page.0 (paging k) (paging k2)) (sym (bare is.object.state)) victim)))
   where
     victim : IsVictim header k.host.0 (before ++ past) is.key.object.0 is.key.page.0 (paging k) (paging k2)
     victim = victim_of header k.host.0 (before ++ past) skip is.key is.row _ _ k k2 mid same (subst (λ (z : ℕ). AreSources header z (before ++ past) (paging k).frame_at skip) (sym rests.matches.host) sources) is.victim is.page

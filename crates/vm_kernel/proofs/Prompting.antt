@@ -1,16 +1,20 @@
 -- At the end of a step nobody waits in vain, and nothing is left behind.
-use Rattle.vm_kernel.proofs.Common.{Access, Bool, Entry, Event, FrameTable, HasPlace, HasQueue, HasWaits, Header, HostIsFull, Ids, IsPagerTold, IsSwept, List, Matches, None, NoneInVain, ObjectRow, On, Option, PageKey, PageRow, Parts, PromptAt, QueueIsServed, Reach, Reason, RegionRow, Rests, Some, Waiting, Waits, WaitsForPager, Want, [], absent_at, access_in, address_in, address_of, all_tasks, ap, arith, count_by, entries_in, entries_of, entry, entry_at, false, if◌then◌else◌, in_use, inl, inr, is_again, is_frame, is_on, is_store, length, live_in, local_of_row, nat_lt, nat_tests, next_page, none_again, none_queued, object_at, page_of, page_on, refl, region_at, row_at, rows_in, some_is, subst, sym, true, waiting, waiting_in, ℕ, ◌<◌, ◌∙◌, ◌≡◌, ◌⊎◌}
+use Rattle.vm_kernel.proofs.Common.{Access, Bool, Event, FrameTable, HasQueue, HasRegions, HasWaits, Header, HostIsFull, Ids, IsPagerTold, IsSwept, List, Matches, None, NoneInVain, ObjectRow, On, Option, PageRow, Parts, PromptAt, QueueIsServed, Reach, Reason, RegionRow, Rests, Some, Waiting, Waits, WaitsForPager, Want, [], absent_at, access_in, all_tasks, ap, arith, backing_of, count_by, entries_in, entry, false, has_entry, if◌then◌else◌, in_use, inl, inr, is_again, is_frame, is_on, is_store, live_in, local_of_row, marked_regions, named, nat_lt, nat_tests, next_object, next_region, none_again, none_queued, object_at, page_on, refl, region_at, region_of, row_at, rows_in, subst, sym, true, waiting, waiting_in, ℕ, ◌<◌, ◌≤◌, ◌||◌, ◌∙◌, ◌≡◌, ◌⊎◌}
 use Rattle.std.proofs.Common.{is_some}
-use Rattle.vm_fault.specs.Walks.{top_place}
-use Rattle.vm_kernel.proofs.Sources.{address_of_want, page_of_want, shown_of}
+use Rattle.vm_legal.specs.Licences.{IsUnheld}
+use Rattle.vm_legal.specs.Walks.{Reaches}
+use Rattle.vm_kernel.proofs.Abroad.{with_entry}
+use Rattle.vm_kernel.proofs.Counts.{by_some}
+use Rattle.vm_kernel.proofs.Terminating.{declared_chain}
+use Rattle.vm_state.proofs.Declared.{kind_cases, over_declared}
 use Rattle.vm_state.proofs.Reaching.{reach_up}
+use Rattle.vm_state.proofs.Referring.{OfRegion, OfShadow, referrer_of}
 use Rattle.vm_state.proofs.Shown.{awaits_page, awaits_ready}
-use Rattle.vm_state.proofs.Walks.{place_of_page}
-use Rattle.vm_state.specs.Waiters.{IsPlaceOf, LeadsTo}
 use Rattle.vm_terminate.specs.Finishes.{IsReferred}
 use Rattle.vm_supply.specs.declared.woken.Woken.TheVariants as woken
 use Rattle.vm_waits.specs.declared.waiting.On.TheVariants as on
 use Rattle.vm_kernel.proofs.Own.{own_host}
+use Rattle.vm_kernel.proofs.Shown.{shown_at, waiting_place}
 
 -- what is on the host has a row
 here_row : (fs : FrameTable) (x : Option PageRow) (lacked : Bool) → (local_of_row fs x lacked).here ≡ true → (row : PageRow) × (x ≡ Some row)
@@ -32,20 +36,6 @@ has_row k past task access has here waits = go (entry k.waits.rows task) refl
         let same : Some access ≡ Some (access_in row.want) = sym waits ∙ (has.is task here ∙ ap waiting_in found) in
         record { row = row; found = found; is = cc }
 
--- where an access waits is one of the places of its page
-pub has_place : (header : Header) (h : ℕ) (k : Parts) (ids : Ids) (past : List Event) (lost : List Entry) (task : ℕ) (what : Want) (key : PageKey) → Matches header h k ids lost past → IsPlaceOf k.maps k.chains task what key → (waits : Waits header task (access_in what) past)
-    → is_some (entries_in task k.maps) ≡ true → HasPlace header waits.at.entry.region.0 (page_of header task (access_in what) past waits.at.entry) key.object.0 key.page.0 past
-has_place header h k ids past lost task what key m is waits here =
-    let at = is.at in
-    let address : address_of header.size (next_page task past) (access_in what) ≡ address_in what = address_of_want header.size (next_page task past) what in
-    let found : entry_at (address_in what) (rows_in task k.maps) ≡ Some waits.at.entry =
-    ap (entry_at (address_in what)) (sym (m.tasks.rows task here)) ∙ (ap (λ z. entry_at z (entries_of header.size task past)) (sym address) ∙ waits.at.found) in
-    let same : at.entry ≡ waits.at.entry = some_is at.entry waits.at.entry (sym at.found ∙ found) in
-    let place : is.top ≡ top_place at.row (page_of header task (access_in what) past at.entry) = at.is ∙ ap (top_place at.row) (page_of_want header h k ids past lost task what at.entry m) in
-    subst (λ (z : Entry). HasPlace header z.region.0 (page_of header task (access_in what) past z) key.object.0 key.page.0 past) same
-    (place_of_page (shown_of header h k ids past lost m) at.entry.region.0 at.row at.region (page_of header task (access_in what) past at.entry) is.steps key
-    (subst (λ (z : PageKey). LeadsTo k.chains is.steps z key) place is.leads))
-
 -- a task that waits on the host is in its maps
 pub at_home : (header : Header) (h : ℕ) (k : Parts) (ids : Ids) (past : List Event) (task : ℕ) (access : Access) → Matches header h k ids [] past → (waits : Waits header task access past) → waits.at.host ≡ h → is_some (entries_in task k.maps) ≡ true
 at_home header h k ids past task access m waits home = sym (m.tasks.hosts task) ∙ (ap (is_on h) (waits.at.lives ∙ ap Some home) ∙ own_host h)
@@ -61,8 +51,8 @@ waits_for header h k ids past task what (on.Ready object) m reason fresh full wa
       on_host = home;
       object = reason.0.object.0;
       page = reason.0.page.0;
-      place = has_place header h k ids past [] task what reason.0 m reason.1 waits (at_home header h k ids past task (access_in what) m waits home);
-      what = awaits_ready (shown_of header h k ids past [] m) reason.0.object.0 told.row told.found told.sent (is_store (access_in what)) reason.0.page.0;
+      place = waiting_place m reason.1 (at_home header h k ids past task (access_in what) m waits home) waits;
+      what = awaits_ready (shown_at m) reason.0.object.0 told.row told.found told.sent (is_store (access_in what)) reason.0.page.0;
     })
 waits_for header h k ids past task what (on.Page key) m reason fresh full waits home =
     inl (record {
@@ -70,8 +60,8 @@ waits_for header h k ids past task what (on.Page key) m reason fresh full waits 
       on_host = home;
       object = key.object.0;
       page = key.page.0;
-      place = has_place header h k ids past [] task what key m reason.0 waits (at_home header h k ids past task (access_in what) m waits home);
-      what = awaits_page (shown_of header h k ids past [] m) key.object.0 key.page.0 reason.1 (is_store (access_in what));
+      place = waiting_place m reason.0 (at_home header h k ids past task (access_in what) m waits home) waits;
+      what = awaits_page (shown_at m) key.object.0 key.page.0 reason.1 (is_store (access_in what));
     })
 waits_for header h k ids past task what on.Frame m reason fresh full waits home = inr (full refl)
 
@@ -88,43 +78,82 @@ none_in_vain header h k ids past rests served task access waits home =
     (waits_for header h k ids past task w.want w.on rests.matches (rests.waits.reasons task w row.found refl) (none_again k.waits.rows task w rests.idle row.found) (queue_full header h k past task w served row.found))
     waits home
 
--- the regions that a kernel knows are in use
-regions_used : (header : Header) (h : ℕ) (k : Parts) (ids : Ids) (past : List Event) → Rests header h k ids past → (r : ℕ) (row : RegionRow) → region_at k.chains r ≡ Some row → in_use header h r past ≡ true
-regions_used header h k ids past rests r row found =
+-- the temporary regions that a kernel knows are in use
+regions_used : (header : Header) (h : ℕ) (k : Parts) (ids : Ids) (past : List Event) → Rests header h k ids past → (r : ℕ) (row : RegionRow) → named header ≤ r → region_at k.chains r ≡ Some row → in_use header h r past ≡ true
+regions_used header h k ids past rests r row temporary found =
     let m = rests.matches in
     let some = rests.used r row found in
     let counts = m.entries.counts r row found in
     let less : 0 < count_by all_tasks r k.maps = omega (arith, some, counts) in
     let test : nat_lt 0 (count_by all_tasks r k.maps) ≡ true = grind (arith, nat_tests) in
-    m.uses.used r ∙ test
+    m.uses.used r temporary ∙ test
 
--- an object to which something refers is in the chain of one of them
-reaches : (header : Header) (h : ℕ) (k : Parts) (ids : Ids) (past : List Event) (object : ℕ) → Rests header h k ids past → IsReferred k.memory.objects object → Reach header h object past
-reaches header h k ids past object rests referred =
-    let has = rests.matches.regions in
-    reach_up has has.older rests.referred.shadows (λ r. in_use header h r past) (regions_used header h k ids past rests) object referred
+-- a temporary object to which something refers is in the chain of one of them
+reaches : (header : Header) (h : ℕ) (k : Parts) (ids : Ids) (past : List Event) (object : ℕ) → Rests header h k ids past → named header ≤ object → IsReferred k.memory.objects object → Reach header h object past
+reaches header h k ids past object rests temporary referred = elim (kind_cases header reach.0) [
+  | inl declared ↦ let same = declared_chain header past reach.0 reach.1 object rests.matches.homeless declared reach.3 in absurd (omega (arith, same, declared, temporary))
+  | inr least ↦ (reach.0, reach.1, sym (of_declared reach.0 false (let test : nat_lt reach.0 (named header) ≡ false = grind (arith, nat_tests) in test)) ∙ reach.2, reach.3)
+]
+  where
+    has : HasRegions k.chains k.memory.objects ids (λ r. region_of header r past) (λ o. backing_of header o past) (next_region header past) (next_object header past) (marked_regions header past)
+    has = rests.matches.regions
+
+    -- a declared region counts as used here
+    used : ℕ → Bool
+    used r = nat_lt r (named header) || in_use header h r past
+
+    of_declared : (r : ℕ) (b : Bool) → nat_lt r (named header) ≡ b → used r ≡ (b || in_use header h r past)
+    of_declared r b test = ap (λ z. z || in_use header h r past) test
+
+    all : (r : ℕ) (row : RegionRow) → region_at k.chains r ≡ Some row → used r ≡ true
+    all r row found = elim (kind_cases header r) [
+      | inl declared ↦ of_declared r true (let test : nat_lt r (named header) ≡ true = grind (arith, nat_tests) in test)
+      | inr least ↦ of_declared r false (let test : nat_lt r (named header) ≡ false = grind (arith, nat_tests) in test) ∙ regions_used header h k ids past rests r row least found
+    ]
+
+    reach : Reaches used (λ r. region_of header r past) (λ o. backing_of header o past) object
+    reach = reach_up has has.older rests.referred.shadows used all object referred
+
+-- a declared object to which something refers is held: a task here has an entry on its region
+held : (header : Header) (h : ℕ) (k : Parts) (ids : Ids) (past : List Event) (object : ℕ) → Rests header h k ids past → object < named header → IsReferred k.memory.objects object → IsUnheld header h object past → ⊥
+held header h k ids past object rests less referred unheld = elim (referrer_of m.regions object referred) [
+  | OfRegion r row found top ↦
+      let own : r ≡ object = over_declared m.regions m.kinds m.homeless r row found (omega (arith, top, less)) ∙ top in
+      let some = rests.used r row found in
+      let counts = m.entries.counts r row found in
+      let task = by_some all_tasks r k.maps (omega (arith, some, counts)) in
+      let here = with_entry r (entries_in task.0 k.maps) task.1 in
+      let none = unheld task.0 (m.tasks.hosts task.0 ∙ here) in
+      let has : has_entry object (rows_in task.0 k.maps) ≡ true = subst (λ (z : ℕ). has_entry z (rows_in task.0 k.maps) ≡ true) own task.1 in
+      let bad : false ≡ true = sym none ∙ (ap (has_entry object) (m.tasks.rows task.0 here) ∙ has) in
+      cc
+  | OfShadow s row found under ↦ let least = m.kinds.unders s row found in omega (arith, under, least, less)
+]
+  where
+    m : Matches header h k ids [] past
+    m = rests.matches
 
 swept : (header : Header) (h : ℕ) (k : Parts) (ids : Ids) (past : List Event) → Rests header h k ids past → IsSwept header h past
 swept header h k ids past rests =
     record {
-      pages = λ object page temporary away. gone object page away (page_on header h object page past).here refl;
-      controls = λ object temporary away. rests.matches.controls.live object ∙ ended object away (object_at k.memory.objects object) refl;
-      declared_pages = λ object page below unheld. absurd (let none = ap length rests.matches.plain.objects in omega arith);
-      declared_controls = λ object below unheld. absurd (let none = ap length rests.matches.plain.objects in omega arith);
+      pages = λ object page temporary away. gone object page (λ referred. away (reaches header h k ids past object rests temporary referred)) (page_on header h object page past).here refl;
+      controls = λ object temporary away. rests.matches.controls.live object ∙ ended object (λ referred. away (reaches header h k ids past object rests temporary referred)) (object_at k.memory.objects object) refl;
+      declared_pages = λ object page less unheld. gone object page (λ referred. held header h k ids past object rests less referred unheld) (page_on header h object page past).here refl;
+      declared_controls = λ object less unheld. rests.matches.controls.live object ∙ ended object (λ referred. held header h k ids past object rests less referred unheld) (object_at k.memory.objects object) refl;
     }
   where
-    gone : (object page : ℕ) → (Reach header h object past → ⊥) → (b : Bool) → (page_on header h object page past).here ≡ b → b ≡ false
+    gone : (object page : ℕ) → (IsReferred k.memory.objects object → ⊥) → (b : Bool) → (page_on header h object page past).here ≡ b → b ≡ false
     gone object page away false is = refl
     gone object page away true is =
         let m = rests.matches in
         let row = here_row k.memory.frames (row_at k.memory.resident object page) (absent_at k.memory.objects object page) (ap (λ z. z.here) (sym (m.pages.shown object page)) ∙ is) in
-        absurd (away (reaches header h k ids past object rests (rests.referred.pages object page row.0 row.1)))
+        absurd (away (rests.referred.pages object page row.0 row.1))
 
-    dead : (object : ℕ) → (Reach header h object past → ⊥) → (row : ObjectRow) → object_at k.memory.objects object ≡ Some row → (b : Bool) → row.live ≡ b → (if b then Some row.control else None) ≡ None
+    dead : (object : ℕ) → (IsReferred k.memory.objects object → ⊥) → (row : ObjectRow) → object_at k.memory.objects object ≡ Some row → (b : Bool) → row.live ≡ b → (if b then Some row.control else None) ≡ None
     dead object away row found false is = refl
-    dead object away row found true is = absurd (away (reaches header h k ids past object rests (record { row = row; known = found; some = rests.referred.live object row found is })))
+    dead object away row found true is = absurd (away (record { row = row; known = found; some = rests.referred.live object row found is }))
 
-    ended : (object : ℕ) → (Reach header h object past → ⊥) → (x : Option ObjectRow) → object_at k.memory.objects object ≡ x → live_in x ≡ None
+    ended : (object : ℕ) → (IsReferred k.memory.objects object → ⊥) → (x : Option ObjectRow) → object_at k.memory.objects object ≡ x → live_in x ≡ None
     ended object away None is = refl
     ended object away (Some row) is = dead object away row is row.live refl
 

@@ -1,20 +1,25 @@
 -- A range is allocated: a region over a new object, and an entry on the whole of it.
-use Rattle.vm_kernel.proofs.Common.{AllLicensed, AllReferred, AllRows, AllUsed, Bool, ChainTable, ChangesOnly, EachIn, Enters, Entry, Event, Fit, FrameTable, HasCause, HasEntries, HasHomes, HasPages, HasRegions, HasUse, HaveHomes, Header, HostParts, Ids, IfSome, IsInside, IsLined, IsMine, List, Local, MadeRange, MapChange, Mapped, None, ObjectId, ObjectRow, ObjectTable, Option, Outside, Parts, PutsObject, PutsRegion, Ran, Region, RegionId, RegionRow, ResidentTable, Rests, SameMarks, Some, Starts, TaskId, [], all_tasks, ap, arith, backing_of, begins_copy, begins_here, both_left, code_where, copy_target, count_by, entered, entering, entries_in, entries_of, entry, eqb_tells, false, fills, fit_within, got, has_entry, has_region, head, holds, home_entered, home_of, homes_next, homes_stay, host_of, if◌then◌else◌, in_use, inl, inr, is_none, is_range, is_ready, is_some, last_control, length, length_entered, live_control, lives_on, local, local_of_row, made_here, marked_regions, meets_range, most_entries, nat_le, nat_tests, next_object, next_region, object_at, object_home, one_case, page_below, pages_in, pages_of_row, place_of, refl, region_at, region_of, region_pages, row_at, rows_entered, rows_in, rows_map, some_is, starts_copy, subst, sym, tasks, true, waiting, waiting_in, whole_entry, ℕ, ◌%◌, ◌++◌, ◌+◌, ◌-◌, ◌/◌, ◌<◌, ◌==◌, ◌^◌, ◌||◌, ◌∙◌, ◌∷◌, ◌≡◌, ◌≢◌, ◌≤◌, ◌⊎◌}
+use Rattle.vm_kernel.proofs.Common.{AllLicensed, AllReferred, AllUsed, Bool, ChainTable, ChangesOnly, EachIn, Enters, Entry, Event, Fit, HasCause, HasEntries, HasHomes, HasRegions, HasUse, HaveHomes, Header, HostParts, Ids, IfSome, IsInside, IsLined, IsMine, List, MadeRange, MapChange, Mapped, None, ObjectId, ObjectRow, ObjectTable, Option, Outside, Parts, PutsObject, PutsRegion, Ran, Region, RegionId, RegionRow, Rests, Some, Starts, TaskId, [], all_tasks, ap, arith, backing_of, begins_copy, begins_here, both_left, code_where, copy_target, count_by, entered, entering, entries_in, entries_of, entry, eqb_tells, false, fills, fit_within, got, has_entry, head, holds, home_entered, home_of, homes_next, homes_stay, host_of, if◌then◌else◌, in_use, inl, inr, is_none, is_range, is_ready, is_some, last_control, length, length_entered, live_control, lives_on, local, made_here, marked_regions, meets_range, most_entries, nat_le, nat_tests, next_object, next_region, object_at, object_home, one_case, page_below, pages_in, pages_of_row, place_of, refl, region_at, region_of, region_pages, rows_entered, rows_in, rows_map, some_is, starts_copy, subst, sym, tasks, true, waiting, waiting_in, whole_entry, ℕ, ◌%◌, ◌++◌, ◌+◌, ◌-◌, ◌/◌, ◌<◌, ◌==◌, ◌^◌, ◌||◌, ◌∙◌, ◌∷◌, ◌≡◌, ◌≢◌, ◌≤◌, ◌⊎◌}
+use Rattle.vm_state.specs.Places.{known_local}
 use Rattle.std.proofs.Common.{nat_lt, not}
 use Rattle.vm_base.specs.declared.code.Code.TheVariants as code
 use Rattle.vm_model.specs.declared.event.Event.TheVariants as event
 use Rattle.vm_model.specs.declared.command.Command.TheVariants as command
 use Rattle.vm_model.specs.Regions as R
-use Rattle.vm_kernel.proofs.Counts.{by_none, most_is, on_entered}
+use Rattle.vm_kernel.proofs.Counts.{by_none, most_is, none_on, on_entered, one_on}
 use Rattle.vm_kernel.proofs.Growing.{licensed, suffices}
 use Rattle.vm_kernel.proofs.Heads.{passed, ran_head}
 use Rattle.vm_kernel.proofs.After.{regions_moved}
 use Rattle.vm_kernel.proofs.Making.{controls_made, idle_of, new_object}
 use Rattle.vm_kernel.proofs.Mine.{mine_of, own_task}
 use Rattle.vm_kernel.proofs.Rows.{region_cases}
+use Rattle.vm_kernel.proofs.Sharing.{shared_entered, temporary_shared}
+use Rattle.vm_model.specs.Named.{named}
+use Rattle.vm_state.proofs.Declared.{kind_new, kinds_put, kinds_region}
+use Rattle.vm_state.specs.Stands.{HasKinds}
 use Rattle.vm_kernel.proofs.Tasks.{Keeps, entries_changed, inside_kept, tasks_entered}
 use Rattle.vm_kernel.proofs.Uses.{unfilled, uses_entered, ApartFrom, holds_rows}
-use Rattle.vm_abroad.proofs.Home.{objects_stay, region_made}
+use Rattle.vm_abroad.proofs.Home.{named_objects, named_regions, objects_stay, region_made}
 use Rattle.vm_abroad.specs.Home.{home_at}
 use Rattle.vm_base.specs.Limits.{most_objects}
 use Rattle.vm_state.proofs.Bare.{next_bare}
@@ -25,6 +30,9 @@ use Rattle.vm_state.proofs.Referred.{referred_put}
 use Rattle.vm_state.proofs.Told.{knows_made, waits_known}
 use Rattle.vm_state.proofs.Waited.{waits_changed, told_changed}
 use Rattle.vm_kernel.proofs.Own.{lives_here, lives_in, rows_here}
+use Rattle.vm_kernel.proofs.Regions.{apart_there, none_leads}
+use Rattle.vm_kernel.proofs.Pages.{pages_marked}
+use Rattle.std.proofs.lemmas.Bool.{not-false, or_parts}
 
 -- what an allocation that isn't refused has
 pub record MayRange (size : ℕ) (k : Parts) (ids : Ids) (task address bytes : ℕ) : Type 0 where
@@ -57,7 +65,7 @@ may_range header h task address bytes past k ids events s =
     let lives = lives_in task.0 m.tasks s.acts in
     let own : rows ≡ rows_in task.0 k.maps = rows_here m.tasks lives in
     let test : tests ≡ false = first.0 in
-    let range : is_range header.size address bytes ≡ true = only_true (is_range header.size address bytes) (nat_lt 4096 (bytes / header.size)) test in
+    let range : is_range header.size address bytes ≡ true = not-false (is_range header.size address bytes) (or_parts (not (is_range header.size address bytes)) (nat_lt 4096 (bytes / header.size)) test).0 in
     let limits : full ≡ false = third.0 in
     let counts : (nat_lt most_entries (length rows + 1) ≡ false) × (nat_le 8192 (next_region header past) ≡ false) × (nat_le 8192 (next_object header past + marked_regions header past) ≡ false) =
     all_false (nat_lt most_entries (length rows + 1)) (nat_le 8192 (next_region header past)) (nat_le 8192 (next_object header past + marked_regions header past)) limits in
@@ -82,10 +90,6 @@ may_range header h task address bytes past k ids events s =
       idle = idle_of (entry k.waits.rows task.0) (waiting task.0 past) (s.rests.waits.is task.0 (ap is_some lives)) idle.0;
     }
   where
-    only_true : (b c : Bool) → (not b || c) ≡ false → b ≡ true
-    only_true true c e = refl
-    only_true false c e = absurd (let bad : true ≡ false = e in cc)
-
     all_false : (a b c : Bool) → (a || (b || c)) ≡ false → (a ≡ false) × (b ≡ false) × (c ≡ false)
     all_false true b c e = absurd (let bad : true ≡ false = e in cc)
     all_false false true c e = absurd (let bad : true ≡ false = e in cc)
@@ -103,10 +107,6 @@ object_free header h k ids past rests = let number = rests.matches.regions.objec
 abbrev pub new_region : ObjectId → ℕ → RegionRow
 new_region object pages = record { top = object; shift = 0; pages = pages; marked = false; entries = 1 }
 
--- a region that isn't there has no pages and no entries
-not_there : (chains : ChainTable) (n r : ℕ) → region_at chains n ≡ None → n ≡ r → has_region chains r ≡ true → ⊥
-not_there chains n r none same there = let bad : false ≡ true = sym (ap is_some none) ∙ (ap (has_region chains) same ∙ there) in cc
-
 keeps_new : (old new : ChainTable) (n : ℕ) (row : RegionRow) → region_at old n ≡ None → PutsRegion n (Some row) old new → Keeps old new
 keeps_new old new n row none put =
     record {
@@ -115,7 +115,7 @@ keeps_new old new n row none put =
         | inr apart ↦ ap is_some apart.1 ∙ is
       ];
       pages = λ r is. elim (region_cases n (Some row) old new put r) [
-        | inl same ↦ absurd (not_there old n r none same.0 is)
+        | inl same ↦ absurd (apart_there old n r none is same.0)
         | inr apart ↦ ap pages_in apart.1
       ];
     }
@@ -124,14 +124,6 @@ made_test : (r n o pages : ℕ) (was : Region) → n ≡ r → R.made (r == n) o
 made_test r n o pages was same = elim (eqb_tells r n) [
   | inl is ↦ ap (λ b. R.made b o pages was) is.0
   | inr apart ↦ absurd (apart.1 (sym same))
-]
-
--- nothing leads to a region that isn't there
-none_leads : (size : ℕ) (chains : ChainTable) (n : ℕ) (rows : List Entry) → region_at chains n ≡ None → AllRows (IsInside size chains) rows → has_entry n rows ≡ false
-none_leads size chains n [] none all = refl
-none_leads size chains n (row ∷ rows) none all = elim (eqb_tells row.region.0 n) [
-  | inl same ↦ absurd (not_there chains n row.region.0 none (sym same.1) all.0.region)
-  | inr apart ↦ rw apart.0 (none_leads size chains n rows none all.1)
 ]
 
 entries_range : (size : ℕ) (maps new : Mapped) (chains chains2 : ChainTable) (task n address bytes : ℕ) (object : ObjectId) → HasEntries size maps chains [] → region_at chains n ≡ None → PutsRegion n (Some (new_region object (bytes / size))) chains chains2
@@ -156,24 +148,13 @@ entries_range size maps new chains chains2 task n address bytes object has none 
           let is : row ≡ row2 = some_is row row2 (sym same.1 ∙ found) in
           let count : 1 ≡ row2.entries = ap (λ z. z.entries) is in
           let nothing : count_by all_tasks r maps ≡ 0 = by_none all_tasks r maps (λ t. subst (λ (z : ℕ). has_entry z (rows_in t maps) ≡ false) same.0 (none_leads size chains n (rows_in t maps) none (has.inside t))) in
-          let here : ◌≡◌ {A = ℕ} (if n == r then 1 else 0) 1 = yes r same.0 in
-          omega (arith, count, nothing, here, on_entered r entry (rows_in task maps))
+          omega (arith, count, nothing, one_on n r same.0, on_entered r entry (rows_in task maps))
       | inr apart ↦
-          let here : ◌≡◌ {A = ℕ} (if n == r then 1 else 0) 0 = other r apart.0 in
-          omega (arith, has.counts r row2 (sym apart.1 ∙ found), here, on_entered r entry (rows_in task maps))
+          omega (arith, has.counts r row2 (sym apart.1 ∙ found), none_on n r apart.0, on_entered r entry (rows_in task maps))
     ])
   where
     made : region_at chains2 n ≡ Some (new_region object (bytes / size))
     made = elim (region_cases n (Some (new_region object (bytes / size))) chains chains2 put n) [ inl same ↦ same.1 | inr apart ↦ absurd (apart.0 refl) ]
-
-    yes : (r : ℕ) → n ≡ r → ◌≡◌ {A = ℕ} (if n == r then 1 else 0) 1
-    yes r same = elim (eqb_tells n r) [ inl is ↦ ap (λ b. if b then 1 else 0) is.0 | inr apart ↦ absurd (apart.1 same) ]
-
-    other : (r : ℕ) → (n ≡ r → ⊥) → ◌≡◌ {A = ℕ} (if n == r then 1 else 0) 0
-    other r apart = elim (eqb_tells n r) [ inl is ↦ absurd (apart is.1) | inr isnt ↦ ap (λ b. if b then 1 else 0) isnt.0 ]
-
-pub pages_range : (fs : FrameTable) (rs : ResidentTable) (os os2 : ObjectTable) (local_at : ℕ → ℕ → Local) → HasPages fs rs os local_at → SameMarks os os2 → HasPages fs rs os2 local_at
-pages_range fs rs os os2 local_at has marks = record { shown = λ o p. has.shown o p ∙ ap (local_of_row fs (row_at rs o p)) (sym (marks.at o p)) }
 
 used_range : (chains chains2 : ChainTable) (n : ℕ) (object : ObjectId) (pages : ℕ) → AllUsed chains → PutsRegion n (Some (new_region object pages)) chains chains2 → AllUsed chains2
 used_range chains chains2 n object pages used put r row found = elim (region_cases n (Some (new_region object pages)) chains chains2 put r) [
@@ -194,11 +175,11 @@ fit_range parts os chains n row fit referred none put =
     ])
 
 -- the regions are the host's, and the new one was made for its task
-homes_range : (h : ℕ) (chains chains2 : ChainTable) (n : ℕ) (row : RegionRow) (home_from home_from2 : ℕ → Option ℕ) → HasHomes h chains home_from → ((r : ℕ) → home_from r ≡ Some h → home_from2 r ≡ Some h) → home_from2 n ≡ Some h
-    → PutsRegion n (Some row) chains chains2 → HasHomes h chains2 home_from2
-homes_range h chains chains2 n row home_from home_from2 has stay home put r row2 found = elim (region_cases n (Some row) chains chains2 put r) [
+homes_range : (header : Header) (h : ℕ) (chains chains2 : ChainTable) (n : ℕ) (row : RegionRow) (home_from home_from2 : ℕ → Option ℕ) → HasHomes header h chains home_from → ((r : ℕ) → home_from r ≡ Some h → home_from2 r ≡ Some h) → home_from2 n ≡ Some h
+    → PutsRegion n (Some row) chains chains2 → HasHomes header h chains2 home_from2
+homes_range header h chains chains2 n row home_from home_from2 has stay home put r row2 paged found = elim (region_cases n (Some row) chains chains2 put r) [
   | inl same ↦ subst (λ (z : ℕ). home_from2 z ≡ Some h) same.0 home
-  | inr apart ↦ stay r (has r row2 (sym apart.1 ∙ found))
+  | inr apart ↦ stay r (has r row2 paged (sym apart.1 ∙ found))
 ]
 
 -- the entry that was entered
@@ -220,6 +201,7 @@ with_range k k2 maps =
       alloc = k2.alloc;
       host = k.host;
       size = k.size;
+      declared = k.declared;
       memory = record k.memory { objects = k2.memory.objects };
       maps = maps;
       chains = k2.chains;
@@ -264,14 +246,14 @@ range_apart header h task address bytes past k ids maps object pages lined rests
 
 range_uses : (header : Header) (h : ℕ) (task : TaskId) (address bytes : ℕ) (past : List Event) (k : Parts) (ids : Ids) (maps : Mapped) (object : ObjectId) (pages : ℕ) → IsLined past → Rests header h k ids past → MayRange header.size k ids task.0 address bytes → task.0 < all_tasks
     → ChangesOnly k.maps maps task.0 (Some (entered (whole_entry address bytes (record { 0 = ids.next_region })) (rows_in task.0 k.maps)))
-    → HasUse maps (λ r. in_use header h r (got task (whole_entry address bytes (record { 0 = ids.next_region })) ∷ event.RegionMade (record { 0 = ids.next_region }) object pages ∷ past)) (tasks past)
+    → HasUse header maps (λ r. in_use header h r (got task (whole_entry address bytes (record { 0 = ids.next_region })) ∷ event.RegionMade (record { 0 = ids.next_region }) object pages ∷ past)) (tasks past)
     (λ t r. holds header.size t r (got task (whole_entry address bytes (record { 0 = ids.next_region })) ∷ event.RegionMade (record { 0 = ids.next_region }) object pages ∷ past)) (next_region header past + 1)
 range_uses header h task address bytes past k ids maps object pages lined rests may below changes =
     let m = rests.matches in
     let n = ids.next_region in
     let made : Event = event.RegionMade (record { 0 = n }) object pages in
-    uses_entered k.maps maps (λ r. in_use header h r (made ∷ past)) (tasks past) _ _ task.0 (whole_entry address bytes (record { 0 = n })) (lives_on h task.0 (made ∷ past))
-    (λ r apart. other_use header h n r pages object past apart ∙ m.uses.used r) (made_use header h n n pages object past lined refl) m.uses.among changes may.lives below
+    uses_entered header k.maps maps (λ r. in_use header h r (made ∷ past)) (tasks past) _ _ task.0 (whole_entry address bytes (record { 0 = n })) (lives_on h task.0 (made ∷ past))
+    (λ r temporary apart. other_use header h n r pages object past apart ∙ m.uses.used r temporary) (λ r file apart some. other_use header h n r pages object past apart ∙ m.uses.files r file some) (λ paged. made_use header h n n pages object past lined refl) m.uses.among changes may.lives below
     (m.tasks.hosts task.0 ∙ ap is_some may.lives)
     (range_apart header h task address bytes past k ids maps object pages lined rests may)
 
@@ -367,6 +349,24 @@ range_regions header h task address bytes past k k2 ids rests may made =
     regions_moved header (e ∷ past) (ranged task ids address bytes pages ++ past) refl refl (λ r. refl) (λ o. refl)
     (subst (λ (z : ℕ). HasRegions k2.chains k2.memory.objects (ids_after ids) (λ r. region_of header r (e ∷ past)) (λ o. backing_of header o (e ∷ past)) (next_region header past + 1) (next_object header past + 1) z) (sym marks) now)
 
+-- the numbers of the next region and object are those of temporary ones
+record AreTemporary (header : Header) (ids : Ids) : Type 0 where
+  region : named header ≤ ids.next_region
+  object : named header ≤ ids.next_object
+
+first_temporary : (header : Header) (h : ℕ) (past : List Event) (k : Parts) (ids : Ids) → Rests header h k ids past → AreTemporary header ids
+first_temporary header h past k ids rests =
+    let region = rests.matches.regions.region in
+    let object = rests.matches.regions.object in
+    record { region = let more = named_regions header past in omega (arith, region, more); object = let more = named_objects header past in omega (arith, object, more) }
+
+-- the new object and its region are temporary ones
+range_kinds : (header : Header) (h : ℕ) (past : List Event) (k k2 : Parts) (ids : Ids) (pages : ℕ) → Rests header h k ids past → MadeRange (record { 0 = ids.next_region }) (record { 0 = ids.next_object }) pages k k2 → HasKinds header k2.memory.objects k2.chains
+range_kinds header h past k k2 ids pages rests made =
+    let least = (first_temporary header h past k ids rests).object in
+    kinds_region header ids.next_region (new_region (record { 0 = ids.next_object }) pages) k2.memory.objects k.chains k2.chains made.region_row (λ temporary. least)
+    (kinds_put header ids.next_object (new_object pages) k.memory.objects k2.memory.objects k.chains made.object_row made.marks (kind_new header ids.next_object (new_object pages) pages least refl) rests.matches.kinds)
+
 rests_range : (header : Header) (h : ℕ) (outside : Outside) (task : TaskId) (address bytes : ℕ) (past : List Event) (k k2 : Parts) (ids : Ids) (maps : Mapped) → IsLined past → Rests header h k ids past → MayRange header.size k ids task.0 address bytes → task.0 < 1024
     → MadeRange (record { 0 = ids.next_region }) (record { 0 = ids.next_object }) (bytes / header.size) k k2 → ChangesOnly k.maps maps task.0 (Some (entered (whole_entry address bytes (record { 0 = ids.next_region })) (rows_in task.0 k.maps)))
     → Rests header h (with_range k k2 maps) (ids_after ids) (ranged task ids address bytes (bytes / header.size) ++ past)
@@ -377,12 +377,15 @@ rests_range header h outside task address bytes past k k2 ids maps lined rests m
     let object : ObjectId = record { 0 = ids.next_object } in
     let row = whole_entry address bytes (record { 0 = n }) in
     let none = region_free header h k ids past rests in
-    let local_at = λ (o p : ℕ). local header.size h (place_of o p) past in
+    let local_at = λ (o p : ℕ). known_local header o p (local header.size h (place_of o p) past) in
     let unknown = object_free header h k ids past rests in
     record {
       matches =
           record {
-            plain = m.plain;
+            ranged = m.ranged;
+            declared = m.declared;
+            kinds = range_kinds header h past k k2 ids pages rests made;
+            shared = shared_entered (named header) task.0 k.maps maps row changes (temporary_shared (named header) row (first_temporary header h past k ids rests).region) m.shared;
             known = m.known;
             size = m.size;
             host = m.host;
@@ -390,13 +393,13 @@ rests_range header h outside task address bytes past k k2 ids maps lined rests m
             tasks = tasks_entered h header.size k.maps maps (event.RegionMade (record { 0 = n }) object pages ∷ past) task (whole_entry address bytes (record { 0 = n })) m.tasks changes may.lives;
             regions = range_regions header h task address bytes past k k2 ids rests may made;
             entries = entries_range header.size k.maps maps k.chains k2.chains task.0 n address bytes object m.entries none made.region_row changes below may.whole may.some may.below may.room;
-            pages = pages_range k.memory.frames k.memory.resident k.memory.objects k2.memory.objects local_at m.pages made.marks;
+            pages = pages_marked k.memory.frames k.memory.resident k.memory.objects k2.memory.objects local_at m.pages made.marks;
             uses = range_uses header h task address bytes past k ids maps object (bytes / header.size) lined rests may (rw most_is below) changes;
             controls = controls_made k.memory.objects k2.memory.objects (λ o. last_control h o past) (λ o. live_control h o past) (λ o. is_ready h o past) ids.next_object pages m.controls unknown made.object_row
                 (λ o is. objects_stay o h (ranged task ids address bytes pages) past is)
                 (range_object_home header h task address bytes past k ids rests may);
             homeless = range_homeless header h outside task address bytes past k ids lined rests may;
-            homes = homes_range h k.chains k2.chains n (new_region object pages) (λ r. home_of r past) (λ r. home_of r (ranged task ids address bytes pages ++ past)) m.homes (λ r is. homes_stay r h (ranged task ids address bytes pages) past is) (range_home header h task address bytes past k ids rests may) made.region_row;
+            homes = homes_range header h k.chains k2.chains n (new_region object pages) (λ r. home_of r past) (λ r. home_of r (ranged task ids address bytes pages ++ past)) m.homes (λ r is. homes_stay r h (ranged task ids address bytes pages) past is) (range_home header h task address bytes past k ids rests may) made.region_row;
             settled = record { returned = refl; shut = λ region. refl };
             laundry = m.laundry;
             frames = m.frames;
@@ -432,6 +435,6 @@ ran_range header h outside task address bytes pages past k k2 ids before after m
     (record { licensed = range_licensed header h outside task address bytes past k ids s.begins s.rests (may_range header h task address bytes past k ids before s); own_bytes = (tt, (tt, tt)); frames = (fine, (fine, tt)); inner = (tt, (tt, tt)); said = (tt, (tt, tt)); mine = range_mine header h task address bytes past k ids s.begins s.rests s.acts })
     tt rests in
     let same : record k2 { maps = maps } ≡ with_range k k2 maps =
-    λ i. record { alloc = k2.alloc; host = made.host i; size = made.size i; memory = made.memory i; maps = maps; chains = k2.chains; laundry = made.laundry i; waits = made.waits i } in
+    λ i. record { alloc = k2.alloc; host = made.host i; size = made.size i; declared = made.declared i; memory = made.memory i; maps = maps; chains = k2.chains; laundry = made.laundry i; waits = made.waits i } in
     subst (λ (z : List Event). Ran header h outside (command.Allocate task address bytes) past (record k2 { maps = maps }) (ids_after ids) z) (sym log)
     (subst (λ (z : Parts). Ran header h outside (command.Allocate task address bytes) past z (ids_after ids) events) (sym same) ran)

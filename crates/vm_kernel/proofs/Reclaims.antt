@@ -1,5 +1,5 @@
 -- One page of a host is reclaimed, and a pageout does that over and over.
-use Rattle.vm_kernel.proofs.Common.{AllLive, AllSkipped, ArePlain, Bool, ChainTable, Channel, Command, Created, Creates, Declared, EachGone, Elsewhere, Err, Event, Fit, FrameNo, FrameTable, FreesOrReturns, GivesBack, HasControls, HasFrames, HasLaundry, HasOrder, HasPages, HasRegions, HasTasks, HasUse, HasWaits, HaveHomes, Header, HostId, HostIsFull, Ids, IfSome, IsExhausted, IsFreed, IsNothing, IsReturned, KeepsPages, LegalEvents, List, MatchOption, Matches, None, ObjectRow, ObjectTable, Ok, OnOk, Option, Outside, PageKey, PageRow, PagerState, PagesOut, Parts, PartsFit, PutsObject, PutsRow, Queues, Reclaim, ReclaimEffects, ResidentTable, Rests, Result, ReturnCause, Returns, ReturnsOn, Some, Starves, Up, [], absent_at, ap, arith, away, backing_of, claimed, controlled, departures, entries_of, eqb_tells, false, fit_touched, frame_count, frames_held, frames_wired, free, has_pager, holds, home_of, host_id, host_of, if_true, if◌then◌else◌, in_use, inl, inr, is_claimed, is_queued, is_ready, is_skipped, last_control, last_in, length, live_control, live_in, local, local_after, local_of_row, looked, mark_there, next_object, next_region, not, owner_of, page_in, page_key, place_of, queues_after_search, refl, region_of, returns_out, reverse, row_at, row_cases, row_with_control, sends, slice_get, some_is, subst, sym, told_from, true, unnamed, ℕ, ◌&&◌, ◌++◌, ◌+◌, ◌-◌, ◌<◌, ◌==◌, ◌||◌, ◌∙◌, ◌∷◌, ◌≡◌, ◌≤◌, ◌⊎◌}
+use Rattle.vm_kernel.proofs.Common.{AllLive, AllSkipped, ArePlain, Begins, Bool, Channel, Command, Created, Creates, EachGone, Elsewhere, Err, Event, Fit, FrameNo, FrameTable, FreesOrReturns, GivesBack, HasControls, HasFrames, HasLaundry, HasOrder, HasPages, HasRegions, HasTasks, HasUse, HasWaits, HaveHomes, Header, HostId, HostIsFull, Ids, IfSome, IsExhausted, IsFreed, IsNothing, IsReturned, KeepsPages, LegalEvents, List, LocalEffect, MatchOption, Matches, None, ObjectRow, Ok, OnOk, Option, Outside, PageKey, PageRow, PagerState, PagesOut, Parts, PartsFit, PutsObject, PutsRow, Queues, Reclaim, ReclaimEffects, ResidentTable, Rests, Result, ReturnCause, Returns, ReturnsOn, Some, Starves, Up, [], absent_at, ap, arith, away, backing_of, claimed, controlled, departures, entries_of, eqb_tells, false, fit_touched, frame_count, frames_held, frames_wired, free, has_pager, holds, home_of, host_id, host_of, if_true, if◌then◌else◌, in_use, inl, inr, is_claimed, is_queued, is_ready, is_skipped, last_control, last_in, length, live_control, live_in, local, local_after, local_of_row, looked, mark_there, named, next_object, next_region, not, owner_of, page_in, page_key, place_of, queues_after_search, refl, region_of, returns_out, reverse, row_at, row_cases, row_with_control, sends, slice_get, some_is, subst, sym, told_from, true, unnamed, ℕ, ◌&&◌, ◌++◌, ◌+◌, ◌-◌, ◌<◌, ◌==◌, ◌||◌, ◌∙◌, ◌∷◌, ◌≡◌, ◌⊎◌}
 use Rattle.vm_legal.specs.Licences.{Drops, Reclaimed as ForFrames}
 use Rattle.vm_legal.specs.Living.{tasks as made_tasks}
 use Rattle.vm_legal.specs.Reclaims.{Reclaims as May}
@@ -13,15 +13,16 @@ use Rattle.vm_kernel.proofs.Growing.{Follows, free_is, goes_none, goes_one, suff
 use Rattle.vm_kernel.proofs.Losing.{IsSeen, seen_here}
 use Rattle.vm_kernel.proofs.Brings.{plain_changed}
 use Rattle.vm_kernel.proofs.Pages.{frames_changed, itself, laundry_changed, pages_moved}
-use Rattle.std.proofs.Common.{suc, zero}
 use Rattle.std.specs.Prelude.{IfOk}
 use Rattle.vm_abroad.proofs.Home.{object_stays}
-use Rattle.vm_kernel.proofs.Returning.{controls_begun, controls_moved, controls_same, controls_told, counts_controlled, first_of_object, pages_created, ready_controlled, temporary_controlled, told_controlled, unasked}
+use Rattle.vm_kernel.proofs.Known.{known_on, other_if, other_nested, pages_known}
+use Rattle.vm_kernel.proofs.Returning.{controls_begun, controls_same, controls_told, counts_controlled, first_of_object, kind_controlled, kinds_controlled, pages_created, ready_controlled, told_controlled, unasked, untold_temporary}
 use Rattle.vm_abroad.specs.Home.{object_home}
 use Rattle.vm_legal.specs.Prompt.{IsSource}
-use Rattle.vm_model.specs.Regions.{marked_below, marked_regions}
+use Rattle.vm_model.specs.Regions.{marked_regions}
 use Rattle.vm_parts.proofs.Rows.{stood}
-use Rattle.vm_state.specs.Stands.{HasHomes, IsTemporary}
+use Rattle.vm_state.specs.Places.{known_local}
+use Rattle.vm_state.specs.Stands.{HasHomes, IsOfKind}
 use Rattle.vm_kernel.specs.Serving.{FreesBut, IsHere, IsToCopy}
 use Rattle.vm_state.proofs.Changing.{regions_controlled}
 use Rattle.vm_state.proofs.Referred.{referred_controlled, referred_gone}
@@ -29,11 +30,13 @@ use Rattle.vm_state.proofs.Told.{waiters_lost}
 use Rattle.vm_kernel.proofs.Washing.{laundry_room, laundry_returned}
 use Rattle.vm_kernel.proofs.Own.{named_host, own_host}
 use Rattle.vm_kernel.proofs.Mine.{mine_of, own_named}
+use Rattle.vm_kernel.proofs.After.{controls_stay, regions_behind}
 
 -- all but what a reclaim changes is as it was, and what it changes fits
 pub record Beside (k k2 : Parts) : Type 0 where
   pub host : k2.host ≡ k.host
   pub size : k2.size ≡ k.size
+  pub declared : k2.declared ≡ k.declared
   pub maps : k2.maps ≡ k.maps
   pub chains : k2.chains ≡ k.chains
   pub waits : k2.waits ≡ k.waits
@@ -70,20 +73,6 @@ row_stays skip key row rs rs2 found put unskipped o p other there skips = elim (
   | inr apart ↦ apart.is ∙ there
 ]
 
--- the regions stand as they did behind an event that says nothing of them
-
-marked_same : (header : Header) (n : ℕ) (e : Event) (past : List Event) → ((r : ℕ) → (region_of header r (e ∷ past)).mark ≡ (region_of header r past).mark) → marked_below header n (e ∷ past) ≡ marked_below header n past
-marked_same header zero e past same = refl
-marked_same header (suc n) e past same =
-    ap (λ b. if b then marked_below header n (e ∷ past) + 1 else marked_below header n (e ∷ past)) (same n) ∙ ap (λ z. if (region_of header n past).mark then z + 1 else z) (marked_same header n e past same)
-
--- such an event leaves the numbers and the marks
-regions_behind : (header : Header) (e : Event) (past : List Event) (cs : ChainTable) (os : ObjectTable) (ids : Ids) → ((r : ℕ) → (region_of header r (e ∷ past)).mark ≡ (region_of header r past).mark)
-    → HasRegions cs os ids (λ r. region_of header r past) (λ o. backing_of header o past) (next_region header past) (next_object header past) (marked_regions header past)
-    → HasRegions cs os ids (λ r. region_of header r past) (λ o. backing_of header o past) (next_region header past) (next_object header past) (marked_below header (next_region header past) (e ∷ past))
-regions_behind header e past cs os ids same has =
-    subst (λ (n : ℕ). HasRegions cs os ids (λ r. region_of header r past) (λ o. backing_of header o past) (next_region header past) (next_object header past) n) (sym (marked_same header (next_region header past) e past same)) has
-
 -- no page was found
 took_nothing : (header : Header) (h : ℕ) (outside : Outside) (doing : Command) (past : List Event) (ids : Ids) (skip : List FrameNo) (k k2 : Parts) (before after : List Event)
     → Rests header h k ids (before ++ past) → Beside k k2 → IsNothing skip k.memory k2.memory k.laundry k2.laundry before after → Took header h outside doing past ids reclaim.Nothing skip k k2 before after
@@ -95,7 +84,10 @@ took_nothing header h outside doing past ids skip k k2 before after rests beside
           record {
             matches =
                 record {
-                  plain = m.plain;
+                  ranged = m.ranged;
+                  declared = beside.declared ∙ m.declared;
+                  kinds = rw (beside.chains, is.objects) m.kinds;
+                  shared = rw beside.maps m.shared;
                   known = m.known;
                   size = beside.size ∙ m.size;
                   host = rw beside.host m.host;
@@ -144,8 +136,8 @@ took_freed header h outside doing past ids skip k k2 before after rests beside k
     let moment = before ++ past in
     let e : Event = event.Dropped (host_id h) key.object key.page in
     let log : after ≡ e ∷ before = freed.events ∙ ap (λ z. event.Dropped z key.object key.page ∷ before) (named_host k.host h m.host) in
-    let is : local header.size h (place_of o p) moment ≡ local_of_row k.memory.frames (Some row) (absent_at k.memory.objects o p) = m.pages.shown o p ∙ ap (λ z. local_of_row k.memory.frames z (absent_at k.memory.objects o p)) page.found in
-    let seen = seen_here k.memory.frames row (absent_at k.memory.objects o p) (local header.size h (place_of o p) moment) is here (m.fits.plain o p row page.found) in
+    let is : known_local header o p (local header.size h (place_of o p) moment) ≡ local_of_row k.memory.frames (Some row) (absent_at k.memory.objects o p) = m.pages.shown o p ∙ ap (λ z. local_of_row k.memory.frames z (absent_at k.memory.objects o p)) page.found in
+    let seen = seen_here k.memory.frames row (absent_at k.memory.objects o p) (known_local header o p (local header.size h (place_of o p) moment)) is here (m.fits.plain o p row page.found) in
     let frames : HasFrames (slice_get (reverse header.frames.items) h) k2.memory.frames (frames_held header.size h (e ∷ moment)) (frames_wired h (e ∷ moment)) =
     rw (own_host h) (frames_changed (slice_get (reverse header.frames.items) h) key row.frame _ _ _ _ _ (looked k.memory) k2.memory (frames_held header.size h moment) (frames_held header.size h moment - 1) (frames_wired h moment) m.frames page (λ held. let less = page.claims in omega arith)) in
     let drops : Drops header doing h o p moment = record { here = seen.here; why = ForFrames (seen.dirty ∙ freed.clean) seen.precious (may_take header h doing o p moment seen.lock may) } in
@@ -158,7 +150,10 @@ took_freed header h outside doing past ids skip k k2 before after rests beside k
           record {
             matches =
                 record {
-                  plain = m.plain;
+                  ranged = m.ranged;
+                  declared = beside.declared ∙ m.declared;
+                  kinds = rw (beside.chains, freed.objects) m.kinds;
+                  shared = rw beside.maps m.shared;
                   known = m.known;
                   size = beside.size ∙ m.size;
                   host = rw beside.host m.host;
@@ -166,11 +161,13 @@ took_freed header h outside doing past ids skip k k2 before after rests beside k
                   tasks = rw beside.maps m.tasks;
                   regions = rw (beside.chains, freed.objects) (regions_behind header e moment k.chains k.memory.objects ids (λ r. refl) m.regions);
                   entries = rw (beside.chains, beside.maps) m.entries;
-                  pages = rw (freed.objects, own_host h) (pages_moved header.size Leaves key row.frame _ _ _ _ _ (looked k.memory) k2.memory k.memory.objects (λ o p. local header.size h (place_of o p) moment) fit m.pages page
-                      (ap (λ z. record away { asked = not z; absent = absent_at k.memory.objects o p }) here) (λ o p apart. refl));
+                  pages = rw (freed.objects, own_host h)
+                      (known_on header header.size key Leaves (λ o p. local header.size h (place_of o p) moment) tt
+                      (pages_moved header.size Leaves key row.frame _ _ _ _ _ (looked k.memory) k2.memory k.memory.objects (λ o p. known_local header o p (local header.size h (place_of o p) moment)) fit m.pages page
+                      (ap (λ z. record away { asked = not z; absent = absent_at k.memory.objects o p }) here) (λ o p apart. refl)));
                   uses = rw beside.maps m.uses;
-                  controls = rw freed.objects (controls_moved k.memory.objects _ _ _ m.controls (λ o is. object_stays o h e moment is));
-                  homeless = record { regions = m.homeless.regions; objects = m.homeless.objects; stay = m.homeless.stay };
+                  controls = rw freed.objects (controls_stay (λ o is. object_stays o h e moment is) m.controls);
+                  homeless = record { regions = m.homeless.regions; objects = m.homeless.objects; stay = m.homeless.stay; whole = m.homeless.whole; bare = m.homeless.bare; fills = m.homeless.fills };
                   homes = rw beside.chains m.homes;
                   settled = record { returned = refl; shut = λ region. refl };
                   laundry = rw freed.laundry (laundry_changed key row.frame _ _ _ _ _ (looked k.memory) k2.memory k.laundry (returns_out h moment) m.laundry page);
@@ -210,10 +207,10 @@ on_its_way h skip k k2 before after beside claims left less out stay =
 record Before (header : Header) (h : ℕ) (k : Parts) (ids : Ids) (past : List Event) : Type 0 where
   tasks : HasTasks h header.size k.maps (λ task. host_of task past) (λ task. entries_of header.size task past)
   regions : HasRegions k.chains k.memory.objects ids (λ r. region_of header r past) (λ o. backing_of header o past) (next_region header past) (next_object header past) (marked_regions header past)
-  pages : HasPages k.memory.frames k.memory.resident k.memory.objects (λ o p. local header.size h (place_of o p) past)
-  uses : HasUse k.maps (λ r. in_use header h r past) (made_tasks past) (λ t r. holds header.size t r past) (next_region header past)
+  pages : HasPages k.memory.frames k.memory.resident k.memory.objects (λ o p. known_local header o p (local header.size h (place_of o p) past))
+  uses : HasUse header k.maps (λ r. in_use header h r past) (made_tasks past) (λ t r. holds header.size t r past) (next_region header past)
   homeless : HaveHomes header past
-  homes : HasHomes h k.chains (λ r. home_of r past)
+  homes : HasHomes header h k.chains (λ r. home_of r past)
   laundry : HasLaundry k.memory.frames k.memory.resident k.laundry (returns_out h past)
   frames : HasFrames (slice_get (reverse header.frames.items) h) k.memory.frames (frames_held header.size h past) (frames_wired h past)
   waits : HasWaits k woken.Nobody past
@@ -229,7 +226,7 @@ creating h key control size = event.Sent (Up (host_id h) key.object) (message.Cr
 
 -- what a return leaves of the kernel
 returned_rests : (header : Header) (h : ℕ) (ids : Ids) (skip : List FrameNo) (k k2 : Parts) (before after moment past : List Event) (control : ℕ) → Rests header h k ids past → Beside k k2 → KeepsPages k.memory.queues (queues_after_search k.memory.queues) → (is : IsReturned k.host skip k.memory k2.memory k.laundry k2.laundry before after) → Before header h k ids moment
-    → HasControls h k2.memory.objects (λ o. last_control h o moment) (λ o. live_control h o moment) (λ o. is_ready h o moment) (λ o. object_home o moment)
+    → HasControls (named header) h k2.memory.objects (λ o. last_control h o moment) (λ o. live_control h o moment) (λ o. is_ready h o moment) (λ o. object_home o moment)
     → Rests header h k2 ids (returning h is.key control is.row.dirty (page_in k.memory.frames is.row.frame.0) ∷ moment)
 returned_rests header h ids skip k k2 before after moment past control rests beside keeps is b controls =
     let m = rests.matches in
@@ -241,22 +238,27 @@ returned_rests header h ids skip k k2 before after moment past control rests bes
     let fit = fit_touched k.memory (queues_after_search k.memory.queues) m.fits.parts keeps refl in
     let referred = rests.referred.pages o p is.row page.found in
     let counts = counts_controlled is.object.state is.object in
-    let has : IsTemporary is.object = b.regions.temporary o is.object is.known in
+    let has : IsOfKind header o is.object = m.kinds.kinds o is.object is.known in
     let some : 0 < (controlled is.object).references =
     subst (λ (z : ℕ). 0 < z) (ap (λ (z : ObjectRow). z.references) (some_is referred.row is.object (sym referred.known ∙ is.known)) ∙ sym counts.references) referred.some in
-    let local_at = λ (o p : ℕ). local header.size h (place_of o p) moment in
+    let local_at = λ (o p : ℕ). known_local header o p (local header.size h (place_of o p) moment) in
     let e = returning h key control row.dirty (page_in k.memory.frames row.frame.0) in
     let regions : HasRegions k.chains k2.memory.objects ids (λ r. region_of header r moment) (λ o. backing_of header o moment) (next_region header moment) (next_object header moment) (marked_regions header moment) =
-    regions_controlled o is.object (controlled is.object) k.chains k.memory.objects k2.memory.objects ids _ _ _ _ _ is.known is.objects counts.references counts.pages (temporary_controlled is.object.state is.object refl has) b.regions in
+    regions_controlled o is.object (controlled is.object) k.chains k.memory.objects k2.memory.objects ids _ _ _ _ _ is.known is.objects counts.references counts.pages b.regions in
     let moved = pages_moved header.size (Returns false) key row.frame _ _ _ _ _ (looked k.memory) k2.memory k2.memory.objects local_at fit b.pages page
     (ap (λ z. record away { asked = not z }) is.victim.here ∙ ap (λ z. record away { absent = z }) (sym (is.present.at o p ∙ rw (itself o, itself p) refl)))
     (λ o2 p2 apart. is.present.at o2 p2 ∙ ap (λ b. if b then false else absent_at k.memory.objects o2 p2) apart) in
-    let pages : HasPages k2.memory.frames k2.memory.resident k2.memory.objects (λ o2 p2. local_after header.size (if o == o2 then (if p == p2 then Returns false else Elsewhere) else Elsewhere) (local_at o2 p2)) =
+    let effect_at : ℕ → ℕ → LocalEffect = λ o2 p2. if o == o2 then (if p == p2 then Returns false else Elsewhere) else Elsewhere in
+    let shown : HasPages k2.memory.frames k2.memory.resident k2.memory.objects (λ o2 p2. local_after header.size (effect_at o2 p2) (local_at o2 p2)) =
     record { shown = λ o2 p2. ap (λ e. local_after header.size e (local_at o2 p2)) (nested (o == o2) (p == p2)) ∙ moved.shown o2 p2 } in
+    let pages = pages_known header header.size effect_at (λ o2 p2. local header.size h (place_of o2 p2) moment) (λ o2 p2. other_nested (o == o2) (p == p2) (Returns false) tt) shown in
     record {
       matches =
           record {
-            plain = m.plain;
+            ranged = m.ranged;
+            declared = beside.declared ∙ m.declared;
+            kinds = rw beside.chains (kinds_controlled header o p (controlled is.object) k.memory.objects k2.memory.objects k.chains is.objects is.present (kind_controlled header o is.object.state is.object refl has) m.kinds);
+            shared = rw beside.maps m.shared;
             known = m.known;
             size = beside.size ∙ m.size;
             host = rw beside.host m.host;
@@ -266,8 +268,8 @@ returned_rests header h ids skip k k2 before after moment past control rests bes
             entries = rw (beside.chains, beside.maps) m.entries;
             pages = rw (own_host h) pages;
             uses = rw beside.maps b.uses;
-            controls = controls_moved k2.memory.objects _ _ _ controls (λ o is. object_stays o h e moment is);
-            homeless = record { regions = b.homeless.regions; objects = b.homeless.objects; stay = b.homeless.stay };
+            controls = controls_stay (λ o is. object_stays o h e moment is) controls;
+            homeless = record { regions = b.homeless.regions; objects = b.homeless.objects; stay = b.homeless.stay; whole = b.homeless.whole; bare = b.homeless.bare; fills = b.homeless.fills };
             homes = rw beside.chains b.homes;
             settled = record { returned = refl; shut = λ region. refl };
             laundry = rw (own_host h) (laundry_returned key row _ _ (looked k.memory) k2.memory k.laundry k2.laundry (returns_out h moment) b.laundry page is.held is.room);
@@ -292,7 +294,7 @@ either precious is = rw is refl
 
 -- a return has its cause, and its bytes are those of the page
 back_follows : (header : Header) (h : ℕ) (outside : Outside) (doing : Command) (ids : Ids) (k : Parts) (key : PageKey) (row : PageRow) (f control : ℕ) (past moment : List Event) → Matches header h k ids [] past → row_at k.memory.resident key.object.0 key.page.0 ≡ Some row → row.frame.0 ≡ f
-    → IsSeen (local header.size h (place_of key.object.0 key.page.0) moment) row (page_in k.memory.frames row.frame.0) → row.dirty ≡ true → live_control h key.object.0 moment ≡ Some control → ReturnCause header doing h key.object.0 key.page.0 false moment
+    → IsSeen (known_local header key.object.0 key.page.0 (local header.size h (place_of key.object.0 key.page.0) moment)) row (page_in k.memory.frames row.frame.0) → row.dirty ≡ true → live_control h key.object.0 moment ≡ Some control → ReturnCause header doing h key.object.0 key.page.0 false moment
     → HasFrames (slice_get (reverse header.frames.items) h) k.memory.frames (frames_held header.size h moment) (frames_wired h moment) → Follows header h outside doing (returning h key control row.dirty (page_in k.memory.frames f)) moment
 back_follows header h outside doing ids k key row f control past moment m found framed seen dirty live why frames =
     let back : GivesBack header doing h control key.object.0 key.page.0 row.dirty false (page_in k.memory.frames f) moment =
@@ -320,9 +322,9 @@ took_told header h outside doing past ids skip k k2 before after rests beside ke
     let p = key.page.0 in
     let moment = before ++ past in
     let e = returning h key is.object.control row.dirty (page_in k.memory.frames is.row.frame.0) in
-    let seen = seen_here k.memory.frames row (absent_at k.memory.objects o p) (local header.size h (place_of o p) moment) (m.pages.shown o p ∙ ap (λ z. local_of_row k.memory.frames z (absent_at k.memory.objects o p)) page.found) is.victim.here (m.fits.plain o p row page.found) in
-    let first = first_of_object k.memory.objects o is.object (rests.referred.pages o p row page.found) is.known (m.regions.temporary o is.object is.known) in
-    let lives : live_control h o moment ≡ Some is.object.control = m.controls.live o ∙ (ap live_in is.known ∙ ap (λ b. if b then Some is.object.control else None) (first.live ∙ paged)) in
+    let seen = seen_here k.memory.frames row (absent_at k.memory.objects o p) (known_local header o p (local header.size h (place_of o p) moment)) (m.pages.shown o p ∙ ap (λ z. local_of_row k.memory.frames z (absent_at k.memory.objects o p)) page.found) is.victim.here (m.fits.plain o p row page.found) in
+    let kind = m.kinds.kinds o is.object is.known in
+    let lives : live_control h o moment ≡ Some is.object.control = m.controls.live o ∙ (ap live_in is.known ∙ ap (λ b. if b then Some is.object.control else None) (kind.lives ∙ paged)) in
     let why : ReturnCause header doing h o p false moment = ForFrames refl (may_take header h doing o p moment seen.lock may) in
     let follows = back_follows header h outside doing ids k key row is.row.frame.0 is.object.control moment moment m page.found refl seen dirty lives why m.frames in
     let b : Before header h k ids moment = record { tasks = m.tasks; regions = m.regions; pages = m.pages; uses = m.uses; homeless = m.homeless; homes = m.homes; laundry = m.laundry; frames = m.frames; waits = rests.waits; order = rests.order } in
@@ -351,29 +353,34 @@ took_first header h outside doing past ids skip k k2 before after rests beside k
     let e1 = creating h key control header.size in
     let e2 = returning h key control row.dirty (page_in k.memory.frames is.row.frame.0) in
     let moment = e1 ∷ h0 in
-    let first = first_of_object k.memory.objects o is.object (rests.referred.pages o p row page.found) is.known (m.regions.temporary o is.object is.known) in
+    let referred = rests.referred.pages o p row page.found in
+    let kind = m.kinds.kinds o is.object is.known in
+    let temporary = untold_temporary header k.memory.objects o is.object referred is.known kind without in
+    let first = first_of_object header k.memory.objects o is.object referred is.known kind temporary in
     let none : is.object.control ≡ 0 = first.number ∙ ap (λ z. if has_pager z then 1 else 0) without in
     let dead : live_control h o h0 ≡ None = m.controls.live o ∙ (ap live_in is.known ∙ ap (λ b. if b then Some is.object.control else None) (first.live ∙ ap has_pager without)) in
-    let pages : HasPages k.memory.frames k.memory.resident k.memory.objects (λ o p. local header.size h (place_of o p) moment) =
-    rw (own_host h) (pages_created header.size k.memory.frames k.memory.resident k.memory.objects (λ o p. local header.size h (place_of o p) h0) o m.pages (λ q. unasked header.size h o q h0 dead)) in
+    let pages : HasPages k.memory.frames k.memory.resident k.memory.objects (λ o p. known_local header o p (local header.size h (place_of o p) moment)) =
+    rw (own_host h)
+    (pages_known header header.size (λ o2 p2. if o == o2 then Begins else Elsewhere) (λ o p. local header.size h (place_of o p) h0) (λ o2 p2. other_if (o == o2) Begins tt)
+    (pages_created header.size k.memory.frames k.memory.resident k.memory.objects (λ o p. known_local header o p (local header.size h (place_of o p) h0)) o m.pages (λ q. unasked header.size h o q h0 dead))) in
     let plain = m.fits.plain o p row page.found in
-    let seen0 = seen_here k.memory.frames row (absent_at k.memory.objects o p) (local header.size h (place_of o p) h0) (m.pages.shown o p ∙ ap (λ z. local_of_row k.memory.frames z (absent_at k.memory.objects o p)) page.found) is.victim.here plain in
-    let seen = seen_here k.memory.frames row (absent_at k.memory.objects o p) (local header.size h (place_of o p) moment) (pages.shown o p ∙ ap (λ z. local_of_row k.memory.frames z (absent_at k.memory.objects o p)) page.found) is.victim.here plain in
+    let seen0 = seen_here k.memory.frames row (absent_at k.memory.objects o p) (known_local header o p (local header.size h (place_of o p) h0)) (m.pages.shown o p ∙ ap (λ z. local_of_row k.memory.frames z (absent_at k.memory.objects o p)) page.found) is.victim.here plain in
+    let seen = seen_here k.memory.frames row (absent_at k.memory.objects o p) (known_local header o p (local header.size h (place_of o p) moment)) (pages.shown o p ∙ ap (λ z. local_of_row k.memory.frames z (absent_at k.memory.objects o p)) page.found) is.victim.here plain in
     let put : PutsObject o (Some (row_with_control state.Without is.object)) k.memory.objects k2.memory.objects = subst (λ (z : PagerState). PutsObject o (Some (row_with_control z is.object)) k.memory.objects k2.memory.objects) without is.objects in
-    let begun : HasControls h k2.memory.objects (λ o. last_control h o moment) (λ o. live_control h o moment) (λ o. is_ready h o moment) (λ o. object_home o h0) = rw (own_host h) (controls_begun k.memory.objects k2.memory.objects _ _ _ o is.object m.controls beside.live is.known none put) in
-    let controls : HasControls h k2.memory.objects (λ o. last_control h o moment) (λ o. live_control h o moment) (λ o. is_ready h o moment) (λ o. object_home o moment) = controls_moved k2.memory.objects _ _ _ begun (λ o is. object_stays o h e1 h0 is) in
+    let begun : HasControls (named header) h k2.memory.objects (λ o. last_control h o moment) (λ o. live_control h o moment) (λ o. is_ready h o moment) (λ o. object_home o h0) = rw (own_host h) (controls_begun k.memory.objects k2.memory.objects _ _ _ o is.object m.controls beside.live is.known none put) in
+    let controls : HasControls (named header) h k2.memory.objects (λ o. last_control h o moment) (λ o. live_control h o moment) (λ o. is_ready h o moment) (λ o. object_home o moment) = controls_stay (λ o is. object_stays o h e1 h0 is) begun in
     let lives : live_control h o moment ≡ Some control = if_true o (Some control) (live_control h o h0) (live_control h o moment) (rw (own_host h) refl) in
     let why : ReturnCause header doing h o p false moment = Created control header.size h0 refl refl (may_take header h doing o p h0 seen0.lock may) in
     let follows = back_follows header h outside doing ids k key row is.row.frame.0 control h0 moment m page.found refl seen dirty lives why m.frames in
     let creates : Creates header h control o header.size h0 =
-    record { number = ap (λ z. z + 1) none; sized = refl; temporary = subst (λ (z : List Declared). length z ≤ o) (sym m.plain.objects) (omega arith); never = m.controls.last o ∙ (ap last_in is.known ∙ none); page = p; here = seen0.here } in
+    record { number = ap (λ z. z + 1) none; sized = refl; temporary = temporary; never = m.controls.last o ∙ (ap last_in is.known ∙ none); page = p; here = seen0.here } in
     let b : Before header h k ids moment =
     record {
       tasks = m.tasks;
       regions = regions_behind header e1 h0 k.chains k.memory.objects ids (λ r. refl) m.regions;
       pages = pages;
       uses = m.uses;
-      homeless = record { regions = m.homeless.regions; objects = m.homeless.objects; stay = m.homeless.stay };
+      homeless = record { regions = m.homeless.regions; objects = m.homeless.objects; stay = m.homeless.stay; whole = m.homeless.whole; bare = m.homeless.bare; fills = m.homeless.fills };
       homes = m.homes;
       laundry = m.laundry;
       frames = m.frames;
@@ -393,7 +400,7 @@ took_first header h outside doing past ids skip k k2 before after rests beside k
             frames = (follows.frames, (suffices header h k.memory.frames moment m.frames, tt));
             inner = (tt, (tt, tt));
             said = (follows.said, (refl, tt));
-            mine = (mine_of header h e2 moment (λ region. refl) follows.own tt, (mine_of header h e1 h0 m.settled.shut (own_named h) (m.controls.home o is.object is.known), tt));
+            mine = (mine_of header h e2 moment (λ region. refl) follows.own tt, (mine_of header h e1 h0 m.settled.shut (own_named h) (m.controls.home o is.object temporary is.known), tt));
           };
       gone = record { more = e2 ∷ e1 ∷ []; is = refl; each = (refl, (refl, tt)) };
       reclaimed = on_its_way h skip k k2 h0 (e2 ∷ moment) beside page.claims page.left (rw (own_host h) refl) (rw (own_host h) (omega arith)) (row_stays skip key row k.memory.resident k2.memory.resident page.found page.row is.victim.unskipped);
@@ -440,7 +447,10 @@ rests_touched header h ids k queues past rests keeps count =
     record {
       matches =
           record {
-            plain = m.plain;
+            ranged = m.ranged;
+            declared = m.declared;
+            kinds = m.kinds;
+            shared = m.shared;
             known = m.known;
             size = m.size;
             host = m.host;

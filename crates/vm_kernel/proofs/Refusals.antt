@@ -1,10 +1,10 @@
 -- The refusals of a kernel are those of its history.
-use Rattle.vm_kernel.proofs.Common.{AllRows, Bool, Code, Command, Entry, Event, HasTasks, Header, HostId, Ids, InRange, Inherit, IsAccessSize, IsForHere, IsInside, IsSome, List, Mapped, None, Option, Parts, Region, Rests, Some, TaskId, Waiting, [], acting, acting_in, acts_on, ap, arith, code_of, code_where, copies_from, entries_in, entry, false, frames_free, frames_wired, has_copy_mark, has_region, host_of, is_copied, is_marked, is_on, is_range, is_some, kernel_runs, lives_on, marked_regions, meets_declared, nat_tests, new_marks, next_object, object_total, refl, refusal, rows_in, rows_map, subst, sym, takes_name, true, waiting, waiting_in, ℕ, ◌&&◌, ◌+◌, ◌<◌, ◌==◌, ◌||◌, ◌∙◌, ◌∷◌, ◌≡◌}
+use Rattle.vm_kernel.proofs.Common.{AllRows, Bool, Code, Command, Entry, Event, HasTasks, Header, HostId, Ids, InRange, Inherit, IsAccessSize, IsForHere, IsInside, IsSome, List, Mapped, None, Option, Parts, Region, Rests, TaskId, [], acting, acting_in, acts_on, ap, arith, code_of, code_where, copies_from, entries_in, false, frames_free, frames_wired, has_copy_mark, has_region, host_of, is_copied, is_marked, is_on, is_range, is_some, kernel_runs, lives_on, marked_regions, meets_declared, named, new_marks, next_object, object_total, refl, refusal, rows_in, rows_map, subst, sym, takes_name, true, ℕ, ◌&&◌, ◌+◌, ◌<◌, ◌==◌, ◌||◌, ◌∙◌, ◌∷◌, ◌≡◌}
 use Rattle.std.proofs.Common.{nat_lt, if◌then◌else◌, not}
 use Rattle.vm_base.specs.declared.code.Code.TheVariants as code
 use Rattle.vm_model.specs.declared.command.Command.TheVariants as command
 use Rattle.vm_kernel.specs.Begun.{targets_here}
-use Rattle.vm_kernel.proofs.Copies.{copy_refused}
+use Rattle.vm_kernel.proofs.Uncopied.{copy_refused, waits_are}
 use Rattle.vm_kernel.proofs.Growing.{free_is}
 use Rattle.vm_kernel.proofs.Own.{host_same, lives_in, on_is, rows_here}
 use Rattle.vm_kernel.proofs.Regions.{region_row}
@@ -35,16 +35,8 @@ for_here header h k ids past other rests acts both range = tt
 
 -- whether a task that lives here can act
 
-some_waits : (o : Option Waiting) → is_some (waiting_in o) ≡ is_some o
-some_waits None = refl
-some_waits (Some w) = refl
-
-waits_is : (header : Header) (h : ℕ) (k : Parts) (ids : Ids) (past : List Event) (task : ℕ) → Rests header h k ids past → lives_on h task past ≡ true → is_some (waiting task past) ≡ is_some (entry k.waits.rows task)
-waits_is header h k ids past task rests acts =
-    ap (λ z. is_some z) (rests.waits.is task (ap (λ z. is_some z) (lives_in task rests.matches.tasks acts))) ∙ some_waits (entry k.waits.rows task)
-
 acting_is : (header : Header) (h : ℕ) (k : Parts) (ids : Ids) (past : List Event) (task : ℕ) (later mine : Option Code) → Rests header h k ids past → lives_on h task past ≡ true → later ≡ mine → acting past task later ≡ acting_in k task mine
-acting_is header h k ids past task later mine rests acts same = rw (on_is h (host_of task past) acts, waits_is header h k ids past task rests acts, same) refl
+acting_is header h k ids past task later mine rests acts same = rw (on_is h (host_of task past) acts, waits_are header h k ids past task rests acts, same) refl
 
 -- the objects that there are, with those that marked regions may still get
 objects_are : (header : Header) (h : ℕ) (k : Parts) (ids : Ids) (past : List Event) → Rests header h k ids past → next_object header past + marked_regions header past ≡ object_total ids
@@ -61,23 +53,21 @@ allocate_code header h k ids past task address bytes rests acts =
     acting_is header h k ids past task.0 _ _ rests acts
     (rw (m.size, entries_same task.0 m.tasks acts, objects_are header h k ids past rests, ← m.regions.region) refl)
 
--- why an inheritance is refused, where no object is declared
+-- why an inheritance is refused
 
-none_declared : (address bytes : ℕ) (rows : List Entry) → meets_declared 0 address bytes rows ≡ false
-none_declared address bytes [] = refl
-none_declared address bytes (row ∷ rows) = let no : nat_lt row.region.0 0 ≡ false = grind (arith, nat_tests) in rw (no, none_declared address bytes rows) refl
-
-nothing_more : (a b : Bool) → (a || (b && false)) ≡ a
-nothing_more true b = refl
-nothing_more false true = refl
-nothing_more false false = refl
+-- a list of tests with two in one, the later first
+code_swap : (a b : Bool) (why : Code) (later : Option Code) → code_where (a || b) why later ≡ code_where b why (code_where a why later)
+code_swap true true why later = refl
+code_swap true false why later = refl
+code_swap false b why later = refl
 
 inherit_code : (header : Header) (h : ℕ) (k : Parts) (ids : Ids) (past : List Event) (task : TaskId) (address bytes : ℕ) (inherit : Inherit) → Rests header h k ids past → lives_on h task.0 past ≡ true
     → refusal header past (command.Inherit task address bytes inherit) ≡ code_of k ids (command.Inherit task address bytes inherit)
 inherit_code header h k ids past task address bytes inherit rests acts =
     let m = rests.matches in
+    let rows = rows_in task.0 k.maps in
     acting_is header h k ids past task.0 _ _ rests acts
-    (rw (entries_same task.0 m.tasks acts, m.tasks.sized, m.plain.objects, none_declared address bytes (rows_in task.0 k.maps), nothing_more (not (is_range header.size address bytes)) (is_copied inherit)) refl)
+    (rw (entries_same task.0 m.tasks acts, m.tasks.sized, m.declared) (code_swap (not (is_range header.size address bytes)) (is_copied inherit && meets_declared (named header) address bytes rows) code.InvalidArgument _))
 
 -- why a fork is refused
 
@@ -107,7 +97,7 @@ fork_code header h k ids past task child rests acts unnamed =
     rw (
       on_is h (host_of task.0 past) acts,
       unnamed,
-      waits_is header h k ids past task.0 rests acts,
+      waits_are header h k ids past task.0 rests acts,
       entries_same task.0 m.tasks acts,
       objects_are header h k ids past rests,
       ← m.regions.region,

@@ -1,11 +1,11 @@
 -- A page goes back to its pager, which is told of its object first where it wasn't.
-use Rattle.vm_kernel.proofs.Common.{AllLive, Asks, Begins, Bool, Down, Drops, Elsewhere, Ends, Event, FrameTable, HasControls, HasPages, IsPagerTold, List, Local, LocalEffect, Message, None, ObjectRow, ObjectTable, Option, PagerState, PutsObject, Raises, ResidentTable, Returns, Some, Stores, TakesError, TakesLock, TakesNothing, TakesPage, Unlocks, Up, Zeroes, [], ap, arith, eqb_tells, false, has_pager, if◌then◌else◌, inl, inr, is_control, is_ready_state, last_in, live_control, live_in, local, local_after, local_with_page, object_at, one_case, place_of, ready_in, refl, row_with_control, some_is, subst, sym, taken_effect, true, without_control, ℕ, ◌&&◌, ◌+◌, ◌<◌, ◌==◌, ◌∙◌, ◌∷◌, ◌≡◌}
+use Rattle.vm_kernel.proofs.Common.{AllLive, Asks, Begins, Bool, ChainTable, Down, Drops, Elsewhere, Ends, Event, FrameTable, HasControls, HasKinds, HasPages, Header, IsOfKind, IsPagerTold, IsReferred, List, Local, LocalEffect, Message, None, ObjectRow, ObjectTable, Option, PagerState, PutsAbsent, PutsObject, Raises, ResidentTable, Returns, Some, Stores, TakesError, TakesLock, TakesNothing, TakesPage, Unlocks, Up, Zeroes, [], absent_at, ap, arith, eqb_tells, false, has_pager, if◌then◌else◌, inl, inr, is_control, is_ready_state, last_in, live_control, live_in, local, local_after, local_with_page, named, object_at, one_case, place_of, ready_in, refl, row_with_control, some_is, subst, sym, taken_effect, true, without_control, ℕ, ◌&&◌, ◌+◌, ◌<◌, ◌==◌, ◌∙◌, ◌∷◌, ◌≡◌, ◌≤◌}
 use Rattle.std.specs.Prelude.{◌||◌}
 use Rattle.vm_model.specs.declared.event.Event.TheVariants as event
 use Rattle.vm_model.specs.declared.message.Message.TheVariants as message
 use Rattle.vm_objects.specs.declared.row.PagerState.TheVariants as state
-use Rattle.vm_state.specs.Stands.{IsTemporary}
 use Rattle.vm_terminate.specs.Finishes.{IsReferred}
+use Rattle.vm_state.proofs.Declared.{kind_cases}
 
 -- nothing is asked of an object without a live control
 
@@ -101,10 +101,42 @@ pages_created size fs rs os local_at o has none =
 
 -- an object with a pager, which begins where it had none
 
-pub temporary_controlled : (pager : PagerState) (row : ObjectRow) → row.state ≡ pager → IsTemporary row → IsTemporary (row_with_control pager row)
-temporary_controlled state.Sent row is has = has
-temporary_controlled state.Ready row is has = has
-temporary_controlled state.Without row is has = record { kind = has.kind; live = refl; number = λ some. ap (λ z. z + 1) (has.number some ∙ ap (λ z. if has_pager z then 1 else 0) is) }
+pub kind_controlled : (header : Header) (o : ℕ) (pager : PagerState) (row : ObjectRow) → row.state ≡ pager → IsOfKind header o row → IsOfKind header o (row_with_control pager row)
+kind_controlled header o state.Sent row is has = has
+kind_controlled header o state.Ready row is has = has
+kind_controlled header o state.Without row is has =
+    record {
+      lives = refl;
+      temporary = λ least. let its = has.temporary least in record { kind = its.kind; number = λ some. ap (λ z. z + 1) (its.number some ∙ ap (λ z. if has_pager z then 1 else 0) is) };
+      declared = λ less. let its = has.declared less in record { kind = its.kind; pages = its.pages; told = λ some. refl };
+    }
+
+-- the kinds of objects, where one has a pager now, and a page of it isn't known to be missing
+pub kinds_controlled : (header : Header) (o p : ℕ) (new : ObjectRow) (os os2 : ObjectTable) (cs : ChainTable) → PutsObject o (Some new) os os2 → PutsAbsent o p false os os2 → IsOfKind header o new → HasKinds header os cs → HasKinds header os2 cs
+kinds_controlled header o p new os os2 cs put present its has =
+    record {
+      kinds = λ x known found. elim (one_case o x (Some new) (object_at os x) (object_at os2 x) (put.at x)) [
+        | inl this ↦ subst (λ (z : ℕ). IsOfKind header z known) this.0 (subst (λ (z : ObjectRow). IsOfKind header o z) (some_is new known (sym this.1 ∙ found)) its)
+        | inr other ↦ has.kinds x known (sym other.1 ∙ found)
+      ];
+      present = λ x q declared. present.at x q ∙ either (o == x && p == q) (absent_at os x q) (has.present x q declared);
+      tops = has.tops;
+      unders = has.unders;
+    }
+  where
+    either : (b was : Bool) → was ≡ false → (if b then false else was) ≡ false
+    either true was is = refl
+    either false was is = is
+
+-- an object to which something refers and of which no pager was told is temporary
+pub untold_temporary : (header : Header) (os : ObjectTable) (o : ℕ) (row : ObjectRow) → IsReferred os o → object_at os o ≡ Some row → IsOfKind header o row → row.state ≡ state.Without → named header ≤ o
+untold_temporary header os o row referred found is without = elim (kind_cases header o) [
+  | inl declared ↦
+      let same : referred.row ≡ row = some_is referred.row row (sym referred.known ∙ found) in
+      let bad : true ≡ false = sym ((is.declared declared).told (subst (λ (z : ObjectRow). 0 < z.references) same referred.some)) ∙ (is.lives ∙ ap has_pager without) in
+      absurd (cc)
+  | inr temporary ↦ temporary
+]
 
 -- it has the references and the pages that it had
 pub record KeepsCounts (old new : ObjectRow) : Type 0 where
@@ -140,7 +172,7 @@ ready_controlled os os2 o row found put object is = elim (one_case o object (Som
 
 -- the objects are as they were, as the pager was told of this one
 
-pub controls_same : {h : ℕ} {home_at : ℕ → Option ℕ} (os os2 : ObjectTable) (last_at : ℕ → ℕ) (live_at : ℕ → Option ℕ) (ready_at : ℕ → Bool) → HasControls h os last_at live_at ready_at home_at → ((o : ℕ) → object_at os2 o ≡ object_at os o) → HasControls h os2 last_at live_at ready_at home_at
+pub controls_same : {d h : ℕ} {home_at : ℕ → Option ℕ} (os os2 : ObjectTable) (last_at : ℕ → ℕ) (live_at : ℕ → Option ℕ) (ready_at : ℕ → Bool) → HasControls d h os last_at live_at ready_at home_at → ((o : ℕ) → object_at os2 o ≡ object_at os o) → HasControls d h os2 last_at live_at ready_at home_at
 controls_same os os2 last_at live_at ready_at has same =
     record {
       last = λ o. has.last o ∙ sym (ap last_in (same o));
@@ -149,14 +181,8 @@ controls_same os os2 last_at live_at ready_at has same =
       all_live = record { at = λ o row is sent. has.all_live.at o row (sym (same o) ∙ is) sent };
       numbers = record { at = λ o row is. has.numbers.at o row (sym (same o) ∙ is) };
       ended = λ o row is. has.ended o row (sym (same o) ∙ is);
-      home = λ o row is. has.home o row (sym (same o) ∙ is);
+      home = λ o row least is. has.home o row least (sym (same o) ∙ is);
     }
-
--- they are of the same host, whichever says so
-pub controls_moved : {h : ℕ} {home_at home_at2 : ℕ → Option ℕ} (os : ObjectTable) (last_at : ℕ → ℕ) (live_at : ℕ → Option ℕ) (ready_at : ℕ → Bool) → HasControls h os last_at live_at ready_at home_at → ((o : ℕ) → home_at o ≡ Some h → home_at2 o ≡ Some h)
-    → HasControls h os last_at live_at ready_at home_at2
-controls_moved os last_at live_at ready_at has home =
-    record { last = has.last; live = has.live; ready = has.ready; all_live = has.all_live; numbers = has.numbers; ended = has.ended; home = λ o row found. home o (has.home o row found) }
 
 pub controls_told : (os os2 : ObjectTable) (o : ℕ) (row : ObjectRow) → object_at os o ≡ Some row → (row_with_control row.state row ≡ row) → PutsObject o (Some (row_with_control row.state row)) os os2 → (k : ℕ) → object_at os2 k ≡ object_at os k
 controls_told os os2 o row found told put k = elim (one_case o k (Some (row_with_control row.state row)) (object_at os k) (object_at os2 k) (put.at k)) [
@@ -165,9 +191,9 @@ controls_told os os2 o row found told put k = elim (one_case o k (Some (row_with
 ]
 
 -- a control begins, of an object that had none
-pub controls_begun : {h : ℕ} {home_at : ℕ → Option ℕ} (os os2 : ObjectTable) (last_at : ℕ → ℕ) (live_at : ℕ → Option ℕ) (ready_at : ℕ → Bool) (o : ℕ) (row : ObjectRow) → HasControls h os last_at live_at ready_at home_at
+pub controls_begun : {d h : ℕ} {home_at : ℕ → Option ℕ} (os os2 : ObjectTable) (last_at : ℕ → ℕ) (live_at : ℕ → Option ℕ) (ready_at : ℕ → Bool) (o : ℕ) (row : ObjectRow) → HasControls d h os last_at live_at ready_at home_at
     → AllLive os2 → object_at os o ≡ Some row → row.control ≡ 0 → PutsObject o (Some (row_with_control state.Without row)) os os2
-    → HasControls h os2 (λ k. if o == k then row.control + 1 else last_at k) (λ k. if o == k then Some (row.control + 1) else live_at k) (λ k. if o == k then false else ready_at k) home_at
+    → HasControls d h os2 (λ k. if o == k then row.control + 1 else last_at k) (λ k. if o == k then Some (row.control + 1) else live_at k) (λ k. if o == k then false else ready_at k) home_at
 controls_begun {h = h} {home_at = home_at} os os2 last_at live_at ready_at o row has live found none put =
     record {
       last = λ k. elim (eqb_tells o k) [
@@ -199,9 +225,9 @@ controls_begun {h = h} {home_at = home_at} os os2 last_at live_at ready_at o row
             cc
         | inr apart ↦ has.ended k r (sym (was k apart.0) ∙ is) alive
       ];
-      home = λ k r is. elim (eqb_tells o k) [
-        | inl same ↦ subst (λ (z : ℕ). home_at z ≡ Some h) same.1 (has.home o row found)
-        | inr apart ↦ has.home k r (sym (was k apart.0) ∙ is)
+      home = λ k r least is. elim (eqb_tells o k) [
+        | inl same ↦ subst (λ (z : ℕ). home_at z ≡ Some h) same.1 (has.home o row (let own = same.1 in omega (arith, own, least)) found)
+        | inr apart ↦ has.home k r least (sym (was k apart.0) ∙ is)
       ];
     }
   where
@@ -211,12 +237,12 @@ controls_begun {h = h} {home_at = home_at} os os2 last_at live_at ready_at o row
     was : (k : ℕ) → (o == k) ≡ false → object_at os2 k ≡ object_at os k
     was k apart = put.at k ∙ ap (λ b. if b then Some (row_with_control state.Without row) else object_at os k) apart
 
--- an object to which something refers has its first control exactly where its pager was told of it
+-- a temporary object to which something refers has its first control exactly where its pager was told of it
 pub record IsFirst (row : ObjectRow) : Type 0 where
   pub live : row.live ≡ has_pager row.state
   pub number : row.control ≡ (if has_pager row.state then 1 else 0)
 
-pub first_of_object : (os : ObjectTable) (o : ℕ) (row : ObjectRow) → IsReferred os o → object_at os o ≡ Some row → IsTemporary row → IsFirst row
-first_of_object os o row referred found is =
+pub first_of_object : (header : Header) (os : ObjectTable) (o : ℕ) (row : ObjectRow) → IsReferred os o → object_at os o ≡ Some row → IsOfKind header o row → named header ≤ o → IsFirst row
+first_of_object header os o row referred found is least =
     let same : referred.row ≡ row = some_is referred.row row (sym referred.known ∙ found) in
-    record { live = is.live; number = is.number (subst (λ (z : ObjectRow). 0 < z.references) same referred.some) }
+    record { live = is.lives; number = (is.temporary least).number (subst (λ (z : ObjectRow). 0 < z.references) same referred.some) }

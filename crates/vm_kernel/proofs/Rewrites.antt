@@ -1,5 +1,5 @@
 -- A task's entries are cut, changed or taken away, and regions count what is left.
-use Rattle.vm_kernel.proofs.Common.{AllEntriesInside, AllReferred, AllRows, AllUsed, Backing, Bool, ChainTable, ChangesOnly, Entry, HasEntries, HasHomes, HasRegions, HasTasks, Ids, Inside, IsInside, List, Mapped, None, ObjectTable, Option, Region, ResidentTable, Some, [], all_tasks, ap, arith, count_on, cut, entries_in, entries_in_row, eqb_tells, false, flat_map, has_entry, has_region, if◌then◌else◌, inl, inr, is_on, is_some, length, max, min, most_entries, nat_lt, nat_tests, part, parts_in, refl, region_entries, removed, rewritten, rows_in, rows_map, subst, suc, sym, true, unwrap_or, zero, ℕ, ◌++◌, ◌+◌, ◌<◌, ◌==◌, ◌^◌, ◌∙◌, ◌∷◌, ◌≡◌, ◌≢◌, ◌≤◌}
+use Rattle.vm_kernel.proofs.Common.{Header, AllEntriesInside, AllReferred, AllRows, AllUsed, Backing, Bool, ChainTable, ChangesOnly, Entry, HasEntries, HasHomes, HasRegions, HasTasks, Ids, Inside, IsInside, List, Mapped, None, ObjectTable, Option, Region, ResidentTable, Some, [], all_tasks, ap, arith, count_on, cut, entries_in, entries_in_row, eqb_tells, false, flat_map, has_entry, has_region, if◌then◌else◌, inl, inr, is_on, is_some, length, max, min, most_entries, nat_lt, nat_tests, part, parts_in, refl, region_entries, removed, rewritten, rows_in, rows_map, subst, suc, sym, true, unwrap_or, zero, ℕ, ◌++◌, ◌+◌, ◌<◌, ◌==◌, ◌^◌, ◌∙◌, ◌∷◌, ◌≡◌, ◌≢◌, ◌≤◌}
 use Rattle.vm_kernel.proofs.Counts.{by_changed, on_append, on_zero}
 use Rattle.vm_kernel.proofs.Recounts.{Recounts, has_same, pages_same, recounts_but, row_before}
 use Rattle.vm_state.proofs.Changing.{regions_recounted}
@@ -12,8 +12,8 @@ pub recount_regions : (count : ℕ → ℕ) (cs cs2 : ChainTable) (os : ObjectTa
     → HasRegions cs os ids region_from backing_from regions_made objects_made marked → HasRegions cs2 os ids region_from backing_from regions_made objects_made marked
 recount_regions count cs cs2 os ids region_from backing_from regions_made objects_made marked is has = regions_recounted cs cs2 os ids region_from backing_from regions_made objects_made marked (recounts_but count cs cs2 is) has
 
-pub recount_homes : (count : ℕ → ℕ) (h : ℕ) (cs cs2 : ChainTable) (home_from : ℕ → Option ℕ) → Recounts count cs cs2 → HasHomes h cs home_from → HasHomes h cs2 home_from
-recount_homes count h cs cs2 home_from is has r row found = let b = row_before count cs cs2 is r row found in has r b.was b.found
+pub recount_homes : (count : ℕ → ℕ) (header : Header) (h : ℕ) (cs cs2 : ChainTable) (home_from : ℕ → Option ℕ) → Recounts count cs cs2 → HasHomes header h cs home_from → HasHomes header h cs2 home_from
+recount_homes count header h cs cs2 home_from is has r row paged found = let b = row_before count cs cs2 is r row found in has r b.was paged b.found
 
 pub recount_referred : (count : ℕ → ℕ) (cs cs2 : ChainTable) (os : ObjectTable) (rs : ResidentTable) → Recounts count cs cs2 → AllReferred cs os rs → AllReferred cs2 os rs
 recount_referred count cs cs2 os rs is all = referred_recounted cs cs2 os rs (recounts_but count cs cs2 is) all

@@ -3,7 +3,9 @@ use Rattle.vm_kernel.proofs.Common.{Bool, Entry, Event, Header, List, [], ap, ar
 use Rattle.vm_base.specs.declared.ids.RegionId.{RegionId}
 use Rattle.vm_base.specs.Limits.{most_objects, most_regions}
 use Rattle.vm_state.proofs.Marks.{marked_copied}
-use Rattle.vm_kernel.proofs.Copies.{copied, marked_as}
+use Rattle.vm_kernel.proofs.Copies.{copied}
+use Rattle.vm_kernel.proofs.After.{marks_still}
+use Rattle.std.proofs.lemmas.Bool.{and_parts, or_parts}
 
 -- regions that are marked in more cases leave fewer to mark
 
@@ -30,10 +32,6 @@ marks_once a b r (row ∷ rows) more isnt is from = by (λ found. marks_once a b
     head true false e none = refl
     head false false e none = e
 
-    both : (c d : Bool) → (c && d) ≡ true → (c ≡ true) × (d ≡ true)
-    both true d e = (refl, e)
-    both false d e = absurd (let bad : false ≡ true = e in cc)
-
     step : (copied from x y : Bool) (n m : ℕ) → (x ≡ true → y ≡ true) → m + 1 ≤ n → (if copied && (not from && not y) then m + 1 else m) + 1 ≤ (if copied && (not from && not x) then n + 1 else n)
     step false from x y n m up le = le
     step true true x y n m up le = le
@@ -49,7 +47,7 @@ marks_once a b r (row ∷ rows) more isnt is from = by (λ found. marks_once a b
     by rest true found =
         step (is_copied row.inherit) (copies_from row.region.0 rows) (a row.region.0) (b row.region.0) (new_marks a rows) (new_marks b rows) (more row.region.0) (rest found)
     by rest false none =
-        let this = both (is_copied row.inherit) (row.region.0 == r) (head (is_copied row.inherit && row.region.0 == r) (copies_from r rows) from none) in
+        let this = and_parts (is_copied row.inherit) (row.region.0 == r) (head (is_copied row.inherit && row.region.0 == r) (copies_from r rows) from none) in
         elim (eqb_tells row.region.0 r) [
           | inl same ↦
               own (a row.region.0) (b row.region.0) (copies_from row.region.0 rows) (is_copied row.inherit) (new_marks a rows) (new_marks b rows) this.0
@@ -64,15 +62,11 @@ pub record HasRoom (header : Header) (rows : List Entry) (past : List Event) : T
 
 pub room_of : (header : Header) (rows : List Entry) (past : List Event) → is_fork_full header rows past ≡ false → HasRoom header rows past
 room_of header rows past fits =
-    let both = neither (nat_lt most_regions (next_region header past + copies rows)) (nat_lt most_objects (next_object header past + marked_regions header past + copies rows + new_marks (has_copy_mark header past) rows)) fits in
+    let both = or_parts (nat_lt most_regions (next_region header past + copies rows)) (nat_lt most_objects (next_object header past + marked_regions header past + copies rows + new_marks (has_copy_mark header past) rows)) fits in
     let regions = both.0 in
     let objects = both.1 in
     record { regions = few most_regions (next_region header past + copies rows) regions; objects = few most_objects (next_object header past + marked_regions header past + copies rows + new_marks (has_copy_mark header past) rows) objects }
   where
-    neither : (a b : Bool) → (a || b) ≡ false → (a ≡ false) × (b ≡ false)
-    neither true b e = absurd (let bad : true ≡ false = e in cc)
-    neither false b e = (refl, e)
-
     few : (most n : ℕ) → nat_lt most n ≡ false → n ≤ most
     few most n is = grind (arith, nat_tests)
 
@@ -80,7 +74,7 @@ room_of header rows past fits =
 pub room_more : (header : Header) (rows : List Entry) (past past2 : List Event) → next_region header past2 ≡ next_region header past → next_object header past2 ≡ next_object header past → ((r : ℕ) → (region_of header r past2).mark ≡ (region_of header r past).mark)
     → HasRoom header rows past → HasRoom header rows past2
 room_more header rows past past2 regions objects same room =
-    let marked : marked_regions header past2 ≡ marked_regions header past = marked_as header (next_region header past2) past past2 same ∙ ap (λ z. marked_below header z past) regions in
+    let marked : marked_regions header past2 ≡ marked_regions header past = marks_still header (next_region header past2) past past2 same ∙ ap (λ z. marked_below header z past) regions in
     let tests : has_copy_mark header past2 ≡ has_copy_mark header past = λ i r. same r i in
     let new : new_marks (has_copy_mark header past2) rows ≡ new_marks (has_copy_mark header past) rows = ap (λ f. new_marks f rows) tests in
     record { regions = omega (arith, room.regions, regions); objects = omega (arith, room.objects, objects, marked, new) }

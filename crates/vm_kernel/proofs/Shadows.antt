@@ -1,6 +1,6 @@
 -- What a shadow leaves of the kernel, which a store's region gets first where that is marked.
 use Rattle.vm_kernel.proofs.Common.{ChainTable, Event, HasEntries, Header, HostParts, Ids, Inside, IsInside, List, Matches, None, ObjectId, ObjectTable, Parts, PutsObject, Region, RegionRow, SameMarks, Some, Works, [], ap, arith, false, has_region, home_of, if◌then◌else◌, inl, inr, is_some, local_of_row, marked_regions, next_object, next_region, object_at, one_case, pages_in, refl, region_at, region_pages, row_at, rows_in, rows_map, some_is, subst, sym, true, waiting, ℕ, ◌+◌, ◌-◌, ◌<◌, ◌==◌, ◌∙◌, ◌∷◌, ◌≡◌, ◌≤◌, ◌⊎◌}
-use Rattle.vm_abroad.proofs.Home.{home_shadowed, object_stays}
+use Rattle.vm_abroad.proofs.Home.{home_shadowed, named_objects, object_stays}
 use Rattle.vm_abroad.specs.Home.{first_of, region_for}
 use Rattle.vm_base.specs.Limits.{most_objects}
 use Rattle.vm_base.specs.declared.ids.RegionId.{RegionId}
@@ -9,6 +9,10 @@ use Rattle.vm_fault.specs.Walks.{ChainsFit}
 use Rattle.vm_model.specs.declared.event.Event.TheVariants as event
 use Rattle.vm_parts.specs.Fits.{Fit}
 use Rattle.vm_shadow.specs.Chains.{ObjectsBelow, ShadowsRegion}
+use Rattle.vm_model.specs.Named.{named}
+use Rattle.vm_model.specs.Regions.{backing_of, over, region_of, shadowed}
+use Rattle.vm_kernel.proofs.Uses.{paged_temporary}
+use Rattle.vm_state.proofs.Declared.{kind_new, kinds_put, kinds_shadowed, marked_temporary}
 use Rattle.vm_state.proofs.Fresh.{other_test}
 use Rattle.vm_state.proofs.Marks.{marked_shadowed}
 use Rattle.vm_state.proofs.Places.{waits_shadowed}
@@ -77,7 +81,10 @@ pub shadowed_with : (header : Header) (h : ℕ) (past : List Event) (k : Parts) 
 shadowed_with header h past k ids region object row chains objects works there marked next made put same fit fits =
     record {
       matches = record {
-        plain = m.plain;
+        ranged = m.ranged;
+        declared = m.declared;
+        kinds = kinds_shadowed header region.0 object row objects k.chains chains made there temporary new (kinds_put header object.0 (new_object row.pages) k.memory.objects objects k.chains put same (kind_new header object.0 (new_object row.pages) row.pages new refl) m.kinds);
+        shared = m.shared;
         known = m.known;
         size = m.size;
         host = m.host;
@@ -85,21 +92,28 @@ shadowed_with header h past k ids region object row chains objects works there m
         tasks = m.tasks;
         regions = regions_shadowed header past region object row (new_object row.pages) k.chains chains k.memory.objects objects ids (record ids { next_object = ids.next_object + 1; marks = ids.marks - 1 })
             (next_region header past) (next_object header past) (marked_regions header past) (marked_regions header (e ∷ past)) made there number refl put fits refl refl marks_now few_now m.regions;
-        homes = λ r found is. elim (one_case region.0 r (Some (record row { top = object; shift = 0; marked = false })) (region_at k.chains r) (region_at chains r) (made.at r)) [
-          | inl this ↦ subst (λ (z : ℕ). home_of z past ≡ Some h) this.0 (m.homes region.0 row there)
-          | inr other ↦ m.homes r found (sym other.1 ∙ is)
+        homes = λ r found paged is. elim (one_case region.0 r (Some (record row { top = object; shift = 0; marked = false })) (region_at k.chains r) (region_at chains r) (made.at r)) [
+          | inl this ↦ subst (λ (z : ℕ). home_of z past ≡ Some h) this.0 (m.homes region.0 row (paged_temporary header region.0 temporary) there)
+          | inr other ↦ m.homes r found paged (sym other.1 ∙ is)
         ];
         entries = entries_kept header.size k chains m.entries keeps;
         pages = record { shown = λ o p. m.pages.shown o p ∙ ap (λ b. local_of_row k.memory.frames (row_at k.memory.resident o p) b) (sym (same.at o p)) };
         uses = m.uses;
         controls = controls_made k.memory.objects objects _ _ _ object.0 row.pages m.controls unknown put (λ o home. object_stays o h e past home)
-            (home_shadowed h region object row.top past (m.homeless.objects object.0 at_least) (m.homes region.0 row there));
+            (home_shadowed h region object row.top past (m.homeless.objects object.0 at_least) (m.homes region.0 row (paged_temporary header region.0 temporary) there));
         homeless = record {
           regions = m.homeless.regions;
           objects = λ o high.
               let apart : (object.0 == o) ≡ false = other_test object.0 o (λ eq. omega (arith, eq, number, high)) in
               ap (λ b. if b then first_of (region_for o past) (Some region.0) else region_for o past) apart ∙ m.homeless.objects o (omega (arith, high));
           stay = m.homeless.stay;
+          whole = λ r declared.
+              let other : (r == region.0) ≡ false = other_test r region.0 (λ eq. omega (arith, eq, declared, temporary)) in
+              ap (λ b. shadowed b object.0 (region_of header r past)) other ∙ m.homeless.whole r declared;
+          bare = λ o declared.
+              let other : (o == object.0) ≡ false = other_test o object.0 (λ eq. omega (arith, eq, declared, new)) in
+              ap (λ b. (over b (region_of header region.0 past) (backing_of header o past)).backed) other ∙ m.homeless.bare o declared;
+          fills = m.homeless.fills;
         };
         settled = record { returned = refl; shut = λ r. refl };
         laundry = m.laundry;
@@ -120,6 +134,12 @@ shadowed_with header h past k ids region object row chains objects works there m
 
     number : object.0 ≡ next_object header past
     number = next ∙ m.regions.object
+
+    temporary : named header ≤ region.0
+    temporary = marked_temporary m.regions m.homeless region.0 row there marked
+
+    new : named header ≤ object.0
+    new = let more = named_objects header past in omega (arith, more, number)
 
     at_least : next_object header past ≤ object.0
     at_least = omega (arith, number)

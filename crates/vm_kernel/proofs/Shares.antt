@@ -1,16 +1,18 @@
 -- A fork makes a child, and gives it what is shared, and copies of what is copied, one entry after another.
-use Rattle.vm_kernel.proofs.Common.{Access, AllRows, AllUsed, AreEntries, ArePlain, Bool, CanShare, ChainTable, ChangesOnly, Command, Enters, Entry, Event, Fit, HasControls, HasEntries, HasRegions, HasWaiters, HasWholePages, Header, HostParts, Ids, InOrder, IsInside, IsSome, List, Mapped, None, ObjectTable, Option, Outside, Parts, PutsEntries, Ran, RegionRow, Rests, Shares, Some, Starts, TaskId, [], all_tasks, ap, arith, backing_of, code_where, copies, count_again, count_by, drop, entered, entering, entries_in, entries_in_row, entries_of, entry, entry_at, eqb_tells, false, got, has_region, head, holds, home_stays, homes_next, host_id, host_of, if◌then◌else◌, in_use, inl, inr, is_copied, is_fork_full, is_none, is_range, is_some, length, length_entered, lives_on, marked_regions, most_entries, nat_tests, next_object, next_region, one_case, pages_in, refl, region_at, region_entries, region_of, region_pages, reverse, reverse-append, rows_entered, rows_in, rows_map, slice_get, slice_get_within, some_is, subst, sym, tasks, true, unwrap_or, waiting, ℕ, ◌%◌, ◌*◌, ◌++◌, ◌+◌, ◌/◌, ◌<◌, ◌==◌, ◌^◌, ◌∙◌, ◌∷◌, ◌≡◌, ◌≢◌, ◌≤◌}
+use Rattle.vm_kernel.proofs.Common.{Access, AllRows, AllUsed, AreEntries, ArePlain, CanShare, ChainTable, ChangesOnly, Command, Enters, Entry, Event, Fit, HasEntries, HasWaiters, HasWholePages, HaveHomes, Header, HostParts, Ids, InOrder, IsInside, IsShared, IsSome, List, Mapped, None, Option, Outside, Parts, PutsEntries, Ran, RegionRow, Rests, Shares, Some, Starts, Target, TaskId, [], all_tasks, ap, arith, code_where, copies, copy_target, count_again, count_by, drop, entered, entering, entries_in, entries_in_row, entries_of, entry, entry_at, eqb_tells, false, got, has_region, head, holds, home_stays, homes_next, host_id, host_of, if◌then◌else◌, in_use, inl, inr, is_copied, is_filled, is_fork_full, is_none, is_range, is_some, length, length_entered, lives_on, most_entries, named, nat_tests, next_region, one_case, pages_in, refl, region_at, region_entries, region_of, region_pages, reverse, reverse-append, rows_entered, rows_in, rows_map, slice_get, slice_get_within, some_is, subst, sym, tasks, true, unwrap_or, waiting, ℕ, ◌%◌, ◌*◌, ◌++◌, ◌+◌, ◌/◌, ◌<◌, ◌==◌, ◌^◌, ◌∙◌, ◌∷◌, ◌≡◌, ◌≢◌, ◌≤◌}
 use Rattle.std.proofs.Common.{nat_lt}
+use Rattle.vm_abroad.proofs.Elsewhere.{filled_other}
 use Rattle.vm_abroad.proofs.Home.{object_stays}
 use Rattle.vm_base.specs.declared.code.Code.TheVariants as code
 use Rattle.vm_base.specs.declared.ids.Inherit.TheVariants as inherit
 use Rattle.vm_base.specs.declared.ids.RegionId.{RegionId}
-use Rattle.vm_abroad.specs.Home.{object_home}
 use Rattle.vm_legal.specs.Follows.{inherits, inherits_all, next_behind}
 use Rattle.vm_maps.specs.Judge.{judged}
 use Rattle.vm_model.specs.declared.event.Event.TheVariants as event
 use Rattle.vm_model.specs.declared.command.Command.TheVariants as command
 use Rattle.vm_state.proofs.Changing.{SameButEntries, regions_recounted}
+use Rattle.vm_model.specs.Waiting.{is_target}
+use Rattle.vm_state.proofs.Declared.{kind_cases}
 use Rattle.vm_state.proofs.Marks.{marked_copied}
 use Rattle.vm_state.proofs.Referred.{referred_recounted}
 use Rattle.vm_state.proofs.Referring.{small_region}
@@ -19,19 +21,22 @@ use Rattle.vm_state.specs.Places.{with_entries}
 use Rattle.vm_supply.specs.declared.woken.Woken.TheVariants as woken
 use Rattle.vm_kernel.specs.Forking.{EntersCopy, entry_on}
 use Rattle.vm_kernel.proofs.Copied.{drop_past}
-use Rattle.vm_kernel.proofs.Copies.{MayCopy, copied, free_of, heads_copied, heads_more, keeps_recounted, marked_as, no_row, none_on, one_on, regions_entered, rests_copied, same_put, task_below, told_copied, used_there}
-use Rattle.vm_kernel.proofs.Counts.{by_few, most_is, on_entered}
+use Rattle.vm_kernel.proofs.Copies.{MayCopy, copied, free_of, heads_copied, heads_more, keeps_recounted, no_row, rests_copied, same_put, told_copied, used_there}
+use Rattle.vm_kernel.proofs.Counts.{by_few, most_is, none_on, on_entered, one_on}
 use Rattle.vm_kernel.proofs.Forks.{free_behind, found_first, told_next, whole_at}
 use Rattle.vm_kernel.proofs.Growing.{suffices}
 use Rattle.vm_kernel.proofs.Heads.{Heads, passed, ran_head}
-use Rattle.vm_kernel.proofs.Making.{holds_made, waits_made}
+use Rattle.vm_kernel.proofs.Making.{rests_made}
 use Rattle.vm_kernel.proofs.Mine.{own_new, own_task}
 use Rattle.vm_kernel.proofs.Own.{free_in, lives_here, lives_in, named_host, rows_here}
 use Rattle.vm_kernel.proofs.Recounts.{has_same, next_row, pages_same, recounts_put, row_among}
 use Rattle.vm_kernel.proofs.Regions.{region_row}
 use Rattle.vm_kernel.proofs.Rooms.{HasRoom, room_copied, room_more, room_of, room_other}
-use Rattle.vm_kernel.proofs.Tasks.{Keeps, entries_changed, entries_made, inside_kept, tasks_entered, tasks_made}
-use Rattle.vm_kernel.proofs.Uses.{holds_rows, unfilled, uses_entered, uses_made}
+use Rattle.vm_kernel.proofs.Tasks.{Keeps, entries_changed, inside_kept, tasks_entered}
+use Rattle.vm_kernel.proofs.Sharing.{kinds_recounted, shared_entered}
+use Rattle.vm_kernel.proofs.Uses.{holds_rows, paged_file, paged_temporary, unfilled, uses_entered}
+use Rattle.vm_kernel.proofs.After.{controls_stay, regions_behind}
+use Rattle.vm_kernel.proofs.Rewrites.{lives_below}
 
 -- One entry is shared.
 
@@ -42,6 +47,7 @@ pub record MayShare (header : Header) (task : ℕ) (row : Entry) (past : List Ev
   pub free : judged k.maps.size (entering row) (rows_in task k.maps) ≡ None
   pub pages : row.offset + row.bytes / k.maps.size < 2 ^ 32
   pub inside : IsInside header.size k.chains row
+  pub shared : IsShared (named header) row
 
 pub lives_some : (o : Option (List Entry)) (rows : List Entry) → o ≡ Some rows → IsSome o
 lives_some None rows is = absurd (let bad : None ≡ Some rows = is in cc)
@@ -102,6 +108,17 @@ entries_share size maps new cs cs2 task row has inside put changes below room =
       | inr other ↦ omega (arith, has.counts q now (sym other.1 ∙ found), none_on r q other.0, on_entered q row (rows_in task maps))
     ])
 
+-- no slow copy fills a declared region
+
+target_declared : (header : Header) (r : ℕ) (x : Option Target) → r < named header → ((target : Target) → x ≡ Some target → named header ≤ target.region) → is_target r x ≡ false
+target_declared header r None declared temporary = refl
+target_declared header r (Some target) declared temporary = let least = temporary target refl in grind (arith, nat_tests)
+
+unfilled_declared : (header : Header) (r : ℕ) (list : List ℕ) (past : List Event) → r < named header → HaveHomes header past → is_filled r list past ≡ false
+unfilled_declared header r [] past declared homes = refl
+unfilled_declared header r (task ∷ others) past declared homes =
+    rw (filled_other r (waiting task past) (copy_target task past) (target_declared header r (copy_target task past) declared (homes.fills task))) (unfilled_declared header r others past declared homes)
+
 -- the entry has its cause
 pub share_enters : (header : Header) (h : ℕ) (task : TaskId) (row : Entry) (past : List Event) (k : Parts) (ids : Ids) → Rests header h k ids past → MayShare header task.0 row past k → Enters header task.0 row.bytes row.region.0 row.offset past
 share_enters header h task row past k ids rests may =
@@ -118,15 +135,13 @@ share_enters header h task row past k ids rests may =
       whole = subst (λ (z : ℕ). row.bytes % z ≡ 0) m.tasks.sized (free_of k.maps.size row (rows_in task.0 k.maps) may.free).whole;
       inside = omega (arith, inside, pages);
       made = small_region m.regions r there.0 there.1;
-      used = λ temporary. used;
-      file = λ is. used;
-      unfilled = unfilled header.size r (tasks past) k.maps k.waits.rows past (record { is = rests.waits.is }) (λ t none. m.uses.apart t r none (inl used));
+      used = λ temporary. used (paged_temporary header r temporary);
+      file = λ is. used (paged_file header r is);
+      unfilled = elim (kind_cases header r) [
+        | inl declared ↦ unfilled_declared header r (tasks past) past declared m.homeless
+        | inr temporary ↦ unfilled header.size r (tasks past) k.maps k.waits.rows past (record { is = rests.waits.is }) (λ t none. m.uses.apart t r none (inl (used (paged_temporary header r temporary))))
+      ];
     }
-
--- objects that have a home keep it
-controls_home : {h : ℕ} {os : ObjectTable} {last_at : ℕ → ℕ} {live_at : ℕ → Option ℕ} {ready_at : ℕ → Bool} {was : ℕ → Option ℕ} (now : ℕ → Option ℕ) → HasControls h os last_at live_at ready_at was → ((o : ℕ) → was o ≡ Some h → now o ≡ Some h) → HasControls h os last_at live_at ready_at now
-controls_home now has stay =
-    record { last = has.last; live = has.live; ready = has.ready; all_live = has.all_live; numbers = has.numbers; ended = has.ended; home = λ o row found. stay o (has.home o row found) }
 
 -- the kernel behind the entry
 pub rests_shared : (header : Header) (h : ℕ) (outside : Outside) (doing : Command) (task : TaskId) (row : Entry) (past : List Event) (k k2 : Parts) (ids : Ids) (before after : List Event) → Rests header h k ids past → MayShare header task.0 row past k
@@ -139,7 +154,7 @@ rests_shared header h outside doing task row past k k2 ids before after rests ma
     let there = region_row k.chains r may.inside.region in
     let recount : SameButEntries k.chains k2.chains = same_put r (region_entries k.chains r + 1) k.chains k2.chains s.counts in
     let lives = may.lives in
-    let below = task_below size task.0 k.maps k.chains [] m.entries lives in
+    let below = lives_below size task.0 k.maps k.chains [] m.entries lives in
     let free = free_of k.maps.size row (rows_in task.0 k.maps) may.free in
     let waits_at = λ (t : ℕ). waiting t past in
     let none = no_row (entry k.waits.rows task.0) (waiting task.0 past) (rests.waits.is task.0 (ap is_some lives)) may.idle in
@@ -149,7 +164,10 @@ rests_shared header h outside doing task row past k k2 ids before after rests ma
     record {
       matches =
           record {
-            plain = m.plain;
+            ranged = m.ranged;
+            declared = s.declared ∙ m.declared;
+            kinds = rw s.memory (kinds_recounted header _ k.memory.objects k.chains k2.chains (recounts_put r (region_entries k.chains r + 1) k.chains k2.chains s.counts) m.kinds);
+            shared = shared_entered (named header) task.0 k.maps k2.maps row s.maps may.shared m.shared;
             known = m.known;
             size = s.size ∙ m.size;
             host = rw s.host m.host;
@@ -160,14 +178,14 @@ rests_shared header h outside doing task row past k k2 ids before after rests ma
                   buffers = ap (λ (z : HostParts). z.buffers.size) s.memory ∙ (m.fits.buffers ∙ sym s.size);
                 };
             tasks = tasks_entered h size k.maps k2.maps past task row m.tasks s.maps lives;
-            regions = rw s.memory (regions_entered header task row past k2.chains k.memory.objects ids (regions_recounted k.chains k2.chains k.memory.objects ids _ _ _ _ _ recount m.regions));
-            homes = λ q now found. home_stays q h e past (m.homes q (was_row recount q now found).0 (was_row recount q now found).1);
+            regions = rw s.memory (regions_behind header e past k2.chains k.memory.objects ids (λ r. refl) (regions_recounted k.chains k2.chains k.memory.objects ids _ _ _ _ _ recount m.regions));
+            homes = λ q now paged found. home_stays q h e past (m.homes q (was_row recount q now found).0 paged (was_row recount q now found).1);
             entries = entries_share size k.maps k2.maps k.chains k2.chains task.0 row m.entries may.inside s.counts s.maps below free.room;
             pages = rw s.memory m.pages;
-            uses = uses_entered k.maps k2.maps (λ q. in_use header h q past) (tasks past) (λ t q. holds header.size t q (e ∷ past)) (next_region header past) task.0 row (lives_on h task.0 past) (λ q apart. m.uses.used q) (used_there header h k ids past r there.0 rests there.1) m.uses.among s.maps lives below
+            uses = uses_entered header k.maps k2.maps (λ q. in_use header h q past) (tasks past) (λ t q. holds header.size t q (e ∷ past)) (next_region header past) task.0 row (lives_on h task.0 past) (λ q temporary apart. m.uses.used q temporary) (λ q file apart some. m.uses.files q file some) (used_there header h k ids past r there.0 rests there.1) m.uses.among s.maps lives below
                 (m.tasks.hosts task.0 ∙ ap is_some lives)
                 (λ t q away why. holds_rows header.size task.0 t q k.maps (rows_in task.0 k.maps) _ past lives away ∙ m.uses.apart t q away why);
-            controls = rw s.memory (controls_home (λ o. object_home o (e ∷ past)) m.controls (λ o at_home. object_stays o h e past at_home));
+            controls = rw s.memory (controls_stay (λ o at_home. object_stays o h e past at_home) m.controls);
             homeless = homes_next header outside e past (doing, share_enters header h task row past k ids rests may) m.homeless;
             settled = record { returned = refl; shut = λ region. refl };
             laundry = rw (s.memory, s.laundry) m.laundry;
@@ -246,37 +264,10 @@ fork_start header h outside task child past k ids before after maps s changes li
     let e : Event = event.TaskMade child (host_id h) in
     let log : after ≡ e ∷ [] = told ∙ (ap (λ z. event.TaskMade child z ∷ before) (named_host k.host h m.host) ∙ ap (λ z. e ∷ z) s.nothing) in
     let nobody : rows_in child.0 maps ≡ [] = ap (λ z. unwrap_or z []) changes.changed in
-    let marks : marked_regions header (e ∷ past) ≡ marked_regions header past = marked_as header (next_region header past) past (e ∷ past) (λ r. refl) in
     subst (λ (z : List Event). HasForked header h outside task child rows 0 past (record k { maps = maps }) ids z) (sym log)
     (record {
       apart = apart;
-      rests =
-          record {
-            matches =
-                record {
-                  plain = m.plain;
-                  known = m.known;
-                  size = m.size;
-                  host = m.host;
-                  fits = record { parts = m.fits.parts; plain = m.fits.plain; buffers = m.fits.buffers };
-                  tasks = tasks_made h header.size k.maps maps past child m.tasks changes;
-                  regions = subst (λ (z : ℕ). HasRegions k.chains k.memory.objects ids (λ r. region_of header r past) (λ o. backing_of header o past) (next_region header past) (next_object header past) z) (sym marks) m.regions;
-                  homes = m.homes;
-                  entries = entries_made header.size k.maps maps k.chains child.0 m.entries changes may.free s.range.1;
-                  pages = m.pages;
-                  uses = uses_made k.maps maps (λ r. in_use header h r past) (tasks past) _ _ (next_region header past) child.0 m.uses changes may.free (rw most_is s.range.1) (holds_made header.size child (host_id h) past);
-                  controls = controls_home (λ o. object_home o (e ∷ past)) m.controls (λ o at_home. object_stays o h e past at_home);
-                  homeless = record { regions = m.homeless.regions; objects = m.homeless.objects; stay = m.homeless.stay };
-                  settled = record { returned = refl; shut = λ region. refl };
-                  laundry = m.laundry;
-                  frames = m.frames;
-                };
-            used = s.rests.used;
-            referred = s.rests.referred;
-            waits = waits_made k.maps maps k.chains k.memory.resident k.memory.objects k.waits.rows woken.Nobody child (host_id h) past s.rests.waits may.free changes;
-            order = s.rests.order;
-            idle = s.rests.idle;
-          };
+      rests = rests_made header h child past k ids maps s.rests changes may.free s.range.1;
       heads =
           heads_more header h outside (command.Fork task child) past [] e (record { licensed = tt; own_bytes = tt; frames = tt; inner = tt; said = tt; mine = tt })
           (record { settled = m.settled; cause = tt; own_bytes = tt; frames = suffices header h k.memory.frames past m.frames; inner = tt; said = refl; own = own_new h child.0 past may.new; creates = tt });
@@ -299,6 +290,7 @@ fork_start header h outside task child past k ids before after maps s changes li
 -- the next entry, as far as its place goes
 record IsNext (header : Header) (child : ℕ) (rows : List Entry) (i : ℕ) (row : Entry) (k : Parts) : Type 0 where
   inside : IsInside header.size k.chains row
+  shared : IsShared (named header) row
   whole : HasWholePages k.maps.size row
   free : judged k.maps.size (entering row) (rows_in child k.maps) ≡ None
   own : AllRows (λ mine. mine.address + mine.bytes ≤ row.address + row.bytes) (rows_in child k.maps)
@@ -325,6 +317,7 @@ is_next header h outside task child rows i row past k ids events f sound found =
     let fits : nat_lt most_entries (length (rows_in child.0 k.maps) + 1) ≡ false = let le : length (rows_in child.0 k.maps) + 1 ≤ most_entries = omega (arith, count, most, few) in grind (arith, nat_tests) in
     record {
       inside = inside;
+      shared = row_among (IsShared (named header)) rows i row (subst (AllRows (IsShared (named header))) here (f.rests.matches.shared task.0)) found;
       whole = whole;
       free = rw (range, free, fits) refl;
       own = rows_map (λ mine. mine.address + mine.bytes ≤ f.front) (λ mine. mine.address + mine.bytes ≤ row.address + row.bytes) (λ mine le. omega (arith, le, start)) (rows_in child.0 k.maps) f.own;
@@ -336,7 +329,7 @@ pub may_share : (header : Header) (h : ℕ) (outside : Outside) (task child : Ta
     → AreEntries k.maps.size rows → slice_get rows i ≡ Some row → MayShare header child.0 row (events ++ past) k
 may_share header h outside task child rows i row past k ids events f sound found =
     let next = is_next header h outside task child rows i row past k ids events f sound found in
-    record { lives = f.lives; idle = f.idle; free = next.free; pages = next.whole.pages; inside = next.inside }
+    record { lives = f.lives; idle = f.idle; free = next.free; pages = next.whole.pages; inside = next.inside; shared = next.shared }
 
 -- the next entry may be copied
 pub may_copy : (header : Header) (h : ℕ) (outside : Outside) (task child : TaskId) (rows : List Entry) (i : ℕ) (row : Entry) (past : List Event) (k : Parts) (ids : Ids) (events : List Event) → HasForked header h outside task child rows i past k ids events
@@ -367,6 +360,7 @@ may_copy header h outside task child rows i row past k ids events f sound found 
       pages = omega (arith, whole, sized);
       region = region.0;
       there = region.1;
+      temporary = elim (kind_cases header row.region.0) [ inl declared ↦ absurd (next.shared declared is) | inr least ↦ least ];
       inside = omega (arith, inside, pages);
       regions = omega (arith, regions, count);
       objects = omega (arith, objects, marks);

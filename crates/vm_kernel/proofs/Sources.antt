@@ -1,5 +1,5 @@
 -- The page that an access in the frame queue is to copy.
-use Rattle.vm_kernel.proofs.Common.{Bool, Entry, Event, HasWaits, Header, Ids, IsAllowed, IsInside, List, Matches, None, Option, PageKey, PageRow, Parts, RegionRow, Some, Waiting, Want, Woken, [], access_in, address_in, address_of, ap, arith, entries_of, entry, entry_at, false, found_row, is_some, is_store, length, need_in, next_page, page_at, page_of, pages_in, refl, region_at, region_pages, rows_in, subst, suc, sym, true, waiting_in, zero, if◌then◌else◌, nat_lt, ℕ, ◌&&◌, ◌<◌, ◌∙◌, ◌≡◌}
+use Rattle.vm_kernel.proofs.Common.{Bool, Entry, Event, HasWaits, Header, Ids, IsAllowed, IsInside, List, Matches, None, Option, PageKey, PageRow, Parts, Some, Waiting, Want, Woken, [], access_in, address_in, ap, arith, entries_of, entry, entry_at, false, found_row, is_some, is_store, need_in, next_page, page_at, page_of, pages_in, refl, region_pages, rows_in, subst, suc, sym, true, waiting_in, zero, if◌then◌else◌, nat_lt, ℕ, ◌&&◌, ◌<◌, ◌∙◌, ◌≡◌}
 use Rattle.vm_fault.specs.Sources.{CanWalk, Reads, source_at}
 use Rattle.vm_fault.specs.Stops.{Stops}
 use Rattle.vm_fault.specs.Walks.{Finds, WalksTo, is_storing, top_place}
@@ -9,41 +9,11 @@ use Rattle.vm_legal.specs.Accesses.{Comes, Raises}
 use Rattle.vm_legal.specs.Prompt.{IsSource}
 use Rattle.vm_kernel.specs.Serving.{IsToCopy}
 use Rattle.vm_kernel.proofs.Own.{lives_here, rows_here}
-use Rattle.vm_state.proofs.Referring.{refers_region, refers_shadow}
-use Rattle.vm_state.proofs.Shown.{IsShown, shows_row}
+use Rattle.vm_state.proofs.Shown.{shows_row}
 use Rattle.vm_state.proofs.Walks.{comes_of}
 use Rattle.vm_waits.specs.declared.waiting.Want.TheVariants as want
-
--- a history says of a host's pages, controls and chains what its kernel has of them
-pub shown_of : (header : Header) (h : ℕ) (k : Parts) (ids : Ids) (past : List Event) (lost : List Entry) → Matches header h k ids lost past → IsShown header h k.memory k.chains past
-shown_of header h k ids past lost m =
-    record {
-      declared = ap length m.plain.objects;
-      pages = m.pages;
-      live = m.controls.live;
-      ready = m.controls.ready;
-      temporary = m.regions.temporary;
-      rows = m.regions.rows;
-      shadows = m.regions.shadows;
-      bottoms = m.regions.bottoms;
-      under_referred = λ o row found. refers_shadow m.regions o row found;
-      top_referred = λ r row found. refers_region m.regions r row found;
-    }
-
--- the address of an access is its own, since none is a slow copy
-pub address_of_want : (size next : ℕ) (what : Want) → address_of size next (access_in what) ≡ address_in what
-address_of_want size next (want.Load address n) = refl
-address_of_want size next (want.Store address n value) = refl
-
--- so it is about the same page of its entry's region
-pub page_of_want : (header : Header) (h : ℕ) (k : Parts) (ids : Ids) (past : List Event) (lost : List Entry) (task : ℕ) (what : Want) (entry : Entry) → Matches header h k ids lost past
-    → page_at k.maps.size (address_in what) entry ≡ page_of header task (access_in what) past entry
-page_of_want header h k ids past lost task what entry m =
-    ap (λ z. page_at z (address_in what) entry) m.tasks.sized ∙ ap (λ z. page_at header.size z entry) (sym (address_of_want header.size (next_page task past) what))
-
-region_there : (x : Option RegionRow) → is_some x ≡ true → (row : RegionRow) × (x ≡ Some row)
-region_there None some = absurd (let bad : false ≡ true = some in cc)
-region_there (Some row) some = (row, refl)
+use Rattle.vm_kernel.proofs.Shown.{page_of_want, shown_at, want_address}
+use Rattle.vm_kernel.proofs.Regions.{region_row}
 
 -- an access that an entry allows can be followed down its chain
 pub walks_down : (header : Header) (h : ℕ) (k : Parts) (ids : Ids) (past : List Event) (lost : List Entry) (task : ℕ) (what : Want) → Matches header h k ids lost past → IsAllowed k.maps task (address_in what) (need_in what) → CanWalk k.maps k.memory k.chains task what
@@ -51,7 +21,7 @@ walks_down header h k ids past lost task what m allowed =
     let address = address_in what in
     let e = allowed.entry in
     let found = found_row (IsInside header.size k.chains) address (rows_in task k.maps) e (m.entries.inside task) allowed.found in
-    let region = region_there (region_at k.chains e.region.0) found.is.region in
+    let region = region_row k.chains e.region.0 found.is.region in
     let below : page_at header.size address e < region_pages k.chains e.region.0 = found.is.inside.each address found.from found.below in
     let pages : region_pages k.chains e.region.0 ≡ region.0.pages = ap pages_in region.1 in
     let sized : page_at k.maps.size address e ≡ page_at header.size address e = ap (λ z. page_at z address e) m.tasks.sized in
@@ -65,13 +35,13 @@ stores (want.Store address n value) is = is
 source_is : (header : Header) (h : ℕ) (k : Parts) (ids : Ids) (past : List Event) (who : Woken) (task : ℕ) (w : Waiting) (source : Option PageKey) (key : PageKey) (row : PageRow) (n : ℕ) → Matches header h k ids [] past → HasWaits k who past → entry k.waits.rows task ≡ Some w
     → (reads : Reads k.maps k.memory k.chains task w.want source) → Finds k.memory k.chains (suc n) reads.top key row → is_storing w.want ≡ true → IsSource header h key.object.0 key.page.0 past
 source_is header h k ids past who task w source key row n m waits found reads finds storing =
-    let s = shown_of header h k ids past [] m in
+    let s = shown_at m in
     let what = w.want in
     let at = reads.at in
     let e = at.entry in
     let lives = (waits.allowed task w found).lives in
     let index = page_of header task (access_in what) past e in
-    let place = at.is ∙ ap (top_place at.row) (page_of_want header h k ids past [] task what e m) in
+    let place = at.is ∙ ap (top_place at.row) (page_of_want task what e m) in
     let walks : WalksTo k.memory k.chains (suc n) (top_place at.row index) key = subst (λ (z : PageKey). WalksTo k.memory k.chains (suc n) z key) place finds.walks in
     let comes : Comes header h e.region.0 index key.object.0 key.page.0 past = comes_of s e.region.0 at.row at.region index (suc n) key walks in
     let here = (shows_row s key.object.0 key.page.0 row finds.found finds.here).here in
@@ -84,7 +54,7 @@ source_is header h k ids past who task w source key row n m waits found reads fi
           host = h;
           entry = e;
           lives = lives_here m.tasks lives;
-          found = ap (λ z. entry_at z (entries_of header.size task past)) (address_of_want header.size (next_page task past) what) ∙ (ap (entry_at (address_in what)) (rows_here m.tasks lives) ∙ at.found);
+          found = ap (λ z. entry_at z (entries_of header.size task past)) (want_address header.size (next_page task past) what) ∙ (ap (entry_at (address_in what)) (rows_here m.tasks lives) ∙ at.found);
         };
       };
       on_host = refl;

@@ -1,11 +1,12 @@
 -- Who waits for a page that is asked has a row that says so, but in the frame queue.
-use Rattle.vm_kernel.proofs.Common.{Access, AllInner, Asked, Awaits, Bool, Command, Down, EndsAll, EndsEach, Event, HasPlace, HasQueue, Header, Ids, IsPagerTold, LegalEvents, List, Local, Message, None, ObjectId, ObjectTable, On, Option, Outside, PageRow, Parts, Reason, Rests, Some, Waiting, Waits, WaitsAt, [], absent_at, access_in, ap, append-nil, before_more, before_step, entry, error_more, error_taken, false, frames_free, host_id, if◌then◌else◌, inl, inr, is_again, is_control, is_frame, is_ready_state, is_some, is_store, live_control, local, local_of_row, none_again, none_queued, not, object_at, page_key, page_of, place_of, ready_in, refl, row_at, some_is, subst, sym, true, ℕ, ◌&&◌, ◌++◌, ◌∙◌, ◌∷◌, ◌≡◌}
+use Rattle.vm_kernel.proofs.Common.{Access, AllInner, Asked, Awaits, Bool, Command, Down, EndsAll, EndsEach, Event, HasPlace, HasQueue, Header, Ids, IsPagerTold, LegalEvents, List, Local, Message, None, ObjectId, ObjectTable, On, Option, Outside, PageRow, Parts, Reason, Rests, Some, Waiting, Waits, WaitsAt, [], absent_at, access_in, ap, append-nil, before_more, before_step, entry, error_more, error_taken, false, frames_free, host_id, if◌then◌else◌, inl, inr, is_again, is_control, is_frame, is_ready_state, is_some, is_store, live_control, local, local_of_row, none_again, none_queued, object_at, page_key, page_of, place_of, ready_in, refl, row_at, some_is, subst, sym, true, ℕ, ◌&&◌, ◌++◌, ◌∙◌, ◌∷◌, ◌≡◌}
 use Rattle.vm_model.specs.declared.event.Event.TheVariants as event
 use Rattle.vm_model.specs.declared.message.Message.TheVariants as message
 use Rattle.vm_waits.specs.declared.waiting.On.TheVariants as on
 use Rattle.vm_kernel.proofs.Prompting.{has_row, at_home}
 use Rattle.vm_kernel.proofs.Shown.{shown_at, waiting_place}
 use Rattle.vm_state.proofs.Shown.{awaits_page, awaits_ready}
+use Rattle.std.proofs.lemmas.Bool.{not-true}
 
 -- a pager that was told of its object isn't ready
 told_unready : (os : ObjectTable) (o : ℕ) → IsPagerTold os o → ready_in (object_at os o) ≡ true → ⊥
@@ -65,13 +66,9 @@ error_asked h size object control other past host o p is = absurd (let bad : Non
 asked_ready : (header : Header) (h : ℕ) (k : Parts) (ids : Ids) (past : List Event) (o p : ℕ) → Rests header h k ids past → (local header.size h (place_of o p) past).asked ≡ true → ready_in (object_at k.memory.objects o) ≡ true
 asked_ready header h k ids past o p rests asked = by (row_at k.memory.resident o p) refl (sym (ap (λ (z : Local). z.asked) (rests.matches.pages.shown o p)) ∙ asked)
   where
-    unwhere : (b : Bool) → not b ≡ true → b ≡ false
-    unwhere true is = absurd (let bad : false ≡ true = is in cc)
-    unwhere false is = refl
-
     by : (x : Option PageRow) → row_at k.memory.resident o p ≡ x → (local_of_row k.memory.frames x (absent_at k.memory.objects o p)).asked ≡ true → ready_in (object_at k.memory.objects o) ≡ true
     by None found is = absurd (let bad : false ≡ true = is in cc)
-    by (Some row) found is = rests.waits.ready o p row found (unwhere row.here is)
+    by (Some row) found is = rests.waits.ready o p row found (not-true row.here is)
 
 -- each that waited has ended
 pub ends_waiters : (header : Header) (h : ℕ) (outside : Outside) (doing : Command) (k : Parts) (ids : Ids) (past front : List Event) (object : ObjectId) (control : ℕ) (m : Message) (events : List Event) → Rests header h k ids past → HasQueue header h k past

@@ -4,6 +4,7 @@ use Rattle.vm_supply.specs.declared.woken.Woken.TheVariants as woken
 use Rattle.vm_kernel.proofs.Counts.{by_zero, on_zero}
 use Rattle.vm_kernel.proofs.Regions.{region_row}
 use Rattle.vm_kernel.proofs.Rows.{region_cases}
+use Rattle.vm_state.proofs.Declared.{kind_referred, kinds_gone, kinds_put}
 use Rattle.vm_state.proofs.Going.{regions_gone}
 use Rattle.vm_state.proofs.Knowing.{known_put}
 use Rattle.vm_state.proofs.Places.{waits_without}
@@ -99,8 +100,8 @@ same_but f same r left was os os2 found put o = elim (one_case r o (Some (record
   | inr other ↦ sym (ap f other.1)
 ]
 
-pub controls_referred : {h : ℕ} {home_at : ℕ → Option ℕ} (r left : ℕ) (was : ObjectRow) (os os2 : ObjectTable) (last_at : ℕ → ℕ) (live_at : ℕ → Option ℕ) (ready_at : ℕ → Bool) → object_at os r ≡ Some was → PutsObject r (Some (record was { references = left })) os os2
-    → HasControls h os last_at live_at ready_at home_at → HasControls h os2 last_at live_at ready_at home_at
+pub controls_referred : {d h : ℕ} {home_at : ℕ → Option ℕ} (r left : ℕ) (was : ObjectRow) (os os2 : ObjectTable) (last_at : ℕ → ℕ) (live_at : ℕ → Option ℕ) (ready_at : ℕ → Bool) → object_at os r ≡ Some was → PutsObject r (Some (record was { references = left })) os os2
+    → HasControls d h os last_at live_at ready_at home_at → HasControls d h os2 last_at live_at ready_at home_at
 controls_referred r left was os os2 last_at live_at ready_at found put has =
     record {
       last = λ o. has.last o ∙ same_but last_in (λ row n. refl) r left was os os2 found put o;
@@ -108,7 +109,7 @@ controls_referred r left was os os2 last_at live_at ready_at found put has =
       ready = λ o control is. has.ready o control is ∙ same_but ready_in (λ row n. refl) r left was os os2 found put o;
       all_live = record { at = λ o row is told. let b = before o row is in ap (λ z. z.live) b.is ∙ has.all_live.at o b.was b.found (λ none. told (ap (λ z. z.state) b.is ∙ none)) };
       numbers = record { at = λ o row is. let b = before o row is in subst (λ (z : ℕ). z < 2 ^ 32 - 1) (sym (ap (λ z. z.control) b.is)) (has.numbers.at o b.was b.found) };
-      home = λ o row is. let b = before o row is in has.home o b.was b.found;
+      home = λ o row least is. let b = before o row is in has.home o b.was least b.found;
       ended = λ o row is live none. let b = before o row is in has.ended o b.was b.found (sym (ap (λ z. z.live) b.is) ∙ live) (sym (ap (λ z. z.state) b.is) ∙ none);
     }
   where
@@ -175,14 +176,17 @@ runs_gone header h outside doing past k ids rest r left events object chains obj
     record {
       begins = e.runs.begins;
       matches = record {
-        plain = m.plain;
+        ranged = m.ranged;
+        declared = m.declared;
+        kinds = kinds_gone header r objects k.chains chains loses.region (kinds_put header top (record was { references = left }) k.memory.objects objects k.chains loses.put loses.marks (kind_referred header top was left (let less = loses.less in omega (arith, less)) (m.kinds.kinds top was loses.known)) m.kinds);
+        shared = m.shared;
         known = m.known;
         size = m.size;
         host = m.host;
         fits = record { parts = fit_objects k.memory objects m.fits.parts (same_pages k.memory.objects objects top was (record was { references = left }) loses.known refl loses.put); plain = m.fits.plain; buffers = m.fits.buffers };
         tasks = m.tasks;
         regions = regions_gone r left loses.row was k.chains chains k.memory.objects objects ids (λ r. region_of header r moment) (λ o. backing_of header o moment) (next_region header moment) (next_object header moment) (marked_regions header moment) loses.found loses.region loses.known loses.less loses.put m.regions;
-        homes = λ r2 row found. m.homes r2 row (other_row r k.chains chains loses.region r2 row found).1;
+        homes = λ r2 row paged found. m.homes r2 row paged (other_row r k.chains chains loses.region r2 row found).1;
         entries = entries_without header.size r k.maps k.chains chains rest loses.region m.entries e.there e.none;
         pages = record { shown = λ o p. m.pages.shown o p ∙ ap (local_of_row k.memory.frames (row_at k.memory.resident o p)) (sym (loses.marks.at o p)) };
         uses = m.uses;

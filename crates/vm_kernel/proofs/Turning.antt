@@ -1,5 +1,5 @@
 -- Frames in turn: how a queue changes where an access was run, and which frames were claimed.
-use Rattle.vm_kernel.proofs.Common.{AreQueued, Attempts, BeganInOrder, Bool, ClaimsInTurn, Did, EachGone, EachListedOnce, EachOf, Event, ForAsked, ForZeros, Found, Goes, Header, Ids, IsEnd, IsReclaim, Joins, KeepsOthers, LeavesInTurn, List, None, Nothing, On, Parts, QueueIsStill, Restarted, Restarts, RunsNone, RunsOnce, Some, Start, TaskId, Up, WaitTable, Waiting, Wants, Works, [], ap, append_assoc, arith, begun_at, entry, eqb_tells, false, first_in_queue, frames_free, if◌then◌else◌, inl, inr, is_again, is_frame, is_listed, length, nat_lt, nat_tests, not, of_both, oldest_row, queue_without, queued, refl, reverse, reverse-append, same_others, subst, suc, sym, true, waits_for_frame, ℕ, ◌++◌, ◌==◌, ◌∙◌, ◌∷◌, ◌≡◌, ◌≢◌, ◌⊎◌}
+use Rattle.vm_kernel.proofs.Common.{AreQueued, Attempts, BeganInOrder, Bool, ClaimsInTurn, Did, EachGone, EachListedOnce, EachOf, Event, ForAsked, ForZeros, Found, Goes, Header, Ids, IsBrought, IsEnd, IsReclaim, Joins, KeepsOthers, LeavesInTurn, List, None, Nothing, On, Parts, QueueIsStill, Restarted, Restarts, RunsNobody, RunsNone, RunsNoneYet, RunsOnce, Some, Start, TaskId, Up, WaitTable, Waiting, Wants, Works, [], ap, append-nil, append_assoc, arith, begun_at, entry, eqb_tells, false, first_in_queue, frames_free, if◌then◌else◌, inl, inr, is_again, is_frame, is_listed, length, nat_lt, nat_tests, not, of_both, oldest_row, queue_without, queued, refl, reverse, reverse-append, same_others, subst, suc, sym, true, waits_for_frame, ℕ, ◌++◌, ◌==◌, ◌∙◌, ◌∷◌, ◌≡◌, ◌≢◌, ◌⊎◌}
 use Rattle.std.specs.Prelude.{◌<◌, ◌≤◌, ◌||◌}
 use Rattle.vm_model.specs.declared.event.Event.TheVariants as event
 use Rattle.vm_model.specs.declared.message.Message.TheVariants as message
@@ -11,23 +11,11 @@ use Rattle.vm_kernel.specs.declared.attempt.Attempt.{Attempt}
 use Rattle.vm_kernel.specs.declared.attempt.Attempt.TheVariants as attempt
 use Rattle.vm_kernel.proofs.Growing.{free_is}
 use Rattle.vm_kernel.proofs.Ordering.{oldest_first}
+use Rattle.std.proofs.lemmas.Bool.{or_left, or_right}
+use Rattle.vm_kernel.proofs.Pages.{itself}
+use Rattle.vm_kernel.proofs.Playing.{or_turned}
 
 -- the queue
-
-itself : (n : ℕ) → (n == n) ≡ true
-itself n = grind (arith, nat_tests)
-
-or_left : (a b : Bool) → a ≡ true → (a || b) ≡ true
-or_left a b is = rw is refl
-
-or_right : (a b : Bool) → b ≡ true → (a || b) ≡ true
-or_right true b is = refl
-or_right false b is = is
-
-or_turned : (a b c : Bool) → (a || (b || c)) ≡ (b || (a || c))
-or_turned true true c = refl
-or_turned true false c = refl
-or_turned false b c = refl
 
 others_first : (task : TaskId) (queue : List TaskId) → EachListedOnce (task ∷ queue) → queue_without task.0 (task ∷ queue) ≡ queue
 others_first task queue once = rw (itself task.0) (same_others task.0 queue once.0)
@@ -135,21 +123,29 @@ pub quiet_unlisted : (rows : List Waiting) (old new : List TaskId) (w : Waiting)
 quiet_unlisted rows old new w before after e line is other queue told none =
     quiet_more old new before after e (queue ∙ same_others w.task.0 old (line.listed w.task.0 ∙ (ap waits_for_frame is ∙ other))) told none
 
--- nothing was done before
-pub quiet_behind : (old mid new : List TaskId) (before events after : List Event) → mid ≡ old → before ≡ [] → events ≡ [] → QueueIsStill mid new events after → QueueIsStill old new before after
-quiet_behind old mid new before events after same nothing none quiet = record { queue = quiet.queue ∙ same; none = λ all. quiet.none (subst (EachOf RunsNone) (sym none) tt) }
+-- nobody is run, and one event stands there more
+pub nobody_more : (old new : List TaskId) (before mid after : List Event) (e : Event) {now : List TaskId} → RunsNobody old new before mid → now ≡ new → after ≡ e ∷ mid → RunsNone e → RunsNobody old now before after
+nobody_more old new before mid after e runs queue told none = record { queue = queue ∙ runs.queue; more = e ∷ runs.more; told = told ∙ ap (λ z. e ∷ z) runs.told; none = (none, runs.none) }
+
+-- an answer was heard, and nobody was run yet
+pub unrun_behind : (old new : List TaskId) (before after : List Event) → IsBrought before → RunsNobody old new before after → RunsNoneYet after
+unrun_behind old new before after brought runs = record { late = runs.more; first = before; is = runs.told; none = runs.none; brought = brought }
 
 -- running again
 
+-- nothing was brought
+pub unrun : (events : List Event) → EachOf RunsNone events → RunsNoneYet events
+unrun events none = record { late = events; first = []; is = sym (append-nil events); none = none; brought = tt }
+
 pub restarts_quiet : (header : Header) (h : ℕ) (rows : List Waiting) (past : List Event) (old new : List TaskId) (before after : List Event) → before ≡ [] → QueueIsStill old new before after → Restarted header h rows past old new after
 restarts_quiet header h rows past old new before after nothing quiet =
-    subst (λ (z : List TaskId). Restarted header h rows past old z after) (sym quiet.queue) (0, Start after (quiet.none (subst (EachOf RunsNone) (sym nothing) tt)))
+    subst (λ (z : List TaskId). Restarted header h rows past old z after) (sym quiet.queue) (0, Start after (unrun after (quiet.none (subst (EachOf RunsNone) (sym nothing) tt))))
 
 -- what was done before ran nobody
-pub restarts_behind : (header : Header) (h : ℕ) (rows : List Waiting) (past : List Event) (old mid new : List TaskId) (before events after : List Event) → before ≡ [] → QueueIsStill old mid before events → (EachOf RunsNone events → Restarted header h rows past mid new after)
+pub restarts_behind : (header : Header) (h : ℕ) (rows : List Waiting) (past : List Event) (old mid new : List TaskId) (before events after : List Event) → before ≡ [] → QueueIsStill old mid before events → (RunsNoneYet events → Restarted header h rows past mid new after)
     → Restarted header h rows past old new after
 restarts_behind header h rows past old mid new before events after nothing quiet restarts =
-    subst (λ (z : List TaskId). Restarted header h rows past z new after) quiet.queue (restarts (quiet.none (subst (EachOf RunsNone) (sym nothing) tt)))
+    subst (λ (z : List TaskId). Restarted header h rows past z new after) quiet.queue (restarts (unrun events (quiet.none (subst (EachOf RunsNone) (sym nothing) tt))))
 
 -- running an access begins none
 end_begun : (t task : ℕ) (end : Event) (past : List Event) → IsEnd task end → begun_at t (end ∷ past) ≡ begun_at t past
@@ -204,7 +200,7 @@ pub record Restarting (header : Header) (h : ℕ) (past : List Event) (q : List 
   pub runs : Restarts header h now.rows past q from now.queue events
   pub later : (t : ℕ) (v : Waiting) → entry now.rows t ≡ Some v → is_again v.on ≡ true → from ≤ begun_at t (events ++ past)
 
-pub restarts_none : (header : Header) (h : ℕ) (past : List Event) (now : WaitTable) (events : List Event) → EachOf RunsNone events → Restarting header h past now.queue now events
+pub restarts_none : (header : Header) (h : ℕ) (past : List Event) (now : WaitTable) (events : List Event) → RunsNoneYet events → Restarting header h past now.queue now events
 restarts_none header h past now events none = record { from = 0; runs = Start events none; later = λ t v is again. omega arith }
 
 again_other : (reason : On) → is_again reason ≡ true → is_frame reason ≡ false

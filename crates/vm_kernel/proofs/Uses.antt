@@ -1,8 +1,13 @@
 -- Which regions are in use.
-use Rattle.vm_kernel.proofs.Common.{Access, Bool, ChangesOnly, Entry, Event, HasUse, Header, IsPlain, List, Mapped, None, Option, Some, Target, Waiting, Want, [], access_in, all_tasks, ap, arith, copy_target, count_by, count_on, entered, entries_in, entries_of, entry, eqb_tells, false, fills, has_entry, holds, if◌then◌else◌, inl, inr, is_among, is_filled, is_held, is_kept, is_some, length, named, nat_lt, nat_tests, refl, rows_in, subst, suc, sym, tasks, true, unwrap_or, waiting, waiting_in, zero, ℕ, ◌&&◌, ◌+◌, ◌<◌, ◌==◌, ◌||◌, ◌∙◌, ◌∷◌, ◌≡◌, ◌≢◌, ◌≤◌, ◌⊎◌}
+use Rattle.vm_kernel.proofs.Common.{Access, Bool, ChangesOnly, Entry, Event, HasUse, Header, List, Mapped, None, Option, Some, Target, Waiting, Want, [], access_in, all_tasks, ap, arith, copy_target, count_by, count_on, entered, entries_in, entries_of, entry, eqb_tells, false, fills, has_entry, holds, if◌then◌else◌, inl, inr, is_among, is_filled, is_held, is_kept, is_some, named, nat_lt, nat_tests, refl, rows_in, subst, suc, sym, tasks, true, unwrap_or, waiting, waiting_in, zero, ℕ, ◌&&◌, ◌+◌, ◌<◌, ◌==◌, ◌||◌, ◌∙◌, ◌∷◌, ◌≡◌, ◌≢◌, ◌≤◌, ◌⊎◌}
 use Rattle.std.proofs.Common.{not}
+use Rattle.vm_legal.specs.Licences.{is_paged}
+use Rattle.vm_legal.specs.Outside.{is_file, is_file_kept}
+use Rattle.vm_model.specs.Named.{declared}
 use Rattle.vm_waits.specs.declared.waiting.Want.TheVariants as want
 use Rattle.vm_kernel.proofs.Counts.{by_changed, by_some, by_zero, on_entered, on_zero}
+use Rattle.std.proofs.lemmas.Bool.{and_parts, or_parts, or_right}
+use Rattle.std.proofs.Math.Bool.{and-false, or-false}
 
 test_some : (n : ℕ) → nat_lt 0 (suc n) ≡ true
 test_some n = let less : 0 < suc n = omega arith in grind (arith, nat_tests)
@@ -27,12 +32,8 @@ NoneElsewhere size region maps past = (task : ℕ) → entries_in task maps ≡ 
 unfilled_one : (size region task : ℕ) (maps : Mapped) (rows : List Waiting) (past : List Event) → WaitsHere maps rows past → NoneElsewhere size region maps past → fills region (waiting task past) (copy_target task past) ≡ false
 unfilled_one size region task maps rows past waits apart = by_maps (entries_in task maps) refl
   where
-    second : (a b : Bool) → (a || b) ≡ false → b ≡ false
-    second true b e = absurd (let bad : true ≡ false = e in cc)
-    second false b e = e
-
     by_maps : (x : Option (List Entry)) → entries_in task maps ≡ x → fills region (waiting task past) (copy_target task past) ≡ false
-    by_maps None is = second (has_entry region (entries_of size task past)) (fills region (waiting task past) (copy_target task past)) (apart task is)
+    by_maps None is = (or_parts (has_entry region (entries_of size task past)) (fills region (waiting task past) (copy_target task past)) (apart task is)).1
     by_maps (Some own) is = ap (λ z. fills region z (copy_target task past)) (waits.is task (ap is_some is)) ∙ fills_nothing region (entry rows task) (copy_target task past)
 
 pub unfilled : (size region : ℕ) (list : List ℕ) (maps : Mapped) (rows : List Waiting) (past : List Event) → WaitsHere maps rows past → NoneElsewhere size region maps past → is_filled region list past ≡ false
@@ -48,15 +49,11 @@ pub record Shows (size : ℕ) (maps : Mapped) (past : List Event) : Type 0 where
 held_one : (size region task : ℕ) (maps : Mapped) (past : List Event) → Shows size maps past → NoneElsewhere size region maps past → holds size task region past ≡ has_entry region (rows_in task maps)
 held_one size region task maps past shows apart = by_maps (entries_in task maps) refl
   where
-    alone : (b : Bool) → (b || false) ≡ b
-    alone true = refl
-    alone false = refl
-
     by_maps : (x : Option (List Entry)) → entries_in task maps ≡ x → holds size task region past ≡ has_entry region (unwrap_or x [])
     by_maps None is = apart task is
     by_maps (Some own) is =
         ap (λ z. has_entry region z || fills region (waiting task past) (copy_target task past)) (shows.rows task (ap is_some is) ∙ ap (λ z. unwrap_or z []) is)
-        ∙ (ap (λ z. has_entry region own || z) (unfilled_one size region task maps shows.waiting past shows.waits apart) ∙ alone (has_entry region own))
+        ∙ (ap (λ z. has_entry region own || z) (unfilled_one size region task maps shows.waiting past shows.waits apart) ∙ or-false (has_entry region own))
 
 held_none : (size region : ℕ) (list : List ℕ) (maps : Mapped) (past : List Event) → Shows size maps past → NoneElsewhere size region maps past → ((task : ℕ) → has_entry region (rows_in task maps) ≡ false) → is_held size region list past ≡ false
 held_none size region [] maps past shows apart none = refl
@@ -66,12 +63,8 @@ held_some : (size region task : ℕ) (list : List ℕ) (maps : Mapped) (past : L
 held_some size region task [] maps past shows apart among has = absurd (let bad : false ≡ true = among in cc)
 held_some size region task (first ∷ others) maps past shows apart among has = elim (eqb_tells first task) [
   | inl same ↦ rw (held_one size region first maps past shows apart ∙ (ap (λ z. has_entry region (rows_in z maps)) same.1 ∙ has)) refl
-  | inr other ↦ either (has_entry region (entries_of size first past) || fills region (waiting first past) (copy_target first past)) (held_some size region task others maps past shows apart (rw other.0 at among) has)
+  | inr other ↦ or_right (has_entry region (entries_of size first past) || fills region (waiting first past) (copy_target first past)) (is_held size region others past) (held_some size region task others maps past shows apart (rw other.0 at among) has)
 ]
-  where
-    either : (b : Bool) → is_held size region others past ≡ true → (b || is_held size region others past) ≡ true
-    either true later = refl
-    either false later = later
 
 -- a task with an entry lives
 rows_some : (region : ℕ) (x : Option (List Entry)) → has_entry region (unwrap_or x []) ≡ true → (rows : List Entry) × (x ≡ Some rows)
@@ -98,12 +91,26 @@ held_is size region list maps past shows apart most among = by_count (count_by a
         let rows = rows_some region (entries_in task.0 maps) task.1 in
         held_some size region task.0 list maps past shows apart (among task.0 rows.0 rows.1) task.1 ∙ sym (test_some n)
 
-pub kept_is : (header : Header) (region : ℕ) (maps : Mapped) (past : List Event) → IsPlain header → Shows header.size maps past → NoneElsewhere header.size region maps past → ((task : ℕ) → all_tasks ≤ task → entries_in task maps ≡ None)
+pub kept_is : (header : Header) (region : ℕ) (maps : Mapped) (past : List Event) → named header ≤ region → Shows header.size maps past → NoneElsewhere header.size region maps past → ((task : ℕ) → all_tasks ≤ task → entries_in task maps ≡ None)
     → ((task : ℕ) (rows : List Entry) → entries_in task maps ≡ Some rows → is_among task (tasks past) ≡ true) → is_kept header region past ≡ nat_lt 0 (count_by all_tasks region maps)
-kept_is header region maps past plain shows apart most among =
-    let none : named header ≡ 0 = ap length plain.objects in
+kept_is header region maps past temporary shows apart most among =
     let new : nat_lt region (named header) ≡ false = grind (arith, nat_tests) in
     rw new (held_is header.size region (tasks past) maps past shows apart most among)
+
+-- temporary regions, and those of files, are of one host
+pub paged_temporary : (header : Header) (r : ℕ) → named header ≤ r → is_paged header r ≡ true
+paged_temporary header r temporary = let test : nat_lt r (named header) ≡ false = grind (arith, nat_tests) in ap (λ b. not b || is_file header r) test
+
+pub paged_file : (header : Header) (r : ℕ) → is_file header r ≡ true → is_paged header r ≡ true
+paged_file header r file = ap (λ b. not (nat_lt r (named header)) || b) file ∙ or_always (not (nat_lt r (named header)))
+  where
+    or_always : (b : Bool) → (b || true) ≡ true
+    or_always true = refl
+    or_always false = refl
+
+-- a file is declared, and so its region is kept always
+pub file_declared : (header : Header) (r : ℕ) → is_file header r ≡ true → nat_lt r (named header) ≡ true
+file_declared header r file = (and_parts (nat_lt r (named header)) (is_file_kept (declared header r)) file).0
 
 -- over each change
 
@@ -133,14 +140,15 @@ pub holds_rows : (size task t r : ℕ) (maps : Mapped) (rows own : List Entry) (
 holds_rows size task t r maps rows own past lives none = ap (λ z. has_entry r z || fills r (waiting t past) (copy_target t past)) (other_task maps task t rows own (entries_of size t past) lives none)
 
 -- nothing has changed here
-pub uses_still : (maps : Mapped) (used_at : ℕ → Bool) (made : List ℕ) (held_at held2 : ℕ → ℕ → Bool) (n : ℕ) → HasUse maps used_at made held_at n → SameElsewhere maps held_at held2 → HasUse maps used_at made held2 n
-uses_still maps used_at made held_at held2 n has same = record { used = has.used; among = has.among; apart = λ t r none why. same t r none ∙ has.apart t r none why }
+pub uses_still : (header : Header) (maps : Mapped) (used_at : ℕ → Bool) (made : List ℕ) (held_at held2 : ℕ → ℕ → Bool) (n : ℕ) → HasUse header maps used_at made held_at n → SameElsewhere maps held_at held2 → HasUse header maps used_at made held2 n
+uses_still header maps used_at made held_at held2 n has same = record { used = has.used; files = has.files; among = has.among; apart = λ t r none why. same t r none ∙ has.apart t r none why }
 
-pub uses_made : (maps new : Mapped) (used_at : ℕ → Bool) (made : List ℕ) (held_at held2 : ℕ → ℕ → Bool) (n task : ℕ) → HasUse maps used_at made held_at n → ChangesOnly maps new task (Some []) → entries_in task maps ≡ None → task < all_tasks
-    → ((t r : ℕ) → (task ≡ t → ⊥) → held2 t r ≡ held_at t r) → HasUse new used_at (task ∷ made) held2 n
-uses_made maps new used_at made held_at held2 n task has changes free below same =
+pub uses_made : (header : Header) (maps new : Mapped) (used_at : ℕ → Bool) (made : List ℕ) (held_at held2 : ℕ → ℕ → Bool) (n task : ℕ) → HasUse header maps used_at made held_at n → ChangesOnly maps new task (Some []) → entries_in task maps ≡ None → task < all_tasks
+    → ((t r : ℕ) → (task ≡ t → ⊥) → held2 t r ≡ held_at t r) → HasUse header new used_at (task ∷ made) held2 n
+uses_made header maps new used_at made held_at held2 n task has changes free below same =
     record {
-      used = λ r. has.used r ∙ ap (nat_lt 0) (let moved = by_changed all_tasks r task maps new (Some []) below changes in let none = ap (λ z. count_on r (unwrap_or z [])) free in omega arith);
+      used = λ r temporary. has.used r temporary ∙ ap (nat_lt 0) (as_many r);
+      files = λ r file some. has.files r file (subst (λ (z : ℕ). 0 < z) (sym (as_many r)) some);
       among = λ t rows is. elim (eqb_tells task t) [
         | inl same ↦ rw same.0 refl
         | inr apart ↦ rw apart.0 (has.among t rows (sym (changes.others t (λ e. apart.1 (sym e))) ∙ is))
@@ -149,10 +157,13 @@ uses_made maps new used_at made held_at held2 n task has changes free below same
           let other = elsewhere new task t [] changes.changed none in
           same t r other ∙ has.apart t r (sym (changes.others t (λ e. other (sym e))) ∙ none) why;
     }
+  where
+    as_many : (r : ℕ) → count_by all_tasks r maps ≡ count_by all_tasks r new
+    as_many r = let moved = by_changed all_tasks r task maps new (Some []) below changes in let none = ap (λ z. count_on r (unwrap_or z [])) free in omega arith
 
-among_kept : (maps new : Mapped) (used_at : ℕ → Bool) (made : List ℕ) (held_at : ℕ → ℕ → Bool) (n task : ℕ) (made_rows : Option (List Entry)) → HasUse maps used_at made held_at n → ChangesOnly maps new task made_rows → entries_in task maps ≡ Some (rows_in task maps)
+among_kept : (header : Header) (maps new : Mapped) (used_at : ℕ → Bool) (made : List ℕ) (held_at : ℕ → ℕ → Bool) (n task : ℕ) (made_rows : Option (List Entry)) → HasUse header maps used_at made held_at n → ChangesOnly maps new task made_rows → entries_in task maps ≡ Some (rows_in task maps)
     → (t : ℕ) (rows : List Entry) → entries_in t new ≡ Some rows → is_among t made ≡ true
-among_kept maps new used_at made held_at n task made_rows has changes lives t rows is = elim (eqb_tells task t) [
+among_kept header maps new used_at made held_at n task made_rows has changes lives t rows is = elim (eqb_tells task t) [
   | inl same ↦ subst (λ (z : ℕ). is_among z made ≡ true) same.1 (has.among task (rows_in task maps) lives)
   | inr apart ↦ has.among t rows (sym (changes.others t (λ e. apart.1 (sym e))) ∙ is)
 ]
@@ -174,12 +185,13 @@ test_both (suc a) zero one = absurd (let bad = one (omega arith) in omega arith)
 test_both (suc a) (suc b) one = rw (test_some a, test_some b) refl
 
 -- entries are others, but on the same regions
-pub uses_same : (maps new : Mapped) (used_at : ℕ → Bool) (made : List ℕ) (held_at held2 : ℕ → ℕ → Bool) (n task : ℕ) (rows : List Entry) → HasUse maps used_at made held_at n → ChangesOnly maps new task (Some rows) → entries_in task maps ≡ Some (rows_in task maps)
-    → ((r : ℕ) → 0 < count_by all_tasks r maps → 0 < count_by all_tasks r new) → ((r : ℕ) → 0 < count_by all_tasks r new → 0 < count_by all_tasks r maps) → SameElsewhere maps held_at held2 → HasUse new used_at made held2 n
-uses_same maps new used_at made held_at held2 n task rows has changes lives one two same =
+pub uses_same : (header : Header) (maps new : Mapped) (used_at : ℕ → Bool) (made : List ℕ) (held_at held2 : ℕ → ℕ → Bool) (n task : ℕ) (rows : List Entry) → HasUse header maps used_at made held_at n → ChangesOnly maps new task (Some rows) → entries_in task maps ≡ Some (rows_in task maps)
+    → ((r : ℕ) → 0 < count_by all_tasks r maps → 0 < count_by all_tasks r new) → ((r : ℕ) → 0 < count_by all_tasks r new → 0 < count_by all_tasks r maps) → SameElsewhere maps held_at held2 → HasUse header new used_at made held2 n
+uses_same header maps new used_at made held_at held2 n task rows has changes lives one two same =
     record {
-      used = λ r. has.used r ∙ test_same (count_by all_tasks r maps) (count_by all_tasks r new) (one r) (two r);
-      among = among_kept maps new used_at made held_at n task (Some rows) has changes lives;
+      used = λ r temporary. has.used r temporary ∙ test_same (count_by all_tasks r maps) (count_by all_tasks r new) (one r) (two r);
+      files = λ r file some. has.files r file (two r some);
+      among = among_kept header maps new used_at made held_at n task (Some rows) has changes lives;
       apart = λ t r none why.
           let other = elsewhere new task t rows changes.changed none in
           let was = sym (changes.others t (λ e. other (sym e))) ∙ none in
@@ -187,66 +199,60 @@ uses_same maps new used_at made held_at held2 n task rows has changes lives one 
     }
 
 -- in use is what is kept
-kept_uses : (header : Header) (maps new : Mapped) (used_at : ℕ → Bool) (n : ℕ) (past : List Event) → IsPlain header → ((r : ℕ) → used_at r ≡ nat_lt 0 (count_by all_tasks r maps))
+kept_uses : (header : Header) (maps new : Mapped) (used_at : ℕ → Bool) (n : ℕ) (past : List Event) → ((r : ℕ) → named header ≤ r → used_at r ≡ nat_lt 0 (count_by all_tasks r maps)) → ((r : ℕ) → is_file header r ≡ true → 0 < count_by all_tasks r maps → used_at r ≡ true)
     → ((t : ℕ) (rows : List Entry) → entries_in t new ≡ Some rows → is_among t (tasks past) ≡ true) → ((r : ℕ) → 0 < count_by all_tasks r new → 0 < count_by all_tasks r maps) → Shows header.size new past
-    → ((t : ℕ) → all_tasks ≤ t → entries_in t new ≡ None) → ApartFrom new used_at (λ t r. holds header.size t r past) n → HasUse new (λ r. is_kept header r past && used_at r) (tasks past) (λ t r. holds header.size t r past) n
-kept_uses header maps new used_at n past plain used among two shows most others =
+    → ((t : ℕ) → all_tasks ≤ t → entries_in t new ≡ None) → ApartFrom new used_at (λ t r. holds header.size t r past) n → HasUse header new (λ r. is_kept header r past && used_at r) (tasks past) (λ t r. holds header.size t r past) n
+kept_uses header maps new used_at n past used files among two shows most others =
     record {
-      used = λ r. by_use r (used_at r) refl;
+      used = λ r temporary. by_use r temporary (used_at r) refl;
+      files = λ r file some. ap (λ b. (b || is_held header.size r (tasks past) past) && used_at r) (file_declared header r file) ∙ files r file (two r some);
       among = among;
       apart = λ t r none why. others t r none (either r why);
     }
   where
-    both : (a b : Bool) → (a && b) ≡ true → b ≡ true
-    both true b e = e
-    both false b e = absurd (let bad : false ≡ true = e in cc)
-
-    neither : (b : Bool) → (b && false) ≡ false
-    neither true = refl
-    neither false = refl
-
     either : (r : ℕ) → ((is_kept header r past && used_at r) ≡ true) ⊎ (n ≤ r) → (used_at r ≡ true) ⊎ (n ≤ r)
-    either r (inl is) = inl (both (is_kept header r past) (used_at r) is)
+    either r (inl is) = inl (and_parts (is_kept header r past) (used_at r) is).1
     either r (inr high) = inr high
 
-    by_use : (r : ℕ) (b : Bool) → used_at r ≡ b → (is_kept header r past && used_at r) ≡ nat_lt 0 (count_by all_tasks r new)
-    by_use r true is = rw (kept_is header r new past plain shows (λ t none. others t r none (inl is)) most among, used r) (test_both (count_by all_tasks r new) (count_by all_tasks r maps) (two r))
-    by_use r false is =
+    by_use : (r : ℕ) → named header ≤ r → (b : Bool) → used_at r ≡ b → (is_kept header r past && used_at r) ≡ nat_lt 0 (count_by all_tasks r new)
+    by_use r temporary true is = rw (kept_is header r new past temporary shows (λ t none. others t r none (inl is)) most among, used r temporary) (test_both (count_by all_tasks r new) (count_by all_tasks r maps) (two r))
+    by_use r temporary false is =
         ap (λ b. is_kept header r past && b) is
-        ∙ (neither (is_kept header r past) ∙ sym (test_none (count_by all_tasks r new) (count_by all_tasks r maps) (two r) (sym (used r) ∙ is)))
+        ∙ (and-false (is_kept header r past) ∙ sym (test_none (count_by all_tasks r new) (count_by all_tasks r maps) (two r) (sym (used r temporary) ∙ is)))
 
 -- entries have gone, and in use is what is kept
-pub uses_cut : (header : Header) (maps new : Mapped) (used_at : ℕ → Bool) (held_at : ℕ → ℕ → Bool) (n : ℕ) (past : List Event) (task : ℕ) (rows : Option (List Entry)) → IsPlain header → HasUse maps used_at (tasks past) held_at n → ChangesOnly maps new task rows
+pub uses_cut : (header : Header) (maps new : Mapped) (used_at : ℕ → Bool) (held_at : ℕ → ℕ → Bool) (n : ℕ) (past : List Event) (task : ℕ) (rows : Option (List Entry)) → HasUse header maps used_at (tasks past) held_at n → ChangesOnly maps new task rows
     → entries_in task maps ≡ Some (rows_in task maps) → ((r : ℕ) → 0 < count_by all_tasks r new → 0 < count_by all_tasks r maps) → Shows header.size new past → ((t : ℕ) → all_tasks ≤ t → entries_in t new ≡ None)
-    → ApartFrom new used_at (λ t r. holds header.size t r past) n → HasUse new (λ r. is_kept header r past && used_at r) (tasks past) (λ t r. holds header.size t r past) n
-uses_cut header maps new used_at held_at n past task rows plain has changes lives two shows most others =
-    kept_uses header maps new used_at n past plain has.used (among_kept maps new used_at (tasks past) held_at n task rows has changes lives) two shows most others
+    → ApartFrom new used_at (λ t r. holds header.size t r past) n → HasUse header new (λ r. is_kept header r past && used_at r) (tasks past) (λ t r. holds header.size t r past) n
+uses_cut header maps new used_at held_at n past task rows has changes lives two shows most others =
+    kept_uses header maps new used_at n past has.used has.files (among_kept header maps new used_at (tasks past) held_at n task rows has changes lives) two shows most others
 
 -- no entries have gone, and in use is what is kept
-pub uses_none : (header : Header) (maps : Mapped) (used_at : ℕ → Bool) (held_at : ℕ → ℕ → Bool) (n : ℕ) (past : List Event) → IsPlain header → HasUse maps used_at (tasks past) held_at n → Shows header.size maps past
-    → ((t : ℕ) → all_tasks ≤ t → entries_in t maps ≡ None) → SameElsewhere maps held_at (λ t r. holds header.size t r past) → HasUse maps (λ r. is_kept header r past && used_at r) (tasks past) (λ t r. holds header.size t r past) n
-uses_none header maps used_at held_at n past plain has shows most same =
-    kept_uses header maps maps used_at n past plain has.used has.among (λ r some. some) shows most (λ t r none why. same t r none ∙ has.apart t r none why)
+pub uses_none : (header : Header) (maps : Mapped) (used_at : ℕ → Bool) (held_at : ℕ → ℕ → Bool) (n : ℕ) (past : List Event) → HasUse header maps used_at (tasks past) held_at n → Shows header.size maps past
+    → ((t : ℕ) → all_tasks ≤ t → entries_in t maps ≡ None) → SameElsewhere maps held_at (λ t r. holds header.size t r past) → HasUse header maps (λ r. is_kept header r past && used_at r) (tasks past) (λ t r. holds header.size t r past) n
+uses_none header maps used_at held_at n past has shows most same =
+    kept_uses header maps maps used_at n past has.used has.files has.among (λ r some. some) shows most (λ t r none why. same t r none ∙ has.apart t r none why)
 
 -- a task has an entry more, on the host where its region is in use
-pub uses_entered : (maps new : Mapped) (used_at : ℕ → Bool) (made : List ℕ) (held2 : ℕ → ℕ → Bool) (n task : ℕ) (row : Entry) (here : Bool) → ((r : ℕ) → r ≢ row.region.0 → used_at r ≡ nat_lt 0 (count_by all_tasks r maps)) → used_at row.region.0 ≡ true
+pub uses_entered : (header : Header) (maps new : Mapped) (used_at : ℕ → Bool) (made : List ℕ) (held2 : ℕ → ℕ → Bool) (n task : ℕ) (row : Entry) (here : Bool) → ((r : ℕ) → named header ≤ r → r ≢ row.region.0 → used_at r ≡ nat_lt 0 (count_by all_tasks r maps)) → ((r : ℕ) → is_file header r ≡ true → r ≢ row.region.0 → 0 < count_by all_tasks r maps → used_at r ≡ true)
+    → (is_paged header row.region.0 ≡ true → used_at row.region.0 ≡ true)
     → ((t : ℕ) (rows : List Entry) → entries_in t maps ≡ Some rows → is_among t made ≡ true) → ChangesOnly maps new task (Some (entered row (rows_in task maps))) → entries_in task maps ≡ Some (rows_in task maps) → task < all_tasks → here ≡ true
-    → ApartFrom maps used_at held2 n → HasUse new (λ r. (not (r == row.region.0) || here) && used_at r) made held2 n
-uses_entered maps new used_at made held2 n task row here others own among changes lives below is apart =
+    → ApartFrom maps used_at held2 n → HasUse header new (λ r. (not (r == row.region.0) || here) && used_at r) made held2 n
+uses_entered header maps new used_at made held2 n task row here others files own among changes lives below is apart =
     record {
-      used = λ r. simple (r == row.region.0) (used_at r) ∙ elim (eqb_tells r row.region.0) [
+      used = λ r temporary. simple (r == row.region.0) (used_at r) ∙ elim (eqb_tells r row.region.0) [
         | inl same ↦
             let one : count_on r (row ∷ rows_in task maps) ≡ 1 + count_on r (rows_in task maps) = subst (λ (z : ℕ). count_on z (row ∷ rows_in task maps) ≡ 1 + count_on z (rows_in task maps)) (sym same.1) (self row.region.0) in
             let moved = by_changed all_tasks r task maps new (Some (entered row (rows_in task maps))) below changes in
             let enters = on_entered r row (rows_in task maps) in
             let some : 0 < count_by all_tasks r new = omega arith in
-            ap used_at same.1 ∙ (own ∙ grind (arith, nat_tests))
+            ap used_at same.1 ∙ (own (paged_temporary header row.region.0 (let is_it = same.1 in omega (arith, is_it, temporary))) ∙ grind (arith, nat_tests))
         | inr apart ↦
-            let none : count_on r (row ∷ rows_in task maps) ≡ 0 + count_on r (rows_in task maps) = other r (λ e. apart.1 (sym e)) in
-            let moved = by_changed all_tasks r task maps new (Some (entered row (rows_in task maps))) below changes in
-            let enters = on_entered r row (rows_in task maps) in
-            let same : count_by all_tasks r maps ≡ count_by all_tasks r new = omega arith in
-            others r apart.1 ∙ ap (nat_lt 0) same
+            others r temporary apart.1 ∙ ap (nat_lt 0) (as_many r apart.1)
+      ];
+      files = λ r file some. simple (r == row.region.0) (used_at r) ∙ elim (eqb_tells r row.region.0) [
+        | inl same ↦ ap used_at same.1 ∙ own (paged_file header row.region.0 (subst (λ (z : ℕ). is_file header z ≡ true) same.1 file))
+        | inr apart ↦ files r file apart.1 (subst (λ (z : ℕ). 0 < z) (sym (as_many r apart.1)) some)
       ];
       among = λ t rows found. elim (eqb_tells task t) [
         | inl same ↦ subst (λ (z : ℕ). is_among z made ≡ true) same.1 (among task (rows_in task maps) lives)
@@ -257,6 +263,16 @@ uses_entered maps new used_at made held2 n task row here others own among change
           apart t r (sym (changes.others t (λ e. other (sym e))) ∙ none) (either r why);
     }
   where
+    other : (r : ℕ) → (row.region.0 ≡ r → ⊥) → (if row.region.0 == r then 1 else 0) + count_on r (rows_in task maps) ≡ 0 + count_on r (rows_in task maps)
+    other r apart = elim (eqb_tells row.region.0 r) [ inl same ↦ absurd (apart same.1) | inr is ↦ rw is.0 refl ]
+
+    as_many : (r : ℕ) → r ≢ row.region.0 → count_by all_tasks r maps ≡ count_by all_tasks r new
+    as_many r apart =
+        let none : count_on r (row ∷ rows_in task maps) ≡ 0 + count_on r (rows_in task maps) = other r (λ e. apart (sym e)) in
+        let moved = by_changed all_tasks r task maps new (Some (entered row (rows_in task maps))) below changes in
+        let enters = on_entered r row (rows_in task maps) in
+        omega arith
+
     simple : (b used : Bool) → ((not b || here) && used) ≡ used
     simple true used = rw is refl
     simple false used = refl
@@ -267,6 +283,3 @@ uses_entered maps new used_at made held2 n task row here others own among change
 
     self : (n : ℕ) → (if n == n then 1 else 0) + count_on n (rows_in task maps) ≡ 1 + count_on n (rows_in task maps)
     self n = elim (eqb_tells n n) [ inl same ↦ rw same.0 refl | inr apart ↦ absurd (apart.1 refl) ]
-
-    other : (r : ℕ) → (row.region.0 ≡ r → ⊥) → (if row.region.0 == r then 1 else 0) + count_on r (rows_in task maps) ≡ 0 + count_on r (rows_in task maps)
-    other r apart = elim (eqb_tells row.region.0 r) [ inl same ↦ absurd (apart same.1) | inr is ↦ rw is.0 refl ]

@@ -1,7 +1,7 @@
 -- The frames that returns hold, once a page has left its frame.
 use Rattle.vm_kernel.proofs.Common.{All, All-append, All-cons, All-head, All-nil, All-tail, Bool, Changes, EachApart, FrameNo, FrameTable, HasLaundry, HostParts, IsWashed, LaundryList, List, None, PageKey, PageRow, Queues, ResidentTable, Some, [], ap, arith, claimed, count_claims, count_released, eqb_tells, false, frame_count, get_or, get_or-set_other, if_true, inl, inr, is_claimed, is_skipped, length, length-append, nat_tests, owner_of, refl, set, subst, sym, true, ℕ, ◌++◌, ◌+◌, ◌<◌, ◌==◌, ◌∙◌, ◌∷◌, ◌≡◌, ◌≤◌}
-use Rattle.std.specs.Prelude.{◌||◌}
-use Rattle.vm_kernel.proofs.Pages.{laundry_changed}
+use Rattle.vm_kernel.proofs.Pages.{itself, laundry_changed}
+use Rattle.std.proofs.lemmas.Bool.{or_left, or_parts, or_right}
 
 -- a frame that is held is one of those that are claimed, and no page's
 pub washed_at : (fs : FrameTable) (rs : ResidentTable) (held : List FrameNo) (g : ℕ) → All (IsWashed fs rs) held → is_skipped held g ≡ true → IsWashed fs rs (record { 0 = g })
@@ -23,25 +23,15 @@ unheld fs rs held f key all owner = go (is_skipped held f) refl
 pub each_counted : (claims : List Bool) (fs : List FrameNo) → ((g : ℕ) → is_skipped fs g ≡ true → get_or claims g false ≡ true) → EachApart fs → length fs ≤ count_claims claims
 each_counted claims [] all apart = omega arith
 each_counted claims (f ∷ fs) all apart =
-    let mine : get_or claims f.0 false ≡ true = all f.0 (first (f.0 == f.0) (is_skipped fs f.0) (itself f.0)) in
+    let mine : get_or claims f.0 false ≡ true = all f.0 (or_left (f.0 == f.0) (is_skipped fs f.0) (itself f.0)) in
     let fewer = each_counted (set claims f.0 false) fs others apart.1 in
     let count = count_released claims f.0 mine in
     omega (arith, fewer, count)
   where
-    itself : (n : ℕ) → (n == n) ≡ true
-    itself n = grind (arith, nat_tests)
-
-    first : (a b : Bool) → a ≡ true → (a || b) ≡ true
-    first a b is = rw is refl
-
-    second : (a b : Bool) → b ≡ true → (a || b) ≡ true
-    second true b is = refl
-    second false b is = is
-
     others : (g : ℕ) → is_skipped fs g ≡ true → get_or (set claims f.0 false) g false ≡ true
     others g there = elim (eqb_tells f.0 g) [
       | inl same ↦ absurd (let bad : false ≡ true = sym apart.0 ∙ (ap (is_skipped fs) same.1 ∙ there) in cc)
-      | inr apart ↦ get_or-set_other claims f.0 g false false (λ e. apart.1 (sym e)) ∙ all g (second (f.0 == g) (is_skipped fs g) there)
+      | inr apart ↦ get_or-set_other claims f.0 g false false (λ e. apart.1 (sym e)) ∙ all g (or_right (f.0 == g) (is_skipped fs g) there)
     ]
 
 -- while some page has a frame there is room for one more
@@ -59,22 +49,14 @@ laundry_room fs rs laundry out f key has most mine owner =
 -- each stands there once still, behind them one that did not
 apart_push : (held : List FrameNo) (f : FrameNo) → EachApart held → is_skipped held f.0 ≡ false → EachApart (held ++ f ∷ [])
 apart_push [] f apart new = (refl, tt)
-apart_push (g ∷ held) f apart new = (unskipped held apart.0, apart_push held f apart.1 (right (g.0 == f.0) (is_skipped held f.0) new))
+apart_push (g ∷ held) f apart new = (unskipped held apart.0, apart_push held f apart.1 (or_parts (g.0 == f.0) (is_skipped held f.0) new).1)
   where
-    right : (a b : Bool) → (a || b) ≡ false → b ≡ false
-    right true b is = absurd (let bad : true ≡ false = is in cc)
-    right false b is = is
-
-    left : (a b : Bool) → (a || b) ≡ false → a ≡ false
-    left true b is = absurd (let bad : true ≡ false = is in cc)
-    left false b is = refl
-
     turned : (a b : ℕ) → (a == b) ≡ false → (b == a) ≡ false
     turned a b is = grind (arith, nat_tests)
 
     unskipped : (held : List FrameNo) → is_skipped held g.0 ≡ false → is_skipped (held ++ f ∷ []) g.0 ≡ false
-    unskipped [] none = rw (turned g.0 f.0 (left (g.0 == f.0) (is_skipped held f.0) new)) refl
-    unskipped (moment ∷ rest) none = rw (left (moment.0 == g.0) (is_skipped rest g.0) none) (unskipped rest (right (moment.0 == g.0) (is_skipped rest g.0) none))
+    unskipped [] none = rw (turned g.0 f.0 (or_parts (g.0 == f.0) (is_skipped held f.0) new).0) refl
+    unskipped (moment ∷ rest) none = rw (or_parts (moment.0 == g.0) (is_skipped rest g.0) none).0 (unskipped rest (or_parts (moment.0 == g.0) (is_skipped rest g.0) none).1)
 
 -- a page has gone to its pager, and its frame is held
 pub laundry_returned : (key : PageKey) (row : PageRow) (bytes : List ℕ) (lists : Queues) (old new : HostParts) (laundry laundry2 : LaundryList) (out : ℕ) → HasLaundry old.frames old.resident laundry out → Changes key row.frame (Some row) None true bytes lists old new

@@ -4,11 +4,13 @@ use Rattle.std.proofs.Common.{nat_lt}
 use Rattle.vm_base.specs.declared.code.Code.TheVariants as code
 use Rattle.vm_model.specs.declared.event.Event.TheVariants as event
 use Rattle.vm_model.specs.declared.command.Command.TheVariants as command
+use Rattle.vm_state.specs.Places.{known_local}
 use Rattle.vm_kernel.proofs.After.{Leaves, controls_after, homeless_after, regions_after}
 use Rattle.vm_kernel.proofs.Growing.{free_is, suffices}
 use Rattle.vm_kernel.proofs.Heads.{heads_one, passed, ran_head}
 use Rattle.vm_kernel.proofs.Own.{named_host, own_host}
 use Rattle.vm_kernel.proofs.Mine.{own_named}
+use Rattle.vm_state.specs.Places.{known_local}
 
 -- the frames, with another number wired
 abbrev pub with_wired : FrameTable → ℕ → FrameTable
@@ -46,7 +48,7 @@ ran_wired : (header : Header) (h : ℕ) (outside : Outside) (doing : Command) (p
     → IsDone header doing (event.Wired (host_id h) wired ∷ []) past → Ran header h outside doing past (record k { memory = record k.memory { frames = with_wired k.memory.frames wired } }) ids (event.Wired (host_id h) wired ∷ [])
 ran_wired header h outside doing past k ids wired rests few first done =
     let m = rests.matches in
-    let leaves : Leaves header past (event.Wired (host_id h) wired ∷ past) = record { regions_made = refl; objects_made = refl; region = λ r. refl; backing = λ o. refl; home = λ r. refl; made_for = λ o. refl; used = λ g r. refl } in
+    let leaves : Leaves header past (event.Wired (host_id h) wired ∷ past) = record { regions_made = refl; objects_made = refl; region = λ r. refl; backing = λ o. refl; home = λ r. refl; made_for = λ o. refl; used = λ g r. refl; target = λ task. refl } in
     let frames : HasFrames (slice_get (reverse header.frames.items) h) (with_wired k.memory.frames wired) (frames_held header.size h (event.Wired (host_id h) wired ∷ past)) (frames_wired h (event.Wired (host_id h) wired ∷ past)) =
     record { total = m.frames.total; held = m.frames.held; wired = rw (own_host h) refl; fits = few } in
     ran_head header h outside doing past (record k { memory = record k.memory { frames = with_wired k.memory.frames wired } }) ids (event.Wired (host_id h) wired ∷ []) (event.Wired (host_id h) wired ∷ []) first refl
@@ -55,7 +57,10 @@ ran_wired header h outside doing past k ids wired rests few first done =
     (record {
       matches =
           record {
-            plain = m.plain;
+            ranged = m.ranged;
+            declared = m.declared;
+            kinds = m.kinds;
+            shared = m.shared;
             known = m.known;
             size = m.size;
             host = m.host;
@@ -63,7 +68,7 @@ ran_wired header h outside doing past k ids wired rests few first done =
             tasks = m.tasks;
             regions = regions_after leaves m.regions;
             entries = m.entries;
-            pages = pages_wired k.memory.frames k.memory.resident k.memory.objects (λ o p. local header.size h (place_of o p) past) wired m.pages;
+            pages = pages_wired k.memory.frames k.memory.resident k.memory.objects (λ o p. known_local header o p (local header.size h (place_of o p) past)) wired m.pages;
             uses = m.uses;
             controls = controls_after leaves m.controls;
             homeless = homeless_after leaves m.homeless;

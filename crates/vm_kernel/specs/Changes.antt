@@ -18,6 +18,7 @@ use Rattle.vm_kernel.specs.declared.parts.Parts.{Parts}
 pub record MadeRange (region : RegionId) (object : ObjectId) (pages : ℕ) (old new : Parts) : Type 0 where
   pub host : new.host ≡ old.host
   pub size : new.size ≡ old.size
+  pub declared : new.declared ≡ old.declared
   pub memory : new.memory ≡ record old.memory { objects = new.memory.objects }
   pub maps : new.maps ≡ old.maps
   pub laundry : new.laundry ≡ old.laundry

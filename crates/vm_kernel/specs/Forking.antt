@@ -34,6 +34,7 @@ pub record CanShare (task : ℕ) (row : Entry) (k : Parts) : Type 0 where
 pub record Shares (task : TaskId) (row : Entry) (old new : Parts) (before after : List Event) : Type 0 where
   pub host : new.host ≡ old.host
   pub size : new.size ≡ old.size
+  pub declared : new.declared ≡ old.declared
   pub memory : new.memory ≡ old.memory
   pub laundry : new.laundry ≡ old.laundry
   pub waits : new.waits ≡ old.waits
@@ -66,6 +67,7 @@ pub record CanCopy (task : ℕ) (source : RegionId) (offset : ℕ) (row : Entry)
 pub record EntersCopy (task : TaskId) (source : RegionId) (offset : ℕ) (row : Entry) (old new : Parts) (old_ids new_ids : Ids) (before after : List Event) : Type 0 where
   pub host : new.host ≡ old.host
   pub size : new.size ≡ old.size
+  pub declared : new.declared ≡ old.declared
   pub laundry : new.laundry ≡ old.laundry
   pub waits : new.waits ≡ old.waits
   pub copy : RegionId

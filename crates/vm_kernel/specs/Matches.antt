@@ -1,13 +1,17 @@
 -- A kernel stands for what a history says of its host: its parts are the facts of that history.
-use Rattle.std.specs.Prelude.{ℕ, All, ◌≡◌, ◌<◌, ◌^◌, List, [], length, None, slice_get, reverse}
+use Rattle.std.specs.Prelude.{ℕ, All, ◌≡◌, ◌≢◌, ◌<◌, ◌≤◌, ◌^◌, List, [], length, None, slice_get, reverse}
 use Rattle.vm_base.specs.declared.entry.Entry.{Entry}
 use Rattle.vm_base.specs.declared.ids.HostId.{HostId}
+use Rattle.vm_base.specs.declared.ids.ObjectKind.TheVariants.{Temp}
+use Rattle.vm_base.specs.Limits.{most_objects}
 use Rattle.vm_base.specs.Pages.{IsPageSize}
 use Rattle.vm_model.specs.declared.event.Event.{Event}
+use Rattle.vm_model.specs.declared.script.Declared.{Declared}
 use Rattle.vm_model.specs.declared.script.Header.{Header}
 use Rattle.vm_model.specs.Controls.{last_control, live_control}
 use Rattle.vm_model.specs.Ranges.{IsBetween}
 use Rattle.vm_model.specs.Local.{local}
+use Rattle.vm_model.specs.Named.{named}
 use Rattle.vm_model.specs.Regions.{backing_of, marked_regions, next_object, next_region, region_of}
 use Rattle.vm_model.specs.Tasks.{entries_of, host_of}
 use Rattle.vm_model.specs.Waiting.{waiting}
@@ -18,7 +22,7 @@ use Rattle.vm_legal.specs.Living.{tasks as made_tasks}
 use Rattle.vm_legal.specs.Used.{in_use}
 use Rattle.vm_abroad.specs.Home.{HaveHomes, home_of, object_home}
 use Rattle.vm_state.specs.References.{AllReferred}
-use Rattle.vm_state.specs.Stands.{AllUsed, HasControls, HasEntries, HasFrames, HasHomes, HasLaundry, HasPages, HasRegions, HasTasks, HasUse}
+use Rattle.vm_state.specs.Stands.{AllUsed, AreShared, HasControls, HasEntries, HasFrames, HasHomes, HasKinds, HasLaundry, HasPages, HasRegions, HasTasks, HasUse}
 use Rattle.vm_abroad.specs.Sound.{holds}
 use Rattle.vm_abroad.specs.Whose.{IsShut}
 use Rattle.vm_supply.specs.declared.woken.Woken.{Woken}
@@ -27,12 +31,20 @@ use Rattle.vm_waits.specs.Waits.{count_again}
 use Rattle.vm_state.specs.Waiters.{BeganInOrder, HasWaiters}
 use Rattle.vm_shadow.specs.declared.ids.Ids.{Ids}
 use Rattle.vm_kernel.specs.Fits.{PartsFit}
-use Rattle.vm_state.specs.Places.{place_of}
+use Rattle.vm_state.specs.Places.{known_local, place_of}
 use Rattle.vm_kernel.specs.declared.parts.Parts.{Parts}
 
 -- the host with a number
 abbrev pub host_id : ℕ → HostId
 host_id host = record { 0 = host }
+
+-- the numbers of a header are in their ranges, and no declared object is temporary
+pub record IsRanged (header : Header) : Type 0 where
+  pub size : IsPageSize header.size
+  pub hosts : IsBetween 1 8 (length header.frames.items)
+  pub few : All (λ frames. frames < 2 ^ 32) header.frames.items
+  pub objects : named header ≤ most_objects
+  pub kinds : All (λ (object : Declared). object.kind ≢ Temp) header.objects.items
 
 -- the header of a script of temporary memory: its numbers are in their ranges, and it has no objects
 pub record IsPlain (header : Header) : Type 0 where
@@ -41,9 +53,9 @@ pub record IsPlain (header : Header) : Type 0 where
   pub few : All (λ frames. frames < 2 ^ 32) header.frames.items
   pub objects : header.objects.items ≡ []
 
--- the numbers of the first region and object, where none is declared
-abbrev pub first_ids : Ids
-first_ids = record { next_object = 0; next_region = 0; marks = 0 }
+-- the numbers of the first region and object, behind those of the declared ones
+abbrev pub first_ids : Header → Ids
+first_ids header = record { next_object = named header; next_region = named header; marks = 0 }
 
 -- no create waits for its return, and no region for its entry
 pub record IsSettled (past : List Event) : Type 0 where
@@ -52,18 +64,21 @@ pub record IsSettled (past : List Event) : Type 0 where
 
 -- the kernel of a host after a history, also inside a step; the counts of entries include some that have just gone
 pub record Matches (header : Header) (h : ℕ) (k : Parts) (ids : Ids) (gone : List Entry) (past : List Event) : Type 0 where
-  pub plain : IsPlain header
+  pub ranged : IsRanged header
   pub known : h < length header.frames.items
   pub size : k.size ≡ header.size
   pub host : k.host.0 ≡ h
+  pub declared : k.declared ≡ named header
   pub fits : PartsFit k
   pub tasks : HasTasks h header.size k.maps (λ task. host_of task past) (λ task. entries_of header.size task past)
   pub regions : HasRegions k.chains k.memory.objects ids (λ r. region_of header r past) (λ o. backing_of header o past) (next_region header past) (next_object header past) (marked_regions header past)
-  pub homes : HasHomes h k.chains (λ r. home_of r past)
+  pub kinds : HasKinds header k.memory.objects k.chains
+  pub homes : HasHomes header h k.chains (λ r. home_of r past)
   pub entries : HasEntries header.size k.maps k.chains gone
-  pub pages : HasPages k.memory.frames k.memory.resident k.memory.objects (λ o p. local header.size h (place_of o p) past)
-  pub uses : HasUse k.maps (λ r. in_use header h r past) (made_tasks past) (λ task r. holds header.size task r past) (next_region header past)
-  pub controls : HasControls h k.memory.objects (λ o. last_control h o past) (λ o. live_control h o past) (λ o. is_ready h o past) (λ o. object_home o past)
+  pub shared : AreShared (named header) k.maps
+  pub pages : HasPages k.memory.frames k.memory.resident k.memory.objects (λ o p. known_local header o p (local header.size h (place_of o p) past))
+  pub uses : HasUse header k.maps (λ r. in_use header h r past) (made_tasks past) (λ task r. holds header.size task r past) (next_region header past)
+  pub controls : HasControls (named header) h k.memory.objects (λ o. last_control h o past) (λ o. live_control h o past) (λ o. is_ready h o past) (λ o. object_home o past)
   pub homeless : HaveHomes header past
   pub settled : IsSettled past
   pub laundry : HasLaundry k.memory.frames k.memory.resident k.laundry (returns_out h past)

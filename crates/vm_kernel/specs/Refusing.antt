@@ -10,9 +10,12 @@ use Rattle.vm_base.specs.Limits.{most_objects, most_pages, most_regions}
 use Rattle.vm_model.specs.declared.command.Command.{Command}
 use Rattle.vm_model.specs.declared.command.Command.TheVariants as command
 use Rattle.vm_model.specs.declared.event.Event.{Event}
-use Rattle.vm_model.specs.Tasks.{copies, host_of, new_marks}
-use Rattle.vm_legal.specs.Refusal.{access_refusal, code_where}
+use Rattle.vm_model.specs.Tasks.{copies, host_of, is_copied, new_marks}
+use Rattle.vm_legal.specs.Outside.{is_wild_kind}
+use Rattle.vm_legal.specs.Refusal.{access_refusal, code_where, meets_declared}
 use Rattle.vm_frames.specs.Frames.{free}
+use Rattle.vm_objects.specs.Objects.{ObjectTable, object_at}
+use Rattle.vm_objects.specs.declared.row.ObjectRow.{ObjectRow}
 use Rattle.vm_maps.specs.declared.change.MapChange.{MapChange}
 use Rattle.vm_maps.specs.Judge.{judged}
 use Rattle.vm_maps.specs.Maps.{Mapped, entries_in, rows_in}
@@ -60,25 +63,34 @@ makes_too_many chains rows ids = nat_lt most_regions (ids.next_region + copies r
 abbrev pub fork_code : ChainTable → List Entry → Ids → Option Code
 fork_code chains rows ids = code_where (makes_too_many chains rows ids) TableFull None
 
--- one copy of the region more is too much, with its mark and the one that the region may get
-abbrev pub is_copy_full : ChainTable → Ids → ℕ → Bool
-is_copy_full chains ids source =
-    nat_le most_regions ids.next_region || nat_lt most_objects (object_total ids + (if is_marked chains source then 1 else 2))
+-- so many objects are declared: one copy of the region more is too much, with its mark and the one that a temporary region may get
+abbrev pub is_copy_full : ℕ → ChainTable → Ids → ℕ → Bool
+is_copy_full declared chains ids source =
+    nat_le most_regions ids.next_region || nat_lt most_objects (object_total ids + (if nat_lt source declared || is_marked chains source then 1 else 2))
 
--- the code of a copy from an entry, to a task with these entries, of a range whose numbers are right
-abbrev pub source_code : ChainTable → Ids → List Entry → ℕ → ℕ → ℕ → Option Entry → Option Code
-source_code chains ids rows address bytes to None = Some InvalidAddress
-source_code chains ids rows address bytes to (Some row) =
-    code_where (nat_lt (row.address + row.bytes) (address + bytes)) InvalidAddress
+abbrev pub is_wild_row : Option ObjectRow → Bool
+is_wild_row None = false
+is_wild_row (Some known) = is_wild_kind known.kind
+
+-- so many objects are declared: an entry on a wild one is not copied from, and one on another to another task
+abbrev pub is_uncopied : ℕ → ObjectTable → Bool → ℕ → Bool
+is_uncopied declared objects own region = nat_lt region declared && (is_wild_row (object_at objects region) || not own)
+
+-- the code of a copy from an entry of a task, to itself or to another with these entries, of a range whose numbers are right
+abbrev pub source_code : Parts → Ids → Bool → List Entry → ℕ → ℕ → ℕ → Option Entry → Option Code
+source_code k ids own rows address bytes to None = Some InvalidAddress
+source_code k ids own rows address bytes to (Some row) =
+    code_where (is_uncopied k.declared k.memory.objects own row.region.0) InvalidArgument
+    (code_where (nat_lt (row.address + row.bytes) (address + bytes)) InvalidAddress
     (code_where (not (allows need.Load row.prot)) ProtectionFailure
     (code_where (meets_range to bytes rows) NoSpace
-    (code_where (nat_lt most_entries (length rows + 1) || is_copy_full chains ids row.region.0) TableFull None)))
+    (code_where (nat_lt most_entries (length rows + 1) || is_copy_full k.declared k.chains ids row.region.0) TableFull None))))
 
--- the code of a copy from a task with these entries to one with others
-abbrev pub copy_code : ℕ → ChainTable → Ids → List Entry → List Entry → ℕ → ℕ → ℕ → Option Code
-copy_code size chains ids own rows address bytes to =
-    code_where (not (is_range size address bytes && is_range size to bytes) || nat_lt most_pages (bytes / size)) InvalidArgument
-    (source_code chains ids rows address bytes to (entry_at address own))
+-- the code of a copy from a task to another, or to itself
+abbrev pub copy_code : Parts → Ids → ℕ → ℕ → ℕ → ℕ → ℕ → Option Code
+copy_code k ids task target address bytes to =
+    code_where (not (is_range k.maps.size address bytes && is_range k.maps.size to bytes) || nat_lt most_pages (bytes / k.maps.size)) InvalidArgument
+    (source_code k ids (task == target) (rows_in target k.maps) address bytes to (entry_at address (rows_in task k.maps)))
 
 -- the code of a load or store of so many bytes, of a task with these entries
 abbrev pub access_code : List Entry → ℕ → ℕ → Access → Option Code
@@ -92,7 +104,9 @@ change_code k task change = acting_in k task (judged k.maps.size change (rows_in
 abbrev pub changing_code : Parts → Command → Option Code
 changing_code k (command.Deallocate task address bytes) = change_code k task.0 (removal address bytes)
 changing_code k (command.Protect task address bytes prot) = change_code k task.0 (protection address bytes prot)
-changing_code k (command.Inherit task address bytes inherit) = change_code k task.0 (inheritance address bytes inherit)
+changing_code k (command.Inherit task address bytes inherit) =
+    acting_in k task.0
+    (code_where (is_copied inherit && meets_declared k.declared address bytes (rows_in task.0 k.maps)) InvalidArgument (judged k.maps.size (inheritance address bytes inherit) (rows_in task.0 k.maps)))
 changing_code k other = None
 
 -- the code of a command
@@ -103,7 +117,7 @@ code_of k ids (command.Allocate task address bytes) = acting_in k task.0 (range_
 code_of k ids (command.Load task address size) = acting_in k task.0 (access_code (rows_in task.0 k.maps) address size need.Load)
 code_of k ids (command.Store task address size value) = acting_in k task.0 (access_code (rows_in task.0 k.maps) address size need.Store)
 code_of k ids (command.Copy task address bytes target to) =
-    acting_in k task.0 (acting_in k target.0 (copy_code k.maps.size k.chains ids (rows_in task.0 k.maps) (rows_in target.0 k.maps) address bytes to))
+    acting_in k task.0 (acting_in k target.0 (copy_code k ids task.0 target.0 address bytes to))
 code_of k ids (command.Wire host frames) = code_where (nat_lt (free k.memory.frames) frames) ResourceShortage None
 code_of k ids (command.Unwire host frames) = code_where (nat_lt k.memory.frames.wired frames) InvalidArgument None
 code_of k ids other = changing_code k other

@@ -5,7 +5,8 @@ use Rattle.vm_model.specs.declared.event.Event.{Event}
 use Rattle.vm_model.specs.declared.command.Command.{Command}
 use Rattle.vm_model.specs.declared.script.Header.{Header}
 use Rattle.vm_legal.specs.Outside.{Outside}
-use Rattle.vm_objects.specs.Objects.{object_at}
+use Rattle.vm_model.specs.Named.{named}
+use Rattle.vm_objects.specs.Objects.{ObjectTable, object_at}
 use Rattle.vm_objects.specs.declared.row.ObjectRow.{ObjectRow}
 use Rattle.vm_shadow.specs.Chains.{ChainTable, PutsRegion, region_at, shadow_at}
 use Rattle.vm_shadow.specs.declared.ids.Ids.{Ids}
@@ -53,6 +54,10 @@ pub record EndsRegion (header : Header) (h : ℕ) (outside : Outside) (doing : C
   pub none : region_entries k.chains region ≡ 0
   pub others : (r : ℕ) (row : RegionRow) → r ≢ region → region_at k.chains r ≡ Some row → 0 < row.entries
   pub referred : AllReferred k.chains k.memory.objects k.memory.resident
+
+-- where an object is declared, its control lives
+abbrev pub IsKnownToPager : Header → ObjectTable → ℕ → Type 0
+IsKnownToPager header objects o = (known : ObjectRow) → object_at objects o ≡ Some known → o < named header → known.live ≡ true
 
 -- nothing refers to an object any more, and something to each other one that lives, has pages or is a shadow
 pub record EndsObject (header : Header) (h : ℕ) (outside : Outside) (doing : Command) (past : List Event) (k : Parts) (ids : Ids) (gone : List Entry) (object : ℕ) (events : List Event) : Type 0 where

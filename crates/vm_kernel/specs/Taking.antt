@@ -1,11 +1,13 @@
 -- A message of a pager is taken.
-use Rattle.std.specs.Prelude.{ℕ, ◌≡◌, ◌++◌, true, false, List, length, Some, None}
+use Rattle.std.specs.Prelude.{ℕ, ◌<◌, ◌≡◌, ◌++◌, true, false, List, length, Some, None}
 use Rattle.vm_model.specs.declared.event.Event.{Event}
 use Rattle.vm_model.specs.declared.message.Message.{Message}
 use Rattle.vm_model.specs.declared.message.Message.TheVariants as message
 use Rattle.vm_model.specs.declared.script.Header.{Header}
+use Rattle.vm_model.specs.Named.{named}
 use Rattle.vm_legal.specs.Debts.{EndsWaiters}
-use Rattle.vm_legal.specs.Steps.{error_taken, fails_access, fails_task, since}
+use Rattle.vm_legal.specs.Licences.{zeroes}
+use Rattle.vm_legal.specs.Steps.{absence_taken, error_taken, fails_access, fails_task, since}
 use Rattle.vm_legal.specs.Stretches.{EachOf}
 use Rattle.vm_legal.specs.Reclaims.{IsReclaim}
 use Rattle.vm_resident.specs.Resident.{ResidentTable, page_key, row_at}
@@ -70,6 +72,10 @@ EndsEach header rows past = (host object page t : ℕ) (w : Waiting) → error_t
 -- an error that the step took has ended some access
 abbrev pub IsErrorPaid : Header → List Event → Type 0
 IsErrorPaid header past = (host object page : ℕ) → error_taken header.size past ≡ Some (record { host = host; object = object; page = page }) → since (fails_access object page) past ≡ true
+
+-- zeros have come where the step took the word of a declared object's pager that it has no such page
+abbrev pub IsAbsencePaid : Header → List Event → Type 0
+IsAbsencePaid header past = (host object page : ℕ) → object < named header → absence_taken header.size past ≡ Some (record { host = host; object = object; page = page }) → since (zeroes object page) past ≡ true
 
 -- all events that were added take pages from the host
 pub record EachGone (h : ℕ) (old new : List Event) : Type 0 where

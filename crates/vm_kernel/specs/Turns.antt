@@ -67,6 +67,20 @@ RunsNone (event.DeviceFailed who way object page) = Unit {0}
 RunsNone (event.NoSlot object page) = Unit {0}
 RunsNone (event.Wired host count) = Unit {0}
 
+-- what an answer of a pager brings with an event of its own: nothing, or a page of zeros
+abbrev pub IsBrought : List Event → Type 0
+IsBrought [] = Unit {0}
+IsBrought (event.Zeroed host object page ∷ []) = Unit {0}
+IsBrought other = ⊥
+
+-- no access was run by these events, which stand behind what an answer brought
+pub record RunsNoneYet (events : List Event) : Type 0 where
+  pub late : List Event
+  pub first : List Event
+  pub is : events ≡ late ++ first
+  pub none : EachOf RunsNone late
+  pub brought : IsBrought first
+
 -- what stands first where an access is run: nothing, or a shadow for the region of a store
 pub data IsFront : List Event → Type 0 where
   Bare : IsFront []
@@ -89,7 +103,7 @@ pub data Did (rows : List Waiting) (earlier : ℕ → Type 0) (task : TaskId) : 
 -- Some accesses were run again, each once, in the order in which they began: from when on the next one began, the queue, and the events, which have the newest first.
 pub data Restarts (header : Header) (h : ℕ) (rows : List Waiting) (past : List Event) (old : List TaskId) : ℕ → List TaskId → List Event → Type 0 where
   -- none was run yet
-  Start : (events : List Event) → EachOf RunsNone events → Restarts header h rows past old 0 old events
+  Start : (events : List Event) → RunsNoneYet events → Restarts header h rows past old 0 old events
   -- one wants a frame while somebody queues or none is free: it joins the back
   Joins : (task : TaskId) (from : ℕ) (queue : List TaskId) (front events : List Event) → Restarts header h rows past old from queue events → from ≤ begun_at task.0 (events ++ past) → IsFront front
       → (wants : Wants header h ((front ++ events) ++ past)) → wants.task ≡ task.0 → (queue ≢ []) ⊎ (frames_free header h ((front ++ events) ++ past) ≡ 0)
@@ -131,6 +145,13 @@ pub record QueueIsStill (old new : List TaskId) (before after : List Event) : Ty
 abbrev pub QueueAfter : Waiting → Bool → List TaskId → List TaskId → Type 0
 QueueAfter was true old new = new ≡ (if is_frame was.on then old else old ++ was.task ∷ [])
 QueueAfter was false old new = new ≡ queue_without was.task.0 old
+
+-- nobody joined or left, and no access was run by what was added, whatever stood in front of it
+pub record RunsNobody (old new : List TaskId) (before after : List Event) : Type 0 where
+  pub queue : new ≡ old
+  pub more : List Event
+  pub told : after ≡ more ++ before
+  pub none : EachOf RunsNone more
 
 -- an access was run once: it claims no frame where it may not; if it wants one still, no more than a shadow was made; it is not to be run again; and only its own row
 -- has changed

@@ -1,6 +1,7 @@
-// What a fork makes of a task's entries.
-ghost use Rattle.std.specs.Prelude.{◌≡◌, ◌≤◌, ◌==◌, ◌&&◌, drop, length, not};
-ghost use Rattle.vm_base.specs.Entries.{by_address};
+// What a fork makes of a task's entries, and which of them are on declared objects.
+ghost use Rattle.std.specs.Prelude.{◌≡◌, ◌≤◌, ◌==◌, ◌&&◌, [], ◌∷◌, drop, length, nat_lt, not};
+ghost use Rattle.vm_base.specs.Entries.{by_address, meets_range};
+ghost use Rattle.vm_legal.specs.Refusal.{meets_declared};
 ghost use Rattle.vm_model.specs.Tasks.{copies, copies_from, is_copied, new_marks};
 ghost use Rattle.vm_kernel.specs.Refusing.{is_marked};
 
@@ -77,6 +78,34 @@ fn copies_from(entries: &Entries, from: u32, region: RegionId) -> bool
 {
     'all: for i in from..entries.len() {
         if copies_region(*entries.at(i), region) {
+            return true;
+        }
+    }
+    false
+}
+
+// Whether an entry has an address of the range.
+fn meets(entry: Entry, address: u64, bytes: u64) -> bool
+    ensures { result ≡ meets_range address bytes (entry ∷ []) }
+{
+    let ends_behind = entry.address < address || entry.address - address < bytes;
+    let begins_before = address < entry.address || address - entry.address < entry.bytes;
+    ends_behind && begins_before
+}
+
+// Whether the entry is on one of so many declared objects, and has an address of the range.
+fn is_declared_in(entry: Entry, declared: u32, address: u64, bytes: u64) -> bool
+    ensures { result ≡ (nat_lt entry.region.0 declared && meets_range address bytes (entry ∷ [])) }
+{
+    entry.region.0 < declared && meets(entry, address, bytes)
+}
+
+// Whether an entry on one of so many declared objects has an address of the range.
+pub fn meets_declared(entries: &Entries, declared: u32, address: u64, bytes: u64) -> bool
+    ensures { result ≡ meets_declared declared address bytes (by_address entries.now) }
+{
+    'all: for i in 0..entries.len() {
+        if is_declared_in(*entries.at(i), declared, address, bytes) {
             return true;
         }
     }

@@ -14,9 +14,9 @@ ghost use Rattle.vm_kernel.specs.Plays.{Plays, PlaysAnswer, paging};
 ghost use Rattle.vm_resident.specs.Resident.{row_at};
 ghost use Rattle.vm_supply.specs.Answers.{outcome_of};
 ghost use Rattle.vm_state.specs.Stands.{HasTasks};
-ghost use Rattle.vm_kernel.specs.Matches.{IsPlain, Rests, first_ids, host_id};
+ghost use Rattle.vm_kernel.specs.Matches.{IsRanged, Rests, first_ids, host_id};
 ghost use Rattle.vm_kernel.specs.Refusing.{takes_name};
-ghost use Rattle.vm_kernel.specs.Taking.{EndsAll, IsErrorPaid, IsTempAnswer};
+ghost use Rattle.vm_kernel.specs.Taking.{EndsAll, IsAbsencePaid, IsErrorPaid, IsTempAnswer};
 ghost use Rattle.vm_kernel.specs.Turns.{KeepsOthers, LeavesInTurn, Restarted};
 
 use crate::parts::Parts;
@@ -53,9 +53,9 @@ impl Model for Kernel {
 impl Kernel {
     /// The kernel of a host before anything has happened; all its frames are taken now.
     pub fn new(alloc: Global, host: HostId, header: &Header) -> Result<Kernel, NoMemory>
-        requires plain { IsPlain header.now }
+        requires ranged { IsRanged header.now }
         requires host { host.0 < length header.now.frames.items }
-        ensures rests { IfOk result (λ kernel. Rests header.now host.0 kernel first_ids []) }
+        ensures rests { IfOk result (λ kernel. Rests header.now host.0 kernel (first_ids header.now) []) }
         ensures queue { IfOk result (λ kernel. queued kernel.waits.rows ≡ 0) }
         ensures lists { IfOk result (λ kernel. (kernel.memory.queues.active ≡ []) × (kernel.memory.queues.inactive ≡ [])) }
     {
@@ -66,6 +66,7 @@ impl Kernel {
             alloc,
             host,
             size: header.size,
+            declared: header.objects.len(),
             memory,
             maps: Maps::new(alloc, header.size),
             chains: Chains::new(alloc),
@@ -117,6 +118,7 @@ impl Kernel {
         requires answer { IsTempAnswer given.header.size message.now }
         ensures passed { IfOk result (λ events. Passed given.header given.host given.outside given.command (given.front ++ given.past) self.new ids.new events.items) }
         ensures failed { IfOk result (λ events. IsErrorPaid given.header (events.items ++ (given.front ++ given.past))) }
+        ensures zeroed { IfOk result (λ events. IsAbsencePaid given.header (events.items ++ (given.front ++ given.past))) }
         ensures plays { IfOk result (λ events. PlaysAnswer given.header (given.front ++ given.past) object (outcome_of (object_at self.old.memory.objects object.0) control (row_at self.old.memory.resident object.0) message.now) (paging self.old) events.items (paging self.new)) }
         ensures ended { HasQueue given.header given.host self.old given.past → IfOk result (λ events. EndsAll given.header (events.items ++ (given.front ++ given.past))) }
         ensures restarts { IfOk result (λ events. Restarted given.header given.host self.new.waits.rows (given.front ++ given.past) self.old.waits.queue self.new.waits.queue events.items) }

@@ -13,6 +13,8 @@ pub struct Parts {
     pub alloc: Global,
     pub host: HostId,
     pub size: PageSize,
+    // How many objects are declared.
+    pub declared: u32,
     pub memory: HostParts,
     pub maps: Maps,
     pub chains: Chains,

@@ -1,19 +1,22 @@
 // Why a command is refused.
-ghost use Rattle.std.specs.Prelude.{◌≡◌, ◌≤◌, ◌+◌, ◌<◌, ◌^◌, true, IsSome, nat_lt, not, None};
+ghost use Rattle.std.specs.Prelude.{◌≡◌, ◌==◌, ◌&&◌, ◌≤◌, ◌+◌, ◌<◌, ◌^◌, true, IsSome, nat_lt, not, None};
 ghost use Rattle.vm_base.specs.declared.code.Code.TheVariants as code;
 ghost use Rattle.vm_base.specs.Entries.{by_address, entry_at, is_range};
-ghost use Rattle.vm_legal.specs.Refusal.{code_where};
+ghost use Rattle.vm_legal.specs.Refusal.{code_where, meets_declared};
+ghost use Rattle.vm_maps.specs.Judge.{judged};
+ghost use Rattle.vm_model.specs.Tasks.{is_copied};
+ghost use Rattle.vm_kernel.specs.Changes.{inheritance as inheritance_of};
 ghost use Rattle.vm_frames.specs.Frames.{free};
 ghost use Rattle.vm_maps.specs.Maps.{entries_in, rows_in};
 ghost use Rattle.vm_kernel.specs.Begun.{Given, acts_on};
 ghost use Rattle.vm_state.specs.Stands.{HasTasks};
-ghost use Rattle.vm_kernel.specs.Refusing.{IsForHere, access_code, acting_in, change_code, changing_code, code_of, copy_code, fork_code, is_copy_full, makes_too_many, object_total, range_code, source_code};
+ghost use Rattle.vm_kernel.specs.Refusing.{IsForHere, access_code, acting_in, change_code, changing_code, code_of, copy_code, fork_code, is_copy_full, is_uncopied, makes_too_many, object_total, range_code, source_code};
 
 use crate::changes::{enter, inheritance, protection, removal};
-use crate::copying::{copies, is_marked, new_marks};
+use crate::copying::{copies, is_marked, meets_declared, new_marks};
 use crate::parts::Parts;
 use vm_base::limits::{MOST_OBJECTS, MOST_PAGES, MOST_REGIONS};
-use vm_base::{Access, Code, Entries, Entry, RegionId, TaskId};
+use vm_base::{Access, Code, Entries, Entry, Inherit, ObjectId, ObjectKind, RegionId, TaskId};
 use vm_maps::MapChange;
 use vm_model::Command;
 use vm_shadow::{Chains, Ids};
@@ -26,11 +29,15 @@ fn object_total(ids: &Ids) -> u64
     u64::from(ids.next_object) + u64::from(ids.marks)
 }
 
-// Whether a symmetric copy of the region is one too many.
-fn is_copy_full(chains: &Chains, ids: &Ids, source: RegionId) -> bool
-    ensures { result ≡ is_copy_full chains.now ids.now source.0 }
+// Whether a copy of the region is one too many, where so many objects are declared.
+fn is_copy_full(declared: u32, chains: &Chains, ids: &Ids, source: RegionId) -> bool
+    ensures { result ≡ is_copy_full declared chains.now ids.now source.0 }
 {
-    let marks = if is_marked(chains, source) { 1 } else { 2 };
+    let marks = if source.0 < declared || is_marked(chains, source) {
+        1
+    } else {
+        2
+    };
     ids.next_region >= MOST_REGIONS || object_total(ids) + marks > u64::from(MOST_OBJECTS)
 }
 
@@ -121,7 +128,7 @@ impl Parts {
                 address,
                 bytes,
                 inherit,
-            } => self.change_refusal(*task, &inheritance(*address, *bytes, *inherit)),
+            } => self.inherit_refusal(*task, *address, *bytes, *inherit),
             _ => None,
         }
     }
@@ -180,6 +187,29 @@ impl Parts {
         self.maps.judge(task, change)
     }
 
+    // No fork copies from a declared object.
+    fn inherit_refusal(
+        &self,
+        task: TaskId,
+        address: u64,
+        bytes: u64,
+        inherit: Inherit,
+    ) -> Option<Code>
+        requires { IsSome (entries_in task.0 self.now.maps) }
+        ensures { result ≡ acting_in self.now task.0
+            (code_where (is_copied inherit && meets_declared self.now.declared address bytes (rows_in task.0 self.now.maps)) code.InvalidArgument
+            (judged self.now.maps.size (inheritance_of address bytes inherit) (rows_in task.0 self.now.maps))) }
+    {
+        if let Some(code) = self.acting_refusal(task) {
+            return Some(code);
+        }
+        let entries = self.maps.entries(task);
+        if inherit == Inherit::Copy && meets_declared(entries, self.declared, address, bytes) {
+            return Some(Code::InvalidArgument);
+        }
+        self.maps.judge(task, &inheritance(address, bytes, inherit))
+    }
+
     fn fork_refusal(&self, task: TaskId, ids: &Ids) -> Option<Code>
         requires { IsSome (entries_in task.0 self.now.maps) }
         ensures { result ≡ acting_in self.now task.0 (fork_code self.now.chains (rows_in task.0 self.now.maps) ids.now) }
@@ -207,7 +237,7 @@ impl Parts {
         requires sized { self.now.maps.size ≡ self.now.size }
         requires here { IsSome (entries_in task.0 self.now.maps) }
         requires there { IsSome (entries_in target.0 self.now.maps) }
-        ensures { result ≡ acting_in self.now task.0 (acting_in self.now target.0 (copy_code self.now.maps.size self.now.chains ids.now (rows_in task.0 self.now.maps) (rows_in target.0 self.now.maps) address bytes to)) }
+        ensures { result ≡ acting_in self.now task.0 (acting_in self.now target.0 (copy_code self.now ids.now task.0 target.0 address bytes to)) }
     {
         if let Some(code) = self.acting_refusal(task) {
             return Some(code);
@@ -249,11 +279,14 @@ impl Parts {
         requires here { IsSome (entries_in task.0 self.now.maps) }
         requires there { IsSome (entries_in target.0 self.now.maps) }
         requires range { is_range self.now.maps.size to bytes ≡ true }
-        ensures { result ≡ source_code self.now.chains ids.now (rows_in target.0 self.now.maps) address bytes to (entry_at address (rows_in task.0 self.now.maps)) }
+        ensures { result ≡ source_code self.now ids.now (task.0 == target.0) (rows_in target.0 self.now.maps) address bytes to (entry_at address (rows_in task.0 self.now.maps)) }
     {
         let Some(entry) = self.maps.entry(task, address) else {
             return Some(Code::InvalidAddress);
         };
+        if self.is_uncopied(entry.region, task == target) {
+            return Some(Code::InvalidArgument);
+        }
         if ends_behind(entry, address, bytes) {
             return Some(Code::InvalidAddress);
         }
@@ -263,10 +296,23 @@ impl Parts {
         if let Some(code) = self.maps.judge(target, &enter(to, bytes)) {
             return Some(code);
         }
-        if is_copy_full(&self.chains, ids, entry.region) {
+        if is_copy_full(self.declared, &self.chains, ids, entry.region) {
             return Some(Code::TableFull);
         }
         None
+    }
+
+    // Whether nothing is copied from entries on the region: to the same task, or to another.
+    fn is_uncopied(&self, region: RegionId, own: bool) -> bool
+        ensures { result ≡ is_uncopied self.now.declared self.now.memory.objects own region.0 }
+    {
+        if region.0 >= self.declared {
+            return false;
+        }
+        match self.memory.objects.find(ObjectId(region.0)) {
+            Some(known) => known.kind == ObjectKind::Wild || !own,
+            None => !own,
+        }
     }
 
     fn wire_refusal(&self, count: u32) -> Option<Code>

@@ -4,7 +4,6 @@ ghost use Rattle.vm_frames.specs.Frames.{claimed, free};
 ghost use Rattle.vm_legal.specs.Accesses.{FindsPage, Wants};
 ghost use Rattle.vm_legal.specs.Follows.{EndsNext};
 ghost use Rattle.vm_legal.specs.Prompt.{HostIsFull, PromptAt};
-ghost use Rattle.vm_legal.specs.Stretches.{EachOf};
 ghost use Rattle.vm_supply.specs.declared.woken.Woken.TheVariants as woken;
 ghost use Rattle.vm_waits.specs.Waits.{entry};
 ghost use Rattle.vm_kernel.specs.Begun.{Doing, LegalEvents};
@@ -12,7 +11,7 @@ ghost use Rattle.vm_kernel.specs.Matches.{Rests, Works};
 ghost use Rattle.vm_kernel.specs.Serving.{Attempts, HasQueue, IsHere, IsToCopy, QueueIsServed, RunsFirst, runs_now, wants_frame};
 ghost use Rattle.vm_kernel.specs.Plays.{Plays, paging};
 ghost use Rattle.vm_kernel.specs.Taking.{EachGone};
-ghost use Rattle.vm_kernel.specs.Turns.{KeepsOthers, LeavesInTurn, Restarted, RunsNone, RunsOnce};
+ghost use Rattle.vm_kernel.specs.Turns.{KeepsOthers, LeavesInTurn, Restarted, RunsNoneYet, RunsOnce};
 
 use crate::attempt::Attempt;
 use crate::parts::Parts;
@@ -83,7 +82,7 @@ impl Parts {
         ensures goes { OnOk result (LegalEvents given.header given.host given.outside given.command given.past log.old.items log.new.items) }
         ensures first { OnOk result (RunsFirst given.header self.old.waits.rows given.past log.old.items log.new.items) }
         ensures plays { OnOk result (Plays given.header given.past log.old.items (paging self.old) log.new.items (paging self.new)) }
-        ensures restarts { OnOk result (EachOf RunsNone log.old.items → Restarted given.header given.host self.new.waits.rows given.past self.old.waits.queue self.new.waits.queue log.new.items) }
+        ensures restarts { OnOk result (RunsNoneYet log.old.items → Restarted given.header given.host self.new.waits.rows given.past self.old.waits.queue self.new.waits.queue log.new.items) }
     {
         'again: while let Some(waiting) = self.waits.next_again() {
             let may_claim = !self.waits.has_queue();

@@ -2,7 +2,7 @@
 ghost use Rattle.std.specs.Prelude.{◌≡◌, ◌+◌, ◌<◌, [], drop, length, OnOk};
 ghost use Rattle.vm_base.specs.Entries.{by_address};
 ghost use Rattle.vm_kernel.specs.Begun.{Doing};
-ghost use Rattle.vm_kernel.specs.Sweeping.{EndsObject, EndsRegion, Releasing, Sweeps};
+ghost use Rattle.vm_kernel.specs.Sweeping.{EndsObject, EndsRegion, IsKnownToPager, Releasing, Sweeps};
 ghost use Rattle.vm_kernel.specs.Plays.{Plays, paging};
 ghost use Rattle.vm_kernel.specs.Turns.{QueueIsStill};
 
@@ -74,7 +74,8 @@ impl Parts {
     // Ends an object to which nothing refers any more.
     fn end_object(&mut self, ids: &Ids, object: ObjectId, log: &mut Events) -> Result<(), NoMemory>
         ghost given: { Releasing }
-        requires { EndsObject given.header given.host given.outside given.command given.past self.old ids.now given.rest object.0 log.old.items }
+        requires ends { EndsObject given.header given.host given.outside given.command given.past self.old ids.now given.rest object.0 log.old.items }
+        requires told { IsKnownToPager given.header self.old.memory.objects object.0 }
         ensures sweeps { OnOk result (Sweeps given.header given.host given.outside given.command given.past self.new ids.now given.rest log.new.items) }
         ensures plays { OnOk result (Plays given.header given.past log.old.items (paging self.old) log.new.items (paging self.new)) }
         ensures quiet { OnOk result (QueueIsStill self.old.waits.queue self.new.waits.queue log.old.items log.new.items) }

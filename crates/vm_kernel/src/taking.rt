@@ -5,12 +5,12 @@ ghost use Rattle.vm_model.specs.declared.message.Channel.TheVariants.{Down};
 ghost use Rattle.vm_supply.specs.declared.woken.Woken.TheVariants as who;
 ghost use Rattle.vm_kernel.specs.Begun.{Doing, IsLaundered, LegalEvents, Passing};
 ghost use Rattle.vm_kernel.specs.Matches.{Rests, Works, host_id};
-ghost use Rattle.vm_kernel.specs.Taking.{EndsEach, EndsNobody, FailsNow, HasAsker, HasEnded, HasFailed, IsAnswered, IsErrorPaid, IsTempAnswer};
+ghost use Rattle.vm_kernel.specs.Taking.{EndsEach, EndsNobody, FailsNow, HasAsker, HasEnded, HasFailed, IsAbsencePaid, IsAnswered, IsErrorPaid, IsTempAnswer};
 ghost use Rattle.vm_objects.specs.Objects.{object_at};
 ghost use Rattle.vm_resident.specs.Resident.{row_at};
 ghost use Rattle.vm_supply.specs.Answers.{outcome_of};
-ghost use Rattle.vm_kernel.specs.Plays.{AnswerBrings, Plays, PlaysAnswer, paging};
-ghost use Rattle.vm_kernel.specs.Turns.{QueueIsStill, Restarted};
+ghost use Rattle.vm_kernel.specs.Plays.{Plays, PlaysAnswer, paging};
+ghost use Rattle.vm_kernel.specs.Turns.{IsBrought, Restarted, RunsNobody};
 
 use crate::parts::Parts;
 use vm_base::{NoMemory, ObjectId, PageKey};
@@ -19,7 +19,7 @@ use vm_shadow::Ids;
 use vm_supply::{Woken, answer};
 
 impl Parts {
-    // Does to the pages and objects what an answer says.
+    // Does to the pages and objects what an answer says. The event of a page of zeros may come with it.
     fn hear(
         &mut self,
         ids: &Ids,
@@ -33,14 +33,16 @@ impl Parts {
         requires front { given.front ≡ event.Taken (Down (host_id given.host) object control) message.now ∷ [] }
         requires answer { IsTempAnswer self.old.size message.now }
         requires nothing { log.old.items ≡ [] }
-        ensures works { IfOk result (λ woken. Works given.header given.host self.new ids.now woken (given.front ++ given.past)) }
-        ensures fails { IfOk result (λ woken. FailsNow given.header given.host woken (given.front ++ given.past)) }
-        ensures fresh { IfOk result (λ woken. EndsNobody woken (given.front ++ given.past)) }
+        ensures works { IfOk result (λ woken. Works given.header given.host self.new ids.now woken (log.new.items ++ (given.front ++ given.past))) }
+        ensures fails { IfOk result (λ woken. FailsNow given.header given.host woken (log.new.items ++ (given.front ++ given.past))) }
+        ensures fresh { IfOk result (λ woken. EndsNobody woken (log.new.items ++ (given.front ++ given.past))) }
         ensures asker { IfOk result (λ woken. HasAsker woken self.new.waits.rows) }
         ensures answered { IfOk result (λ woken. IsAnswered woken self.new.memory.resident) }
         ensures waits { OnOk result (self.new.waits ≡ self.old.waits) }
-        ensures nothing { OnOk result (log.new.items ≡ []) }
-        ensures brings { OnOk result (AnswerBrings object (outcome_of (object_at self.old.memory.objects object.0) control (row_at self.old.memory.resident object.0) message.now) (paging self.old) (paging self.new)) }
+        ensures goes { OnOk result (LegalEvents given.header given.host given.outside given.command (given.front ++ given.past) [] log.new.items) }
+        ensures brought { OnOk result (IsBrought log.new.items) }
+        ensures zeroed { OnOk result (IsAbsencePaid given.header (log.new.items ++ (given.front ++ given.past))) }
+        ensures plays { OnOk result (PlaysAnswer given.header (given.front ++ given.past) object (outcome_of (object_at self.old.memory.objects object.0) control (row_at self.old.memory.resident object.0) message.now) (paging self.old) log.new.items (paging self.new)) }
     {
         let woken = answer(self.host, object, control, message, &mut self.memory, log)?;
         Ok(woken)
@@ -60,7 +62,7 @@ impl Parts {
         ensures failed { OnOk result (HasFailed woken (log.new.items ++ given.past)) }
         ensures plays { OnOk result (Plays given.header given.past log.old.items (paging self.old) log.new.items (paging self.new)) }
         ensures ended { OnOk result (HasEnded woken self.old.waits.rows (log.new.items ++ given.past)) }
-        ensures quiet { OnOk result (QueueIsStill self.old.waits.queue self.new.waits.queue log.old.items log.new.items) }
+        ensures quiet { OnOk result (RunsNobody self.old.waits.queue self.new.waits.queue log.old.items log.new.items) }
     {
         match woken {
             Woken::Nobody => Ok(()),
@@ -90,7 +92,7 @@ impl Parts {
         ensures failed { OnOk result (HasFailed (who.Fails key) (log.new.items ++ given.past)) }
         ensures plays { OnOk result (Plays given.header given.past log.old.items (paging self.old) log.new.items (paging self.new)) }
         ensures ended { OnOk result (HasEnded (who.Fails key) self.old.waits.rows (log.new.items ++ given.past)) }
-        ensures quiet { OnOk result (QueueIsStill self.old.waits.queue self.new.waits.queue log.old.items log.new.items) }
+        ensures quiet { OnOk result (RunsNobody self.old.waits.queue self.new.waits.queue log.old.items log.new.items) }
     {
         'all: while let Some(waiting) = self.waits.next_on(key) {
             log.push(Event::Failed {
@@ -120,6 +122,7 @@ impl Parts {
         ensures rests { OnOk result (Rests given.header given.host self.new ids.new (log.new.items ++ (given.front ++ given.past))) }
         ensures goes { OnOk result (LegalEvents given.header given.host given.outside given.command (given.front ++ given.past) [] log.new.items) }
         ensures failed { OnOk result (IsErrorPaid given.header (log.new.items ++ (given.front ++ given.past))) }
+        ensures zeroed { OnOk result (IsAbsencePaid given.header (log.new.items ++ (given.front ++ given.past))) }
         ensures plays { OnOk result (PlaysAnswer given.header (given.front ++ given.past) object (outcome_of (object_at self.old.memory.objects object.0) control (row_at self.old.memory.resident object.0) message.now) (paging self.old) log.new.items (paging self.new)) }
         ensures ended { OnOk result (EndsEach given.header self.old.waits.rows (log.new.items ++ (given.front ++ given.past))) }
         ensures restarts { OnOk result (Restarted given.header given.host self.new.waits.rows (given.front ++ given.past) self.old.waits.queue self.new.waits.queue log.new.items) }

@@ -10,11 +10,11 @@ use Rattle.vm_parts.specs.Fits.{object_pages}
 use Rattle.vm_shadow.specs.Chains.{ChainTable, region_at, shadow_at}
 use Rattle.vm_shadow.specs.declared.ids.Ids.{Ids}
 use Rattle.vm_shadow.specs.declared.region_row.RegionRow.{RegionRow}
-use Rattle.vm_state.proofs.Knowing.{counts_still, fits_still, known_apart, known_still, referred_before, temporary_still, unknown_still}
+use Rattle.vm_state.proofs.Knowing.{counts_still, fits_still, known_apart, known_still, referred_before, unknown_still}
 use Rattle.vm_state.proofs.Counting.{references_same}
 use Rattle.vm_state.specs.Places.{with_entries}
 use Rattle.vm_state.specs.References.{is_backing, is_over, references_to}
-use Rattle.vm_state.specs.Stands.{HasRegions, IsTemporary}
+use Rattle.vm_state.specs.Stands.{HasRegions}
 use Rattle.vm_terminate.specs.Finishes.{IsReferred}
 
 -- regions count other entries, and are as they were else; and so is what stands under objects
@@ -58,7 +58,6 @@ regions_recounted old new os ids region_from backing_from rm om marked same has 
         tops = λ r row found. let b = before r row found in subst (λ (z : RegionRow). z.shift + z.pages ≤ object_pages os z.top.0) (sym b.is) (has.fits.tops r b.was b.found);
         unders = λ o row found. has.fits.unders o row (sym (same.shadows o) ∙ found);
       };
-      temporary = has.temporary;
       counts = λ o known found. has.counts o known found ∙ sym (references_same old new rm om o (λ r. ap (is_over o) (same.at r) ∙ over_recounted o (same.count r) (region_at old r)) (λ s. ap (is_backing o) (same.shadows s)));
     }
   where
@@ -67,9 +66,9 @@ regions_recounted old new os ids region_from backing_from rm om marked same has 
 
 -- one object is known otherwise, but for its pages and how often it is referred to
 pub regions_controlled : (o : ℕ) (row row2 : ObjectRow) (cs : ChainTable) (os os2 : ObjectTable) (ids : Ids) (region_from : ℕ → Region) (backing_from : ℕ → Backing) (rm om marked : ℕ)
-    → object_at os o ≡ Some row → PutsObject o (Some row2) os os2 → row2.references ≡ row.references → row2.pages ≡ row.pages → IsTemporary row2
+    → object_at os o ≡ Some row → PutsObject o (Some row2) os os2 → row2.references ≡ row.references → row2.pages ≡ row.pages
     → HasRegions cs os ids region_from backing_from rm om marked → HasRegions cs os2 ids region_from backing_from rm om marked
-regions_controlled o row row2 cs os os2 ids region_from backing_from rm om marked found put references pages temporary has =
+regions_controlled o row row2 cs os os2 ids region_from backing_from rm om marked found put references pages has =
     record {
       region = has.region;
       object = has.object;
@@ -84,7 +83,6 @@ regions_controlled o row row2 cs os os2 ids region_from backing_from rm om marke
       tops = λ r region there. known_still o row2 os os2 put region.top.0 (has.tops r region there);
       unders = λ x shadow there. let both = has.unders x shadow there in (known_still o row2 os os2 put x both.0, known_still o row2 os os2 put shadow.under.0 both.1);
       fits = fits_still cs os os2 (same_pages os os2 o row row2 found pages put) has.fits;
-      temporary = temporary_still o row2 os os2 put temporary has.temporary;
       counts = counts_still o row2 os os2 (references_to cs rm om) (references_to cs rm om) put (references ∙ has.counts o row found) (λ x apart. refl) has.counts;
     }
   where

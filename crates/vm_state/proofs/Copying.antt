@@ -20,7 +20,7 @@ use Rattle.vm_shadow.specs.declared.ids.Ids.{Ids}
 use Rattle.vm_shadow.specs.declared.region_row.RegionRow.{RegionRow}
 use Rattle.vm_state.proofs.Fresh.{other_test, same_test, seen}
 use Rattle.vm_state.proofs.Going.{below_all, one_other, one_own}
-use Rattle.vm_state.proofs.Knowing.{counts_still, fits_still, known_apart, known_still, referred_before, temporary_referred, temporary_still, unknown_still}
+use Rattle.vm_state.proofs.Knowing.{counts_still, fits_still, known_apart, known_still, referred_before, unknown_still}
 use Rattle.vm_state.proofs.Counting.{elsewhere, references_copied, references_some}
 use Rattle.vm_state.specs.References.{references_to}
 use Rattle.vm_state.specs.Stands.{HasRegions}
@@ -88,7 +88,6 @@ regions_copied header past copy source offset pages row known cs cs2 os os2 ids 
             subst (λ (z : ObjectId). region.shift + region.pages ≤ object_pages os z.0) (sym b.top) (omega (arith, le, inside));
         unders = λ q shadow is. has.fits.unders q shadow (still q ∙ is);
       });
-      temporary = temporary_still top new os os2 putting (temporary_referred known (known.references + 1) some (has.temporary top known found)) has.temporary;
       counts = counts_still top new os os2 (references_to cs rm om) (references_to cs2 (rm + 1) om) putting its others has.counts;
     }
   where

@@ -1,12 +1,10 @@
 -- An object of which nothing was known is known now, or a number is the next: what that leaves of what regions and shadows stand on.
-use Rattle.std.proofs.Common.{◌≡◌, ℕ, ◌==◌, true, false, refl, ap, sym, ◌∙◌, subst, Some, None, Option, inl, inr}
+use Rattle.std.proofs.Common.{◌≡◌, ℕ, ◌==◌, true, false, refl, ap, sym, ◌∙◌, Some, None, Option, inl, inr}
 use Rattle.std.proofs.lemmas.Bool.Decides.{eqb_tells}
 use Rattle.std.specs.Prelude.{is_some, IsSome}
-use Rattle.vm_base.specs.declared.ids.ObjectKind.TheVariants.{Temp}
 use Rattle.vm_model.specs.Regions.{Backing, Region}
 use Rattle.vm_objects.specs.Objects.{ObjectTable, PutsObject, object_at}
 use Rattle.vm_objects.specs.declared.row.ObjectRow.{ObjectRow}
-use Rattle.vm_objects.specs.declared.row.PagerState.TheVariants.{Without}
 use Rattle.vm_parts.specs.Fits.{object_pages, pages_of_row}
 use Rattle.vm_shadow.specs.Chains.{ChainTable, region_at, shadow_at}
 use Rattle.vm_shadow.specs.declared.ids.Ids.{Ids}
@@ -15,7 +13,7 @@ use Rattle.vm_shadow.specs.declared.shadow_row.ShadowRow.{ShadowRow}
 use Rattle.vm_state.proofs.Knowing.{known_cases, known_put}
 use Rattle.vm_state.proofs.Counting.{references_none}
 use Rattle.vm_state.specs.References.{is_backing, is_over, references_to}
-use Rattle.vm_state.specs.Stands.{HasRegions, IsTemporary}
+use Rattle.vm_state.specs.Stands.{HasRegions}
 
 -- what a row says of its region
 abbrev pub seen : RegionRow → Region
@@ -26,9 +24,6 @@ same_test a b is = elim (eqb_tells a b) [ inl same ↦ same.0 | inr apart ↦ ab
 
 pub other_test : (a b : ℕ) → (a ≡ b → ⊥) → (a == b) ≡ false
 other_test a b apart = elim (eqb_tells a b) [ inl same ↦ absurd (apart same.1) | inr other ↦ other.0 ]
-
-pub temporary_new : (row : ObjectRow) (pages : ℕ) → row ≡ record { kind = Temp; pages = pages; state = Without; control = 0; live = false; references = 1 } → IsTemporary row
-temporary_new row pages is = subst IsTemporary (sym is) (record { kind = refl; live = refl; number = λ some. refl })
 
 -- an object that is known isn't one that is not
 pub some_apart : (os : ObjectTable) (x y : ℕ) → IsSome (object_at os x) → object_at os y ≡ None → x ≡ y → ⊥

@@ -12,7 +12,7 @@ use Rattle.vm_shadow.specs.Chains.{ChainTable, DropsShadow, PutsRegion, region_a
 use Rattle.vm_shadow.specs.declared.ids.Ids.{Ids}
 use Rattle.vm_shadow.specs.declared.region_row.RegionRow.{RegionRow}
 use Rattle.vm_shadow.specs.declared.shadow_row.ShadowRow.{ShadowRow}
-use Rattle.vm_state.proofs.Knowing.{counts_still, fits_still, known_apart, known_still, referred_before, temporary_referred, temporary_still, unknown_still}
+use Rattle.vm_state.proofs.Knowing.{counts_still, fits_still, known_apart, known_still, referred_before, unknown_still}
 use Rattle.vm_state.proofs.Counting.{references_dropped, references_gone}
 use Rattle.vm_state.specs.References.{references_to}
 use Rattle.vm_state.specs.Stands.{HasRegions}
@@ -70,7 +70,6 @@ regions_gone r left row known cs cs2 os os2 ids region_from backing_from rm om m
         tops = λ q region is. has.fits.tops q region (region_before r cs cs2 put q region is);
         unders = λ o shadow is. has.fits.unders o shadow (still o ∙ is);
       });
-      temporary = temporary_still top new os os2 putting (temporary_referred known left some (has.temporary top known found)) has.temporary;
       counts = counts_still top new os os2 (references_to cs rm om) (references_to cs2 rm om) putting its others has.counts;
     }
   where
@@ -124,7 +123,6 @@ regions_dropped o left row known0 known cs cs2 os os2 ids region_from backing_fr
         tops = λ q region is. has.fits.tops q region (still q ∙ is);
         unders = λ x shadow is. has.fits.unders x shadow (shadow_before o cs cs2 drop x shadow is);
       });
-      temporary = temporary_still under new os os2 putting (temporary_referred known left some (has.temporary under known found)) has.temporary;
       counts = counts_still under new os os2 (references_to cs rm om) (references_to cs2 rm om) putting its others has.counts;
     }
   where

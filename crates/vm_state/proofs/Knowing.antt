@@ -7,7 +7,6 @@ use Rattle.vm_objects.specs.declared.row.ObjectRow.{ObjectRow}
 use Rattle.vm_parts.proofs.Rows.{if_true, one_case, some_is}
 use Rattle.vm_parts.specs.Fits.{object_pages}
 use Rattle.vm_shadow.specs.Chains.{ChainTable}
-use Rattle.vm_state.specs.Stands.{IsTemporary}
 use Rattle.vm_terminate.specs.Finishes.{IsReferred}
 
 -- the object is the one that is known otherwise, or another
@@ -57,18 +56,6 @@ referred_still o new os os2 put x more is = elim (known_cases o new os os2 put x
   | inl this ↦ record { row = new; known = this.1; some = more this.0 }
   | inr other ↦ record { row = is.row; known = other.1 ∙ is.known; some = is.some }
 ]
-
--- all memory is temporary still
-pub temporary_still : (o : ℕ) (new : ObjectRow) (os os2 : ObjectTable) → PutsObject o (Some new) os os2 → IsTemporary new → ((x : ℕ) (known : ObjectRow) → object_at os x ≡ Some known → IsTemporary known)
-    → (x : ℕ) (known : ObjectRow) → object_at os2 x ≡ Some known → IsTemporary known
-temporary_still o new os os2 put its all x known found = elim (known_cases o new os os2 put x) [
-  | inl this ↦ subst IsTemporary (some_is new known (sym this.1 ∙ found)) its
-  | inr other ↦ all x known (sym other.1 ∙ found)
-]
-
--- another number of references leaves it temporary
-pub temporary_referred : (known : ObjectRow) (n : ℕ) → 0 < known.references → IsTemporary known → IsTemporary (record known { references = n })
-temporary_referred known n some is = record { kind = is.kind; live = is.live; number = λ more. is.number some }
 
 -- all count their references still
 pub counts_still : (o : ℕ) (new : ObjectRow) (os os2 : ObjectTable) (before after : ℕ → ℕ) → PutsObject o (Some new) os os2 → new.references ≡ after o → ((x : ℕ) → (o ≡ x → ⊥) → after x ≡ before x)

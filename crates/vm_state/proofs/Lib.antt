@@ -3,6 +3,7 @@ pub mod Chains
 pub mod Changing
 pub mod Copying
 pub mod Counting
+pub mod Declared
 pub mod Fresh
 pub mod Going
 pub mod Knowing

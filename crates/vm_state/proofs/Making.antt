@@ -18,9 +18,9 @@ use Rattle.vm_parts.specs.Fits.{object_pages}
 use Rattle.vm_shadow.specs.Chains.{ChainTable, PutsRegion, region_at, shadow_at}
 use Rattle.vm_shadow.specs.declared.ids.Ids.{Ids}
 use Rattle.vm_shadow.specs.declared.region_row.RegionRow.{RegionRow}
-use Rattle.vm_state.proofs.Fresh.{other_test, pages_known, pages_put, same_test, seen, temporary_new, unreferenced, unshadowed}
+use Rattle.vm_state.proofs.Fresh.{other_test, pages_known, pages_put, same_test, seen, unreferenced, unshadowed}
 use Rattle.vm_state.proofs.Going.{one_other, one_own}
-use Rattle.vm_state.proofs.Knowing.{counts_still, known_cases, known_put, known_still, referred_other, temporary_still, unknown_still}
+use Rattle.vm_state.proofs.Knowing.{counts_still, known_cases, known_put, known_still, referred_other, unknown_still}
 use Rattle.vm_state.proofs.Counting.{references_made}
 use Rattle.vm_state.specs.References.{references_to}
 use Rattle.vm_state.specs.Stands.{HasRegions}
@@ -83,7 +83,6 @@ regions_made header past r o row known pages cs cs2 os os2 ids rm om marked next
             let b = pages_known o.0 known os os2 putting none shadow.under.0 both.1 in
             omega (arith, le, a, b);
       };
-      temporary = temporary_still o.0 known os os2 putting (temporary_new known pages is_known) has.temporary;
       counts = counts_still o.0 known os os2 (references_to cs rm om) (references_to cs2 (rm + 1) (om + 1)) putting its_own others has.counts;
     }
   where

@@ -19,9 +19,9 @@ use Rattle.vm_shadow.specs.Chains.{ChainTable, ShadowsRegion, region_at, shadow_
 use Rattle.vm_shadow.specs.declared.ids.Ids.{Ids}
 use Rattle.vm_shadow.specs.declared.region_row.RegionRow.{RegionRow}
 use Rattle.vm_state.proofs.Referring.{objects_below}
-use Rattle.vm_state.proofs.Fresh.{other_test, same_test, seen, temporary_new, unreferenced}
+use Rattle.vm_state.proofs.Fresh.{other_test, same_test, seen, unreferenced}
 use Rattle.vm_state.proofs.Going.{below_all, one_other, one_own}
-use Rattle.vm_state.proofs.Knowing.{counts_still, known_put, known_still, referred_other, temporary_still, unknown_still}
+use Rattle.vm_state.proofs.Knowing.{counts_still, known_put, known_still, referred_other, unknown_still}
 use Rattle.vm_state.proofs.Counting.{references_shadowed}
 use Rattle.vm_state.specs.References.{references_to}
 use Rattle.vm_state.specs.Stands.{HasRegions}
@@ -93,7 +93,6 @@ regions_shadowed header past region object row new cs cs2 os os2 ids ids2 rm om 
         | inr apart ↦ has.older q shadow (sym apart.1 ∙ is)
       ];
       fits = fits;
-      temporary = temporary_still object.0 new os os2 putting (temporary_new new row.pages is_new) has.temporary;
       counts = counts_still object.0 new os os2 (references_to cs rm om) (references_to cs2 rm (om + 1)) putting its_own others has.counts;
     }
   where

@@ -1,7 +1,6 @@
 -- What a page shows to a walk, by the rows of its host: it is here, asked or missing, and then its pager may have it or not.
-use Rattle.std.proofs.Common.{Bool, List, None, Option, Some, [], ap, arith, false, inl, inr, refl, sym, true, ℕ, ◌&&◌, ◌∙◌, ◌≡◌}
-use Rattle.std.proofs.lemmas.Bool.Decides.{nat_tests}
-use Rattle.std.specs.Prelude.{if◌then◌else◌, is_some, nat_lt, not, ◌⊎◌}
+use Rattle.std.proofs.Common.{Bool, List, None, Option, Some, [], ap, false, inl, inr, refl, sym, true, ℕ, ◌&&◌, ◌∙◌, ◌<◌, ◌≡◌}
+use Rattle.std.specs.Prelude.{if◌then◌else◌, is_some, not, ◌⊎◌}
 use Rattle.vm_fault.specs.Walks.{MayCome, PassesOver}
 use Rattle.vm_frames.specs.Frames.{page_in}
 use Rattle.vm_legal.specs.Accesses.{is_ready}
@@ -25,18 +24,18 @@ use Rattle.vm_shadow.specs.declared.region_row.RegionRow.{RegionRow}
 use Rattle.vm_shadow.specs.declared.shadow_row.ShadowRow.{ShadowRow}
 use Rattle.vm_base.specs.declared.ids.PageKey.{PageKey}
 use Rattle.vm_state.specs.Pagers.{has_pager, is_ready_state, live_in, ready_in}
-use Rattle.vm_state.specs.Places.{local_of_row, lock_number, place_of}
-use Rattle.vm_state.specs.Stands.{HasPages, IsTemporary}
+use Rattle.vm_state.specs.Places.{known_local, local_of_row, lock_number, place_of}
+use Rattle.vm_state.specs.Stands.{HasPages}
 use Rattle.vm_state.specs.Waiters.{IsAsked}
 use Rattle.vm_terminate.specs.Finishes.{IsReferred}
 
--- what a host has of pages, controls and chains, as a history says it; no object is declared
+-- what a host has of pages, controls and chains, as a history says it; no page of a declared object is known to be missing
 pub record IsShown (header : Header) (h : ℕ) (parts : HostParts) (chains : ChainTable) (past : List Event) : Type 0 where
-  pub declared : named header ≡ 0
-  pub pages : HasPages parts.frames parts.resident parts.objects (λ o p. local header.size h (place_of o p) past)
+  pub present : (o p : ℕ) → o < named header → absent_at parts.objects o p ≡ false
+  pub pages : HasPages parts.frames parts.resident parts.objects (λ o p. known_local header o p (local header.size h (place_of o p) past))
   pub live : (o : ℕ) → live_control h o past ≡ live_in (object_at parts.objects o)
   pub ready : (o control : ℕ) → live_control h o past ≡ Some control → is_ready h o past ≡ ready_in (object_at parts.objects o)
-  pub temporary : (o : ℕ) (known : ObjectRow) → object_at parts.objects o ≡ Some known → IsTemporary known
+  pub lives : (o : ℕ) (known : ObjectRow) → object_at parts.objects o ≡ Some known → known.live ≡ has_pager known.state
   pub rows : (r : ℕ) (row : RegionRow) → region_at chains r ≡ Some row → region_of header r past ≡ record { mark = row.marked; top = row.top.0; shift = row.shift; pages = row.pages }
   pub shadows : (o : ℕ) (row : ShadowRow) → shadow_at chains o ≡ Some row → backing_of header o past ≡ record { backed = true; under = row.under.0; shift = row.shift }
   pub bottoms : (o : ℕ) → IsReferred parts.objects o → shadow_at chains o ≡ None → (backing_of header o past).backed ≡ false
@@ -45,7 +44,7 @@ pub record IsShown (header : Header) (h : ℕ) (parts : HostParts) (chains : Cha
 
 -- what the row of a page says of it is what the host has of it
 seen_as : {header : Header} {h : ℕ} {parts : HostParts} {chains : ChainTable} {past : List Event} → IsShown header h parts chains past → (o p : ℕ) (x : Option PageRow) → row_at parts.resident o p ≡ x
-    → page_on header h o p past ≡ local_of_row parts.frames x (absent_at parts.objects o p)
+    → known_local header o p (page_on header h o p past) ≡ local_of_row parts.frames x (absent_at parts.objects o p)
 seen_as {parts = parts} s o p x found = s.pages.shown o p ∙ ap (λ z. local_of_row parts.frames z (absent_at parts.objects o p)) found
 
 -- the page is here, with what its row and its frame say
@@ -61,7 +60,7 @@ pub record ShowsRow (header : Header) (h : ℕ) (parts : HostParts) (past : List
 pub shows_row : {header : Header} {h : ℕ} {parts : HostParts} {chains : ChainTable} {past : List Event} → IsShown header h parts chains past → (o p : ℕ) (row : PageRow) → row_at parts.resident o p ≡ Some row → row.here ≡ true
     → ShowsRow header h parts past o p row
 shows_row {header = header} {h = h} {parts = parts} {past = past} s o p row found here =
-    let is : page_on header h o p past ≡ local_of_row parts.frames (Some row) (absent_at parts.objects o p) = seen_as s o p (Some row) found in
+    let is : known_local header o p (page_on header h o p past) ≡ local_of_row parts.frames (Some row) (absent_at parts.objects o p) = seen_as s o p (Some row) found in
     record {
       here = ap (λ (z : Local). z.here) is ∙ here;
       bytes = ap (λ (z : Local). z.bytes) is ∙ ap (λ b. if b then page_in parts.frames row.frame.0 else []) here;
@@ -79,7 +78,7 @@ pub record AsksRow (header : Header) (h : ℕ) (past : List Event) (o p : ℕ) :
 
 pub asks_row : {header : Header} {h : ℕ} {parts : HostParts} {chains : ChainTable} {past : List Event} → IsShown header h parts chains past → (o p : ℕ) (row : PageRow) → row_at parts.resident o p ≡ Some row → row.here ≡ false → AsksRow header h past o p
 asks_row {header = header} {h = h} {parts = parts} {past = past} s o p row found away =
-    let is : page_on header h o p past ≡ local_of_row parts.frames (Some row) (absent_at parts.objects o p) = seen_as s o p (Some row) found in
+    let is : known_local header o p (page_on header h o p past) ≡ local_of_row parts.frames (Some row) (absent_at parts.objects o p) = seen_as s o p (Some row) found in
     record { asked = ap (λ (z : Local). z.asked) is ∙ ap not away; away = ap (λ (z : Local). z.here) is ∙ away }
 
 -- the page is neither here nor asked; and what is known of its pager
@@ -88,30 +87,23 @@ pub record Misses (header : Header) (h : ℕ) (past : List Event) (o p : ℕ) (l
   pub unasked : (page_on header h o p past).asked ≡ false
   pub known : is_known_absent header (place_of o p) (page_on header h o p past) ≡ lacked
 
--- no object is declared, so what is known of a page counts
-pub known_is : (header : Header) (o p : ℕ) (seen : Local) → named header ≡ 0 → is_known_absent header (place_of o p) seen ≡ seen.absent
-known_is header o p seen none = ap (λ z. not (nat_lt o z) && seen.absent) none ∙ ap (λ b. not b && seen.absent) (low o)
-  where
-    low : (n : ℕ) → nat_lt n 0 ≡ false
-    low n = grind (arith, nat_tests)
-
 pub misses : {header : Header} {h : ℕ} {parts : HostParts} {chains : ChainTable} {past : List Event} → IsShown header h parts chains past → (o p : ℕ) → row_at parts.resident o p ≡ None → Misses header h past o p (absent_at parts.objects o p)
 misses {header = header} {h = h} {parts = parts} {past = past} s o p found =
-    let is : page_on header h o p past ≡ local_of_row parts.frames None (absent_at parts.objects o p) = seen_as s o p None found in
+    let is : known_local header o p (page_on header h o p past) ≡ local_of_row parts.frames None (absent_at parts.objects o p) = seen_as s o p None found in
     record {
       away = ap (λ (z : Local). z.here) is;
       unasked = ap (λ (z : Local). z.asked) is;
-      known = known_is header o p (page_on header h o p past) s.declared ∙ ap (λ (z : Local). z.absent) is;
+      known = ap (λ (z : Local). z.absent) is;
     }
 
 -- the control of an object whose pager was told lives, and no other does
 pub told_live : {header : Header} {h : ℕ} {parts : HostParts} {chains : ChainTable} {past : List Event} → IsShown header h parts chains past → (o : ℕ) (row : ObjectRow) → object_at parts.objects o ≡ Some row → has_pager row.state ≡ true
     → live_control h o past ≡ Some row.control
-told_live s o row known told = s.live o ∙ (ap live_in known ∙ ap (λ b. if b then Some row.control else None) ((s.temporary o row known).live ∙ told))
+told_live s o row known told = s.live o ∙ (ap live_in known ∙ ap (λ b. if b then Some row.control else None) (s.lives o row known ∙ told))
 
 pub untold_dead : {header : Header} {h : ℕ} {parts : HostParts} {chains : ChainTable} {past : List Event} → IsShown header h parts chains past → (o : ℕ) (row : ObjectRow) → object_at parts.objects o ≡ Some row → row.state ≡ state.Without
     → live_control h o past ≡ None
-untold_dead s o row known without = s.live o ∙ (ap live_in known ∙ ap (λ b. if b then Some row.control else None) ((s.temporary o row known).live ∙ ap has_pager without))
+untold_dead s o row known without = s.live o ∙ (ap live_in known ∙ ap (λ b. if b then Some row.control else None) (s.lives o row known ∙ ap has_pager without))
 
 -- whether a pager that was told is ready, by its row
 pub told_ready : {header : Header} {h : ℕ} {parts : HostParts} {chains : ChainTable} {past : List Event} → IsShown header h parts chains past → (o : ℕ) (row : ObjectRow) → object_at parts.objects o ≡ Some row → has_pager row.state ≡ true

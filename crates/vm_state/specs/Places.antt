@@ -1,7 +1,8 @@
 -- What a host has of the pages of objects, by the rows and frames that its kernel keeps.
 use Rattle.std.specs.Prelude.{ℕ, ◌+◌, Bool, false, [], Option, Some, None, if◌then◌else◌, is_some, not}
 use Rattle.vm_base.specs.declared.ids.Lock.{Lock}
-use Rattle.vm_model.specs.Local.{Local, Place, away}
+use Rattle.vm_model.specs.Local.{Local, Place, away, is_known_absent}
+use Rattle.vm_model.specs.declared.script.Header.{Header}
 use Rattle.vm_frames.specs.Frames.{FrameTable, page_in}
 use Rattle.vm_resident.specs.declared.page_row.PageRow.{PageRow}
 use Rattle.vm_shadow.specs.Chains.{ChainTable, region_at}
@@ -9,6 +10,10 @@ use Rattle.vm_shadow.specs.declared.region_row.RegionRow.{RegionRow}
 
 abbrev pub place_of : ℕ → ℕ → Place
 place_of object page = record { object = object; page = page }
+
+-- what a host has of a page, where the word of a pager that it has none counts for temporary objects alone
+abbrev pub known_local : Header → ℕ → ℕ → Local → Local
+known_local header o p was = record was { absent = is_known_absent header (place_of o p) was }
 
 abbrev pub lock_number : Lock → ℕ
 lock_number lock = (if lock.read then 1 else 0) + (if lock.write then 2 else 0)

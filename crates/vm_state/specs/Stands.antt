@@ -2,13 +2,18 @@
 use Rattle.std.specs.Prelude.{ℕ, All, if◌then◌else◌, ◌≢◌, ◌≡◌, ◌+◌, ◌<◌, ◌≤◌, ◌^◌, ◌==◌, ◌||◌, nat_lt, is_some, ◌⊎◌, Bool, true, false, List, [], ◌∷◌, length, Option, Some, None, IsSome}
 use Rattle.vm_base.specs.declared.entry.Entry.{Entry}
 use Rattle.vm_base.specs.declared.ids.FrameNo.{FrameNo}
+use Rattle.vm_base.specs.declared.ids.Inherit.TheVariants.{Copy}
 use Rattle.vm_base.specs.declared.ids.ObjectKind.TheVariants.{Temp}
 use Rattle.vm_base.specs.Entries.{most_entries}
 use Rattle.vm_base.specs.Limits.{most_objects}
 use Rattle.vm_fault.specs.Walks.{ChainsFit}
 use Rattle.vm_frames.specs.Frames.{FrameTable, claimed, frame_count, is_claimed}
 use Rattle.vm_maps.specs.Maps.{Mapped, entries_in, rows_in}
+use Rattle.vm_legal.specs.Licences.{is_paged}
+use Rattle.vm_legal.specs.Outside.{is_file, kind_of}
+use Rattle.vm_model.specs.declared.script.Header.{Header}
 use Rattle.vm_model.specs.Local.{Local, is_on}
+use Rattle.vm_model.specs.Named.{declared_pages, named}
 use Rattle.vm_model.specs.Regions.{Backing, Region}
 use Rattle.vm_model.specs.Rows.{AllRows, Inside}
 use Rattle.vm_objects.specs.Objects.{ObjectTable, absent_at, object_at}
@@ -37,8 +42,34 @@ pub record HasTasks (h size : ℕ) (maps : Mapped) (host_at : ℕ → Option ℕ
 -- an object of temporary memory; its first control is made when it first gets a pager
 pub record IsTemporary (known : ObjectRow) : Type 0 where
   pub kind : known.kind ≡ Temp
-  pub live : known.live ≡ has_pager known.state
   pub number : 0 < known.references → known.control ≡ (if has_pager known.state then 1 else 0)
+
+-- a declared object, as it was declared; while something refers to it, its pager knows it
+pub record IsDeclared (header : Header) (o : ℕ) (known : ObjectRow) : Type 0 where
+  pub kind : known.kind ≡ kind_of header o
+  pub pages : known.pages ≡ declared_pages header o
+  pub told : 0 < known.references → known.live ≡ true
+
+-- an object is of the kind that its number says, and a control of it lives while it has a pager
+pub record IsOfKind (header : Header) (o : ℕ) (known : ObjectRow) : Type 0 where
+  pub lives : known.live ≡ has_pager known.state
+  pub temporary : named header ≤ o → IsTemporary known
+  pub declared : o < named header → IsDeclared header o known
+
+-- The objects are of their kinds; a page of a declared object is never known to be missing; and what is not declared is over nothing that is, and under no shadow
+-- is anything declared.
+pub record HasKinds (header : Header) (objects : ObjectTable) (chains : ChainTable) : Type 0 where
+  pub kinds : (o : ℕ) (known : ObjectRow) → object_at objects o ≡ Some known → IsOfKind header o known
+  pub present : (o p : ℕ) → o < named header → absent_at objects o p ≡ false
+  pub tops : (r : ℕ) (row : RegionRow) → named header ≤ r → region_at chains r ≡ Some row → named header ≤ row.top.0
+  pub unders : (o : ℕ) (row : ShadowRow) → shadow_at chains o ≡ Some row → named header ≤ row.under.0
+
+-- an entry on a declared region is not to be copied by a fork
+abbrev pub IsShared : ℕ → Entry → Type 0
+IsShared declared row = row.region.0 < declared → row.inherit ≢ Copy
+
+abbrev pub AreShared : ℕ → Mapped → Type 0
+AreShared declared maps = (task : ℕ) → AllRows (IsShared declared) (rows_in task maps)
 
 -- The regions, the objects and what stands under them, and the next numbers. What a region or a shadow is over is known, and a shadow has the greater number of
 -- the two. Of an object to which something refers and that is no shadow the history says so too. An object has as many references as regions and shadows are over it.
@@ -56,12 +87,11 @@ pub record HasRegions (chains : ChainTable) (objects : ObjectTable) (ids : Ids) 
   pub unders : (o : ℕ) (row : ShadowRow) → shadow_at chains o ≡ Some row → IsSome (object_at objects o) × IsSome (object_at objects row.under.0)
   pub older : IsOlderUnder chains
   pub fits : ChainsFit chains objects
-  pub temporary : (o : ℕ) (known : ObjectRow) → object_at objects o ≡ Some known → IsTemporary known
   pub counts : (o : ℕ) (known : ObjectRow) → object_at objects o ≡ Some known → known.references ≡ references_to chains regions_made objects_made o
 
--- the regions of a host are those of its tasks
-abbrev pub HasHomes : ℕ → ChainTable → (ℕ → Option ℕ) → Type 0
-HasHomes h chains home_from = (r : ℕ) (row : RegionRow) → region_at chains r ≡ Some row → home_from r ≡ Some h
+-- the regions of a host, but for those that several hosts may share, are those of its tasks
+abbrev pub HasHomes : Header → ℕ → ChainTable → (ℕ → Option ℕ) → Type 0
+HasHomes header h chains home_from = (r : ℕ) (row : RegionRow) → is_paged header r ≡ true → region_at chains r ≡ Some row → home_from r ≡ Some h
 
 -- an entry lies within its region
 pub record IsInside (size : ℕ) (chains : ChainTable) (row : Entry) : Type 0 where
@@ -90,22 +120,23 @@ abbrev pub is_among : ℕ → List ℕ → Bool
 is_among n [] = false
 is_among n (m ∷ more) = m == n || is_among n more
 
--- The regions in use are those on which some task here has an entry; all tasks that live here were made. Tasks elsewhere hold none of these regions,
--- and none that isn't made yet.
-pub record HasUse (maps : Mapped) (used_at : ℕ → Bool) (made : List ℕ) (held_at : ℕ → ℕ → Bool) (regions_made : ℕ) : Type 0 where
-  pub used : (r : ℕ) → used_at r ≡ nat_lt 0 (count_by all_tasks r maps)
+-- The temporary regions in use are those on which some task here has an entry, and a file's region is one of them if some has; all tasks that live here were
+-- made. Tasks elsewhere hold none of the regions in use, and none that isn't made yet.
+pub record HasUse (header : Header) (maps : Mapped) (used_at : ℕ → Bool) (made : List ℕ) (held_at : ℕ → ℕ → Bool) (regions_made : ℕ) : Type 0 where
+  pub used : (r : ℕ) → named header ≤ r → used_at r ≡ nat_lt 0 (count_by all_tasks r maps)
+  pub files : (r : ℕ) → is_file header r ≡ true → 0 < count_by all_tasks r maps → used_at r ≡ true
   pub among : (task : ℕ) (rows : List Entry) → entries_in task maps ≡ Some rows → is_among task made ≡ true
   pub apart : (task r : ℕ) → entries_in task maps ≡ None → (used_at r ≡ true) ⊎ (regions_made ≤ r) → held_at task r ≡ false
 
--- the controls of objects: the last one, the one that lives, and whether that is ready; the objects were made for regions of this host
-pub record HasControls (h : ℕ) (objects : ObjectTable) (last_at : ℕ → ℕ) (live_at : ℕ → Option ℕ) (ready_at : ℕ → Bool) (home_at : ℕ → Option ℕ) : Type 0 where
+-- the controls of objects: the last one, the one that lives, and whether that is ready; temporary objects were made for regions of this host
+pub record HasControls (declared h : ℕ) (objects : ObjectTable) (last_at : ℕ → ℕ) (live_at : ℕ → Option ℕ) (ready_at : ℕ → Bool) (home_at : ℕ → Option ℕ) : Type 0 where
   pub last : (o : ℕ) → last_at o ≡ last_in (object_at objects o)
   pub live : (o : ℕ) → live_at o ≡ live_in (object_at objects o)
   pub ready : (o control : ℕ) → live_at o ≡ Some control → ready_at o ≡ ready_in (object_at objects o)
   pub all_live : AllLive objects
   pub numbers : HasNumbers objects
   pub ended : (o : ℕ) (row : ObjectRow) → object_at objects o ≡ Some row → row.live ≡ true → row.state ≢ Without
-  pub home : (o : ℕ) (row : ObjectRow) → object_at objects o ≡ Some row → home_at o ≡ Some h
+  pub home : (o : ℕ) (row : ObjectRow) → declared ≤ o → object_at objects o ≡ Some row → home_at o ≡ Some h
 
 -- a frame that a return holds is claimed, and is no page's
 pub record IsWashed (frames : FrameTable) (resident : ResidentTable) (f : FrameNo) : Type 0 where

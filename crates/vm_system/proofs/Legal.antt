@@ -1,4 +1,9 @@
 -- The history stays legal with the step of each command.
+use Rattle.std.proofs.Common.{zero, suc, length, refl, ap, ℕ, Some, None, Option}
+use Rattle.vm_base.specs.declared.ids.ObjectId.{ObjectId}
+use Rattle.vm_base.specs.declared.ids.TaskId.{TaskId}
+use Rattle.vm_legal.specs.Follows.{clean_head, map_head}
+use Rattle.vm_legal.specs.Pagers.{known_below, known_control, or_known}
 use Rattle.vm_system.proofs.Common.{AllInner, Began, Bool, Code, Command, EachEvent, EachIn, Entry, Event, FlatBytes, FollowsSoFar, FramesSuffice, Header, Holds, HostTable, HostsPart, IfNone, IsAtRest, IsDone, IsDoneSoFar, IsGroup, IsPaid, IsPlain, IsRun, IsWholeGroup, IsWholeSoFar, KeepsLegal, List, MomentsIn, None, Numbered, Option, Outside, OwnBytes, Prompt, Some, [], acting, answers, ap, code_where, copies, copies_from, copy_refusal, each_whole, entries_of, entry_at, false, has_copy_mark, head, host_of, if◌then◌else◌, inl, is_copied, is_copy_full, is_elsewhere, is_fork_full, is_full, is_idle, is_none, is_range, is_some, length, marked_below, marked_regions, meets_range, moment_last, moments_whole, most_entries, nat_le, new_marks, next_object, next_region, not, refl, refusal, region_of, settles, so_far, steps_whole, suc, sym, takings_more, true, waiting, zero, ℕ, ◌++◌, ◌+◌, ◌/◌, ◌∙◌, ◌∷◌, ◌≡◌}
 use Rattle.std.proofs.Common.{◌||◌, ◌&&◌, nat_lt, append-nil}
 use Rattle.vm_base.specs.declared.code.Code.TheVariants as code
@@ -63,6 +68,15 @@ refusal_line header line h (command.Unwire host count) = refl
 refusal_line header line h (command.Take channel) = refl
 refusal_line header line h other = refl
 
+-- the pager of an object knows the control that it knew
+known_line : (n o line : ℕ) (h : List Event) → known_below n o (event.Line line ∷ h) ≡ known_below n o h
+known_line zero o line h = refl
+known_line (suc n) o line h = ap (λ z. or_known z n (known_control n o h)) (known_line n o line h)
+
+map_line : (header : Header) (task : TaskId) (address bytes : ℕ) (object : ObjectId) (offset line : ℕ) (h : List Event) (x : Option ℕ) → map_head header task address bytes object offset (event.Line line ∷ h) x ≡ map_head header task address bytes object offset h x
+map_line header task address bytes object offset line h None = refl
+map_line header task address bytes object offset line h (Some host) = refl
+
 pub head_line : (header : Header) (line : ℕ) (h : List Event) (c : Command) → head header (event.Line line ∷ h) c ≡ head header h c
 head_line header line h (command.Task task host) = refl
 head_line header line h (command.Fork task child) = refl
@@ -80,6 +94,8 @@ head_line header line h (command.Take channel) = refl
 head_line header line h (command.Settle count) = refl
 head_line header line h (command.FailFiles count) = refl
 head_line header line h (command.FailPaging count) = refl
+head_line header line h (command.Map task address bytes object offset) = map_line header task address bytes object offset line h (host_of task.0 h)
+head_line header line h (command.Clean object page count flush) = ap (λ z. Some (clean_head object page count flush z)) (known_line (length header.frames.items) object.0 line h)
 head_line header line h other = refl
 
 -- events inside a step take nothing

@@ -9,7 +9,7 @@ begin-requires g c =
     let hosts : HostTable = record { kernels = c.self.inside.kernels.items; ids = c.self.inside.ids } in
     let all : AllRest given.header hosts given.past = subst (λ (z : HostTable). AllRest given.header z given.past) (sym c.self.view_is) c.requires.0 in
     let at = found given.header hosts given.past c.in-Some.host.0 c.index_mut.result.now all c.in-Some.ensures.known c.index_mut.ensures.value in
-    (starts_of given.header c.args.command.now given.past hosts c.in-Some.host.0 c.index_mut.result.now at c.in-Some.ensures.acts c.requires.1.1.0 c.requires.1.1.1.1.0 c.requires.1.1.1.1.1, c.requires.1.1.1.0)
+    (starts_of given.header c.args.command.now given.past hosts c.in-Some.host.0 c.index_mut.result.now all.plain at c.in-Some.ensures.acts c.requires.1.1.0 c.requires.1.1.1.1.0 c.requires.1.1.1.1.1 c.requires.1.1.1.0, c.requires.1.1.1.0)
 
 pub serve-requires : goal.serve-requires
 serve-requires g c =

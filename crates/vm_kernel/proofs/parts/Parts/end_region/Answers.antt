@@ -1,4 +1,5 @@
 use Rattle.vm_kernel.proofs.Common.{Still, arith}
+use Rattle.vm_kernel.proofs.Finishing.{pager_knows}
 use Rattle.vm_kernel.proofs.Strands.{ends_top, loses_region, referred_some, referred_there, sweeps_region, top_referred}
 use Rattle.vm_kernel.proofs.parts.Parts.end_region.Goals as goal
 
@@ -25,5 +26,7 @@ pub end_object-requires : goal.end_object-requires
 end_object-requires g c =
     let object = c.drop_region-object.result in
     let loses = loses_region g.given.header g.given.host g.given.outside g.given.command g.given.past c.args.self.now c.args.ids.now g.given.rest c.args.region.0 c.unrefer.result c.args.log.now.items object c.drop_region-object.new.self c.unrefer.new.self c.requires c.drop_region-object.ensures.top c.drop_region-object.ensures.dropped c.unrefer.ensures.left c.unrefer.ensures.object c.unrefer.ensures.marks in
-    let none = c.if-unrefer-gt0.false in
-    ends_top g.given.header g.given.host g.given.outside g.given.command g.given.past c.args.self.now c.args.ids.now g.given.rest c.args.region.0 c.unrefer.result c.args.log.now.items object c.drop_region-object.new.self c.unrefer.new.self c.requires loses (omega (arith, none))
+    let none = c.if-unrefer-gt0.false in (
+      ends_top g.given.header g.given.host g.given.outside g.given.command g.given.past c.args.self.now c.args.ids.now g.given.rest c.args.region.0 c.unrefer.result c.args.log.now.items object c.drop_region-object.new.self c.unrefer.new.self c.requires loses (omega (arith, none)),
+      pager_knows g.given.header g.given.host g.given.outside g.given.command g.given.past c.args.self.now c.args.ids.now g.given.rest c.args.region.0 c.unrefer.result c.args.log.now.items object c.drop_region-object.new.self c.unrefer.new.self c.requires loses,
+    )

@@ -1,9 +1,9 @@
-use Rattle.vm_kernel.proofs.Common.{Event, List, Still, fails_access, inl, page_frame, paging, refl, rules, since, subst, sym, true, ◌++◌, ◌≡◌}
+use Rattle.vm_kernel.proofs.Common.{Event, List, Still, [], fails_access, inl, page_frame, paging, refl, rules, since, subst, sym, true, ◌++◌, ◌≡◌}
 use Rattle.vm_model.specs.declared.event.Event.TheVariants as event
 use Rattle.vm_kernel.proofs.Playing.{plays_both, plays_one}
 use Rattle.vm_kernel.proofs.Failing.{EndsOr, Failing, before_none, ends_all, ends_or, failed_one, since_now}
 use Rattle.vm_kernel.proofs.Ordering.{without_keeps}
-use Rattle.vm_kernel.proofs.Turning.{quiet_both, quiet_none, quiet_unlisted}
+use Rattle.vm_kernel.proofs.Turning.{nobody_more, quiet_unlisted}
 use Rattle.vm_kernel.proofs.parts.Parts.fail.Goals as goal
 
 pub all-init : goal.all-init
@@ -18,7 +18,7 @@ all-init g c =
       plays = Still;
       each = search rules;
       some = search rules;
-      quiet = quiet_none c.args.self.now.waits.queue c.args.log.now.items;
+      quiet = record { queue = refl; more = []; told = refl; none = tt };
     }
 
 pub all-preserved : goal.all-preserved
@@ -46,8 +46,9 @@ all-preserved g c =
           (subst (λ (z : List Event). since (fails_access key.object.0 key.page.0) (z ++ g.given.past) ≡ true) (sym c.in_ok-push.ensures.ok)
           (since_now key w.task (c.all.log.items ++ g.given.past)));
       quiet =
-          quiet_both c.args.self.now.waits.queue c.all.self.waits.queue c.remove.new.self.queue c.args.log.now.items c.all.log.items c.push.new.self.items was.quiet
-          (quiet_unlisted c.all.self.waits.rows c.all.self.waits.queue c.remove.new.self.queue w c.all.log.items c.push.new.self.items _ c.next_on.ensures.line c.in-Some.ensures.row.0 (page_frame key w.on c.in-Some.ensures.row.1) c.remove.ensures.queue c.in_ok-push.ensures.ok tt);
+          nobody_more c.args.self.now.waits.queue c.all.self.waits.queue c.args.log.now.items c.all.log.items c.push.new.self.items _ was.quiet
+          (quiet_unlisted c.all.self.waits.rows c.all.self.waits.queue c.remove.new.self.queue w c.all.log.items c.push.new.self.items _ c.next_on.ensures.line c.in-Some.ensures.row.0 (page_frame key w.on c.in-Some.ensures.row.1) c.remove.ensures.queue c.in_ok-push.ensures.ok tt).queue
+          c.in_ok-push.ensures.ok tt;
     }
 
 pub returns-clause-ended : goal.returns-clause-ended

@@ -1,4 +1,4 @@
-use Rattle.vm_kernel.proofs.Common.{Asker, FailsNow, IsAnswered, LegalEvents, Plays, QueueIsStill, Works, fails_access, length, paging, since, true, ◌++◌, ◌≡◌}
+use Rattle.vm_kernel.proofs.Common.{Asker, FailsNow, IsAnswered, LegalEvents, Plays, RunsNobody, Works, fails_access, length, paging, since, true, ◌++◌, ◌≡◌}
 use Rattle.std.proofs.Common.{◌⊎◌}
 use Rattle.vm_supply.specs.declared.woken.Woken.TheVariants as woken
 use Rattle.vm_kernel.proofs.Failing.{EndsBefore, EndsOr}
@@ -14,7 +14,7 @@ invariant-all g l = record {
   plays : Plays g.given.header g.given.past l.fn.log.items (paging l.fn.self) l.log.items (paging l.self);
   each : EndsOr l.key l.fn.self.waits.rows l.self.waits.rows (l.log.items ++ g.given.past);
   some : (since (fails_access l.key.object.0 l.key.page.0) (l.log.items ++ g.given.past) ≡ true) ⊎ Asker l.self.waits.rows l.key.object.0 l.key.page.0;
-  quiet : QueueIsStill l.fn.self.waits.queue l.self.waits.queue l.fn.log.items l.log.items;
+  quiet : RunsNobody l.fn.self.waits.queue l.self.waits.queue l.fn.log.items l.log.items;
 }
 
 abbrev pub decreases-all : goal.decreases-all

@@ -21,7 +21,7 @@ took_it : (g : Over) (c : goal.In_ok-answer g)
 took_it g c =
     took g.given.header g.given.host g.given.outside g.given.command g.given.past c.args.ids.now c.in_ok-answer.answer c.args.skip.now _ _ c.args.log.now.items c.reclaim.new.log.items
     (rests_touched g.given.header g.given.host c.args.ids.now c.args.self.now c.victim.new.self (c.args.log.now.items ++ g.given.past) c.requires.0 c.victim.ensures.pages (ap (λ z. z.frames) c.victim.ensures.queues))
-    (record { host = refl; size = refl; maps = refl; chains = refl; waits = refl; buffers = c.in_ok-answer.ensures.size; fit = c.in_ok-answer.ensures.fit; live = c.in_ok-answer.ensures.live })
+    (record { host = refl; size = refl; declared = refl; maps = refl; chains = refl; waits = refl; buffers = c.in_ok-answer.ensures.size; fit = c.in_ok-answer.ensures.fit; live = c.in_ok-answer.ensures.live })
     (queued_victim c.victim.new.self _ refl) c.requires.1.0 c.in_ok-answer.ensures.ok
 
 pub returns-clause-rests : goal.returns-clause-rests

@@ -1,4 +1,4 @@
-use Rattle.vm_kernel.proofs.Common.{EachOf, FindsPage, IsNextAccess, LegalEvents, Plays, RunsNone, Works, count_again, paging, ℕ, ◌++◌}
+use Rattle.vm_kernel.proofs.Common.{FindsPage, IsNextAccess, LegalEvents, Plays, RunsNoneYet, Works, count_again, paging, ℕ, ◌++◌}
 use Rattle.vm_kernel.proofs.Finding.{FirstOf}
 use Rattle.vm_kernel.proofs.Turning.{Restarting}
 use Rattle.vm_supply.specs.declared.woken.Woken.TheVariants as woken
@@ -13,7 +13,7 @@ invariant-again g l = record {
   goes : LegalEvents g.given.header g.given.host g.given.outside g.given.command g.given.past l.fn.log.items l.log.items;
   plays : Plays g.given.header g.given.past l.fn.log.items (paging l.fn.self) l.log.items (paging l.self);
   first : (task : ℕ) → IsNextAccess task l.fn.self.waits.rows → FindsPage g.given.header task (l.fn.log.items ++ g.given.past) → FirstOf task l.fn.self.waits.rows l.self.waits.rows l.fn.log.items l.log.items;
-  restarts : EachOf RunsNone l.fn.log.items → Restarting g.given.header g.given.host g.given.past l.fn.self.waits.queue l.self.waits l.log.items;
+  restarts : RunsNoneYet l.fn.log.items → Restarting g.given.header g.given.host g.given.past l.fn.self.waits.queue l.self.waits l.log.items;
 }
 
 abbrev pub decreases-again : goal.decreases-again

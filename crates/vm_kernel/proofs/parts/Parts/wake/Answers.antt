@@ -1,4 +1,4 @@
-use Rattle.vm_kernel.proofs.Common.{Still, rules, woken_page, woken_ready}
+use Rattle.vm_kernel.proofs.Common.{Still, [], refl, rules, woken_page, woken_ready}
 use Rattle.vm_kernel.proofs.Ordering.{woken_keeps}
 use Rattle.vm_kernel.proofs.parts.Parts.wake.Goals as goal
 
@@ -27,3 +27,12 @@ returns-in-ReadyOf-clause-plays g c = Still
 
 pub returns-in-Page-clause-plays : goal.returns-in-Page-clause-plays
 returns-in-Page-clause-plays g c = Still
+
+pub returns-in-Nobody-clause-quiet : goal.returns-in-Nobody-clause-quiet
+returns-in-Nobody-clause-quiet g c = record { queue = refl; more = []; told = refl; none = tt }
+
+pub returns-in-ReadyOf-clause-quiet : goal.returns-in-ReadyOf-clause-quiet
+returns-in-ReadyOf-clause-quiet g c = record { queue = c.wake_ready.ensures.queue; more = []; told = refl; none = tt }
+
+pub returns-in-Page-clause-quiet : goal.returns-in-Page-clause-quiet
+returns-in-Page-clause-quiet g c = record { queue = c.wake_page.ensures.queue; more = []; told = refl; none = tt }
