@@ -2,10 +2,11 @@
 ghost use Rattle.std.specs.Prelude.{◌≡◌, ◌≤◌, IfOk, length};
 ghost use Rattle.pg_default.specs.Answers.{IsToPager, ReturnsWhole};
 
+use crate::pages::page;
 use pg_default::DefaultPager;
 use std::alloc::Global;
 use std::test::Fail;
-use vm_base::{HostId, NoMemory, ObjectId, PageBytes, PageNo, PageSize};
+use vm_base::{HostId, NoMemory, ObjectId, PageNo, PageSize};
 use vm_model::{Channel, Event, Message, Way};
 use vm_outside::{Armed, SureBacking};
 
@@ -31,18 +32,6 @@ struct Script {
 }
 
 const CONTROL: u32 = 7;
-
-// A page of 16 bytes that begins with this byte; the rest is zeros.
-fn page(alloc: Global, first: u8) -> Result<PageBytes, NoMemory>
-    ensures { IfOk result (λ page. length page ≡ 16) }
-{
-    let Some(size) = PageSize::of(16) else {
-        return Err(NoMemory);
-    };
-    let mut page = PageBytes::zero(alloc, size)?;
-    page.fill(&[first]);
-    Ok(page)
-}
 
 fn message(alloc: Global, word: Word) -> Result<Message, NoMemory>
     ensures up { IfOk result IsToPager }

@@ -7,6 +7,10 @@ mod default_pager;
 #[cfg(test)]
 mod directory;
 #[cfg(test)]
+mod file_pager;
+#[cfg(test)]
+mod pages;
+#[cfg(test)]
 mod slots;
 #[cfg(test)]
 mod world;

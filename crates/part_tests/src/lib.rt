@@ -7,9 +7,13 @@ mod answers;
 #[cfg(test)]
 mod chains;
 #[cfg(test)]
+mod folder;
+#[cfg(test)]
 mod frames;
 #[cfg(test)]
 mod holding;
+#[cfg(test)]
+mod locks;
 #[cfg(test)]
 mod maps;
 #[cfg(test)]
@@ -26,5 +30,7 @@ mod ports;
 mod queues;
 #[cfg(test)]
 mod resident;
+#[cfg(test)]
+mod tables;
 #[cfg(test)]
 mod waits;

@@ -11,7 +11,7 @@ use vm_outside::{
 
 // Gives or takes three bytes a call, and fails at the call of this number.
 #[derive(Drop)]
-struct Choppy {
+pub struct Choppy {
     bytes: Vec<u8>,
     calls: u64,
     bad: u64,
@@ -19,7 +19,7 @@ struct Choppy {
 }
 
 impl Choppy {
-    fn next(&mut self) -> io::Result<()> {
+    pub fn next(&mut self) -> io::Result<()> {
         self.calls = self.calls.saturating_add(1);
         if self.calls == self.bad {
             return Err(io::Error::from(self.kind));
@@ -50,7 +50,7 @@ impl Write for Choppy {
     }
 }
 
-fn failing_at(alloc: Global, bad: u64, kind: ErrorKind) -> Choppy {
+pub fn failing_at(alloc: Global, bad: u64, kind: ErrorKind) -> Choppy {
     Choppy {
         bytes: Vec::new(alloc),
         calls: 0,

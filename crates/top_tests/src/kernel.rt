@@ -1,9 +1,9 @@
 // Each call once, on a host of four frames.
-ghost use Rattle.std.specs.Prelude.{◌≡◌, [], ◌∷◌, IfOk};
+ghost use Rattle.std.specs.Prelude.{◌≡◌, [], ◌∷◌, IfOk, length};
 ghost use Rattle.vm_model.specs.declared.command.Command.TheVariants as command;
 ghost use Rattle.vm_model.specs.declared.event.Event.TheVariants as event;
 ghost use Rattle.vm_kernel.specs.Begun.{Given, Ran};
-ghost use Rattle.vm_kernel.specs.Matches.{IsPlain, Rests, host_id};
+ghost use Rattle.vm_kernel.specs.Matches.{IsRanged, Rests, host_id};
 
 use std::alloc::Global;
 use std::test::Fail;
@@ -23,7 +23,8 @@ const READ_ONLY: Prot = Prot {
 };
 
 fn header_of(alloc: Global, frames: u32) -> Result<Header, Fail>
-    ensures { IfOk result (λ header. IsPlain header) }
+    ensures ranged { IfOk result (λ header. IsRanged header) }
+    ensures hosts { IfOk result (λ header. length header.frames.items ≡ 1) }
 {
     let size = PageSize::of(16).ok_or("16 is a page size")?;
     let mut counts = Counts::new(alloc);
@@ -34,6 +35,22 @@ fn header_of(alloc: Global, frames: u32) -> Result<Header, Fail>
         frames: counts,
         objects: Declarations::new(alloc),
     })
+}
+
+// A new kernel, and the next numbers.
+fn start(alloc: Global, header: &Header) -> Result<(Kernel, Ids), NoMemory>
+    requires ranged { IsRanged header.now }
+    requires hosts { length header.now.frames.items ≡ 1 }
+    ensures { IfOk result (λ both. Rests header.now 0 both.0 both.1 []) }
+{
+    let declared = header.objects.len();
+    let ids = Ids {
+        next_object: declared,
+        next_region: declared,
+        marks: 0,
+    };
+    let kernel = Kernel::new(alloc, HOST, header)?;
+    Ok((kernel, ids))
 }
 
 // A kernel's first command makes a task.
@@ -54,12 +71,7 @@ fn make_task(header: &Header, kernel: &mut Kernel, ids: &mut Ids) -> Result<Even
 #[test]
 fn each_call(rt: HostRuntime) -> Result<(), Fail> {
     let header = header_of(rt.alloc(), 4)?;
-    let mut kernel = Kernel::new(rt.alloc(), HOST, &header)?;
-    let mut ids = Ids {
-        next_object: 0,
-        next_region: 0,
-        marks: 0,
-    };
+    let (mut kernel, mut ids) = start(rt.alloc(), &header)?;
     assert_eq!(rt; kernel.free(), 4);
     assert_eq!(rt; kernel.wired(), 0);
     assert!(rt; kernel.object(ObjectId(0)).is_none());

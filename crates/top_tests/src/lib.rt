@@ -1,5 +1,5 @@
-//! Calls of the kernel, the system, the texts and the top call: they are proved to be made as they may be, and run. They stand in a crate
-//! of their own, since a crate with tests is proved twice.
+//! Calls of the kernel, the system and the top call: they are proved to be made as they may be, and run. They stand in a crate of their
+//! own, since a crate with tests is proved twice.
 #![tactic(auto)]
 
 #[cfg(test)]
@@ -11,8 +11,4 @@ mod paging;
 #[cfg(test)]
 mod runs;
 #[cfg(test)]
-mod scripts;
-#[cfg(test)]
 mod system;
-#[cfg(test)]
-mod texts;
