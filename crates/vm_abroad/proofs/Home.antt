@@ -1,7 +1,7 @@
 -- The home of a region stays what it is, and so does that of an object; what wasn't made has none; and a region is in use on its home alone.
-use Rattle.std.proofs.Common.{◌≡◌, ◌≤◌, ◌<◌, ◌&&◌, ◌||◌, not, ℕ, ◌==◌, Bool, true, false, List, [], ◌∷◌, ◌++◌, Option, Some, None, ap, refl, sym, ◌∙◌, arith}
-use Rattle.std.proofs.lemmas.Bool.Decides.{nat_tests}
-use Rattle.std.specs.Prelude.{if◌then◌else◌, unwrap_or}
+use Rattle.std.proofs.Common.{◌≡◌, ◌≤◌, ◌<◌, ◌&&◌, ◌||◌, not, ℕ, ◌==◌, Bool, true, false, List, [], ◌∷◌, ◌++◌, Option, Some, None, ap, refl, subst, sym, ◌∙◌, arith, ◌⊎◌, inl, inr}
+use Rattle.std.proofs.lemmas.Bool.Decides.{eqb_tells, nat_tests}
+use Rattle.std.specs.Prelude.{if◌then◌else◌, nat_lt, unwrap_or}
 use Rattle.vm_base.specs.declared.ids.Inherit.{Inherit}
 use Rattle.vm_base.specs.declared.ids.ObjectId.{ObjectId}
 use Rattle.vm_base.specs.declared.ids.Prot.{Prot}
@@ -15,11 +15,14 @@ use Rattle.vm_model.specs.Named.{declared_pages, named}
 use Rattle.vm_model.specs.Regions.{backing_of, next_object, next_region, region_of}
 use Rattle.vm_model.specs.Tasks.{host_of}
 use Rattle.vm_model.specs.Waiting.{Target, begins_copy, copy_target}
+use Rattle.vm_legal.specs.Homes.{is_home}
 use Rattle.vm_legal.specs.Licences.{HasCause}
-use Rattle.vm_legal.specs.Living.{lives_on}
-use Rattle.vm_legal.specs.Outside.{Outside}
-use Rattle.vm_legal.specs.Used.{in_use, is_kept, made_here}
+use Rattle.vm_legal.specs.Living.{lives_on, tasks}
+use Rattle.vm_legal.specs.Outside.{Outside, is_file}
+use Rattle.vm_legal.specs.Stretches.{EachIn}
+use Rattle.vm_legal.specs.Used.{in_use, is_held, is_kept, made_here}
 use Rattle.vm_abroad.specs.Home.{HaveHomes, first_of, home_at, home_of, object_home, region_for}
+use Rattle.vm_abroad.specs.Sound.{IsAbroad}
 use Rattle.vm_abroad.proofs.Sounds.{objects_rise, regions_rise, unlike}
 
 -- the first host stays
@@ -42,6 +45,35 @@ home_entered h task address bytes region offset prot inherit past none lives =
     let same : (region.0 == region.0) ≡ true = grind (arith, nat_tests) in
     ap (λ b. if b then first_of (home_of region.0 past) (host_of task.0 past) else home_of region.0 past) same
     ∙ (ap (λ z. first_of z (host_of task.0 past)) none ∙ lives)
+
+-- one more entry on a region that has a home leaves all homes as they were
+pub homes_kept : (f r : ℕ) (task : TaskId) (address bytes : ℕ) (region : RegionId) (offset : ℕ) (prot : Prot) (inherit : Inherit) (past : List Event) → home_of region.0 past ≡ Some f
+    → home_of r (event.Entered task address bytes region offset prot inherit ∷ past) ≡ home_of r past
+homes_kept f r task address bytes region offset prot inherit past has = elim (eqb_tells region.0 r) [
+  | inl same ↦
+      let home : home_of r past ≡ Some f = ap (λ z. home_of z past) (sym same.1) ∙ has in
+      first_stays (region.0 == r) f (home_of r past) (host_of task.0 past) home ∙ sym home
+  | inr apart ↦ rw apart.0 refl
+]
+
+-- an entry leaves the homes of other regions
+pub home_apart : (r : ℕ) (task : TaskId) (address bytes : ℕ) (region : RegionId) (offset : ℕ) (prot : Prot) (inherit : Inherit) (past : List Event) → (region.0 ≡ r → ⊥) → home_of r (event.Entered task address bytes region offset prot inherit ∷ past) ≡ home_of r past
+home_apart r task address bytes region offset prot inherit past apart = rw (unlike region.0 r apart) refl
+
+-- what other hosts do makes no region this host's
+
+entered_abroad : (h : ℕ) (b : Bool) (was x : Option ℕ) → is_on h x ≡ false → is_on h (if b then first_of was x else was) ≡ is_on h was
+entered_abroad h true None x foreign = foreign
+entered_abroad h true (Some f) x foreign = refl
+entered_abroad h false was x foreign = refl
+
+pub home_abroad : (header : Header) (h r : ℕ) (e : Event) (past : List Event) → is_home header h e past ≡ false → is_on h (home_of r (e ∷ past)) ≡ is_on h (home_of r past)
+home_abroad header h r (event.Entered task address bytes region offset prot inherit) past foreign = entered_abroad h (region.0 == r) (home_of r past) (host_of task.0 past) foreign
+home_abroad header h r other past foreign = refl
+
+pub homes_abroad : (header : Header) (outside : Outside) (h r : ℕ) (events past : List Event) → EachIn (IsAbroad header outside h) events past → is_on h (home_of r (events ++ past)) ≡ is_on h (home_of r past)
+homes_abroad header outside h r [] past abroad = refl
+homes_abroad header outside h r (e ∷ events) past abroad = home_abroad header h r e (events ++ past) abroad.0.foreign ∙ homes_abroad header outside h r events past abroad.1
 
 -- an object keeps the region that it was made for, and its home
 
@@ -127,7 +159,10 @@ home_first header g h r region here true None x past test used lives home stays 
     same_some g h (sym (lives lives_here) ∙ home)
 home_first header g h r region here false was x past test used lives home stays = stays home (both (not (r == region) || here) (in_use header g r past) used).1
 
-on_host : (g : ℕ) (x : Option ℕ) → is_on g x ≡ true → x ≡ Some g
+pub on_own : (h : ℕ) → is_on h (Some h) ≡ true
+on_own h = itself h
+
+pub on_host : (g : ℕ) (x : Option ℕ) → is_on g x ≡ true → x ≡ Some g
 on_host g None is = absurd (let bad : false ≡ true = is in cc)
 on_host g (Some own) is = let same : own ≡ g = grind (arith, nat_tests) in ap Some same
 
@@ -154,6 +189,16 @@ stay_next header outside (event.Failed task object page) past cause homes g h r 
     homes.stay g h r (both (is_kept header r (event.Failed task object page ∷ past)) (in_use header g r past) used).1 home
 stay_next header outside other past cause homes g h r used home = homes.stay g h r used home
 
+-- a task of a host on which a region is in use gets an entry on it: there it is at home
+
+pub home_used : (header : Header) (h : ℕ) (task : TaskId) (address bytes : ℕ) (region : RegionId) (offset : ℕ) (prot : Prot) (inherit : Inherit) (past : List Event) → HaveHomes header past → in_use header h region.0 past ≡ true → host_of task.0 past ≡ Some h
+    → home_of region.0 (event.Entered task address bytes region offset prot inherit ∷ past) ≡ Some h
+home_used header h task address bytes region offset prot inherit past homes used lives = by (home_of region.0 past) refl
+  where
+    by : (home : Option ℕ) → home_of region.0 past ≡ home → home_of region.0 (event.Entered task address bytes region offset prot inherit ∷ past) ≡ Some h
+    by None none = home_entered h task address bytes region offset prot inherit past none lives
+    by (Some g) some = home_stays region.0 g (event.Entered task address bytes region offset prot inherit) past some ∙ ap (λ (n : ℕ). Some n) (sym (homes.stay h g region.0 used some))
+
 -- what is declared stays as it was
 
 pub named_regions : (header : Header) (past : List Event) → named header ≤ next_region header past
@@ -163,6 +208,61 @@ named_regions header (e ∷ past) = let rise = regions_rise header e past in let
 pub named_objects : (header : Header) (past : List Event) → named header ≤ next_object header past
 named_objects header [] = omega arith
 named_objects header (e ∷ past) = let rise = objects_rise header e past in let was = named_objects header past in omega (arith, rise, was)
+
+-- a file's region is in use everywhere until it has a home, and then there
+
+pub file_named : (header : Header) (r : ℕ) → is_file header r ≡ true → r < named header
+file_named header r file = grind (arith, nat_tests)
+
+-- it is another than one that is made
+file_other : (header : Header) (r n : ℕ) (past : List Event) → is_file header r ≡ true → n ≡ next_region header past → (r == n) ≡ false
+file_other header r n past file number =
+    let less = file_named header r file in
+    let more = named_regions header past in
+    unlike r n (λ same. omega (arith, same, number, more, less))
+
+-- and it is kept
+file_kept : (header : Header) (r : ℕ) (e : Event) (past : List Event) → is_file header r ≡ true → is_kept header r (e ∷ past) ≡ true
+file_kept header r e past file =
+    let less : nat_lt r (named header) ≡ true = let small = file_named header r file in grind (arith, nat_tests) in
+    ap (λ b. b || is_held header.size r (tasks (e ∷ past)) (e ∷ past)) less
+
+-- on the host whose task gets the entry: the region's first, or one more
+file_entered : (header : Header) (g h r : ℕ) (was x : Option ℕ) (past : List Event) → HaveHomes header past → is_file header r ≡ true → home_of r past ≡ was → x ≡ Some g → in_use header g r past ≡ true
+    → (first_of was x ≡ None) ⊎ (first_of was x ≡ Some h) → (is_on h x ≡ true) × (in_use header h r past ≡ true)
+file_entered header g h r None x past homes file was lives used (inl none) = absurd (let bad : Some g ≡ None = sym lives ∙ none in cc)
+file_entered header g h r None x past homes file was lives used (inr first) =
+    let same : g ≡ h = same_some g h (sym lives ∙ first) in
+    (ap (is_on h) first ∙ on_own h, subst (λ (z : ℕ). in_use header z r past ≡ true) same used)
+file_entered header g h r (Some own) x past homes file was lives used (inl none) = absurd (let bad : Some own ≡ None = none in cc)
+file_entered header g h r (Some own) x past homes file was lives used (inr home) =
+    let same : g ≡ h = homes.stay g h r used (was ∙ home) in
+    (ap (is_on h) (lives ∙ ap Some same) ∙ on_own h, subst (λ (z : ℕ). in_use header z r past ≡ true) same used)
+
+files_next : (header : Header) (outside : Outside) (e : Event) (past : List Event) → HasCause header outside e past → HaveHomes header past → (r h : ℕ) → is_file header r ≡ true
+    → (home_of r (e ∷ past) ≡ None) ⊎ (home_of r (e ∷ past) ≡ Some h) → in_use header h r (e ∷ past) ≡ true
+files_next header outside (event.RegionMade new object pages) past cause homes r h file home = rw (file_other header r new.0 past file cause.1.0) (homes.files r h file home)
+files_next header outside (event.RegionCopied new source offset pages) past cause homes r h file home = rw (file_other header r new.0 past file cause.1.next) (homes.files r h file home)
+files_next header outside (event.Entered task address bytes region offset prot inherit) past cause homes r h file home = elim (eqb_tells r region.0) [
+  | inl same ↦
+      let turned : (region.0 == r) ≡ true = let is = same.1 in grind (arith, nat_tests) in
+      let used : in_use header cause.1.host r past ≡ true =
+      subst (λ (z : ℕ). in_use header cause.1.host z past ≡ true) (sym same.1) (cause.1.file (subst (λ (z : ℕ). is_file header z ≡ true) same.1 file)) in
+      let after : (first_of (home_of r past) (host_of task.0 past) ≡ None) ⊎ (first_of (home_of r past) (host_of task.0 past) ≡ Some h) =
+      subst (λ (b : Bool). ((if b then first_of (home_of r past) (host_of task.0 past) else home_of r past) ≡ None) ⊎ ((if b then first_of (home_of r past) (host_of task.0 past) else home_of r past) ≡ Some h)) turned home in
+      let there = file_entered header cause.1.host h r (home_of r past) (host_of task.0 past) past homes file refl cause.1.lives used after in
+      let lives : lives_on h task.0 past ≡ true = there.0 in
+      rw (same.0, lives) there.1
+  | inr apart ↦
+      let turned : (region.0 == r) ≡ false = unlike region.0 r (λ is. apart.1 (sym is)) in
+      let before : (home_of r past ≡ None) ⊎ (home_of r past ≡ Some h) =
+      subst (λ (b : Bool). ((if b then first_of (home_of r past) (host_of task.0 past) else home_of r past) ≡ None) ⊎ ((if b then first_of (home_of r past) (host_of task.0 past) else home_of r past) ≡ Some h)) turned home in
+      rw apart.0 (homes.files r h file before)
+]
+files_next header outside (event.Removed task address bytes) past cause homes r h file home = rw (file_kept header r (event.Removed task address bytes) past file) (homes.files r h file home)
+files_next header outside (event.TaskEnded task) past cause homes r h file home = rw (file_kept header r (event.TaskEnded task) past file) (homes.files r h file home)
+files_next header outside (event.Failed task object page) past cause homes r h file home = rw (file_kept header r (event.Failed task object page) past file) (homes.files r h file home)
+files_next header outside other past cause homes r h file home = homes.files r h file home
 
 whole_next : (header : Header) (outside : Outside) (e : Event) (past : List Event) → HasCause header outside e past → HaveHomes header past → (r : ℕ) → r < named header
     → region_of header r (e ∷ past) ≡ record { mark = false; top = r; shift = 0; pages = declared_pages header r }
@@ -217,6 +317,7 @@ homes_next header outside e past cause homes =
       regions = λ r high. let old = region_later header e past r high in regions_next header outside e past r cause old (homes.regions r old);
       objects = λ o high. objects_next header outside e past o cause high (homes.objects o (object_later header e past o high));
       stay = stay_next header outside e past cause homes;
+      files = files_next header outside e past cause homes;
       whole = whole_next header outside e past cause homes;
       bare = bare_next header outside e past cause homes;
       fills = fills_next header outside e past cause homes;
@@ -228,6 +329,7 @@ homes_start header =
       regions = λ r high. refl;
       objects = λ o high. refl;
       stay = λ g h r used home. absurd (let bad : None ≡ Some h = home in cc);
+      files = λ r h file home. file;
       whole = λ r declared. refl;
       bare = λ o declared. refl;
       fills = λ task target is. absurd (let bad : None ≡ Some target = is in cc);

@@ -1,5 +1,5 @@
 -- On which host a region is, and an object: a region on that of the task that first got an entry on it, an object on that of the region that it was made for.
-use Rattle.std.specs.Prelude.{ℕ, ◌≡◌, ◌≤◌, ◌<◌, ◌==◌, true, false, List, [], ◌∷◌, Option, Some, None, if◌then◌else◌}
+use Rattle.std.specs.Prelude.{ℕ, ◌≡◌, ◌≤◌, ◌<◌, ◌⊎◌, ◌==◌, true, false, List, [], ◌∷◌, Option, Some, None, if◌then◌else◌}
 use Rattle.vm_model.specs.declared.event.Event.{Event}
 use Rattle.vm_model.specs.declared.event.Event.TheVariants as event
 use Rattle.vm_model.specs.declared.script.Header.{Header}
@@ -7,6 +7,7 @@ use Rattle.vm_model.specs.Named.{declared_pages, named}
 use Rattle.vm_model.specs.Regions.{backing_of, next_object, next_region, region_of}
 use Rattle.vm_model.specs.Tasks.{host_of}
 use Rattle.vm_model.specs.Waiting.{Target, copy_target}
+use Rattle.vm_legal.specs.Outside.{is_file}
 use Rattle.vm_legal.specs.Used.{in_use}
 
 abbrev pub first_of : Option ℕ → Option ℕ → Option ℕ
@@ -34,12 +35,13 @@ home_at (Some r) past = home_of r past
 abbrev pub object_home : ℕ → List Event → Option ℕ
 object_home o past = home_at (region_for o past) past
 
--- No region has a home that wasn't made, and no object has a region; and a region that has a home is in use nowhere else. The declared regions and objects are as
--- they were declared, and no slow copy fills one.
+-- No region has a home that wasn't made, and no object has a region; and a region that has a home is in use nowhere else. A file's region is in use everywhere until
+-- it has a home, and then there. The declared regions and objects are as they were declared, and no slow copy fills one.
 pub record HaveHomes (header : Header) (past : List Event) : Type 0 where
   pub regions : (r : ℕ) → next_region header past ≤ r → home_of r past ≡ None
   pub objects : (o : ℕ) → next_object header past ≤ o → region_for o past ≡ None
   pub stay : (g h r : ℕ) → in_use header g r past ≡ true → home_of r past ≡ Some h → g ≡ h
+  pub files : (r h : ℕ) → is_file header r ≡ true → (home_of r past ≡ None) ⊎ (home_of r past ≡ Some h) → in_use header h r past ≡ true
   pub whole : (r : ℕ) → r < named header → region_of header r past ≡ record { mark = false; top = r; shift = 0; pages = declared_pages header r }
   pub bare : (o : ℕ) → o < named header → (backing_of header o past).backed ≡ false
   pub fills : (task : ℕ) (target : Target) → copy_target task past ≡ Some target → named header ≤ target.region

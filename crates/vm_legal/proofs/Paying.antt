@@ -29,7 +29,7 @@ lock_more [] past inner = refl
 lock_more (e ∷ events) past inner = lock_inner e (events ++ past) inner.0 ∙ lock_more events past inner.1
 
 -- a lock_request that was obeyed has been still
-locked_more : (header : Header) (request : LockRequest) (events past : List Event) → AllInner events → HasLocked header request past → HasLocked header request (events ++ past)
+pub locked_more : (header : Header) (request : LockRequest) (events past : List Event) → AllInner events → HasLocked header request past → HasLocked header request (events ++ past)
 locked_more header request events past inner had =
     let same = before_more events past inner in
     record {

@@ -1,4 +1,5 @@
 mod Ascii
+pub mod Names
 pub mod Others
 pub mod Ports
 mod Summaries

@@ -16,6 +16,7 @@ use Rattle.vm_model.specs.declared.message.Message.{Message}
 use Rattle.vm_model.specs.declared.message.Message.TheVariants as messages
 use Rattle.vm_model.specs.declared.script.Header.{Header}
 use Rattle.vm_model.specs.declared.script.Script.{Script}
+use Rattle.vm_model.specs.Named.{AreNamedOnce}
 
 abbrev pub IsBetween : ℕ → ℕ → ℕ → Type 0
 IsBetween least most number = (least ≤ number) × (number ≤ most)
@@ -95,7 +96,7 @@ abbrev pub RiseBelow : ℕ → List Numbered → Type 0
 RiseBelow limit [] = Unit {0}
 RiseBelow limit (command ∷ before) = (0 < command.line) × (command.line < limit) × RiseBelow command.line before
 
--- A script within the grammar's ranges.
+-- A script within the grammar's ranges, each of whose objects has a name of its own.
 pub record KeepsRanges (script : Script) : Type 0 where
   pub size : IsPageSize script.header.size
   pub slots : script.header.slots ≤ most_slots
@@ -103,6 +104,7 @@ pub record KeepsRanges (script : Script) : Type 0 where
   pub frames : All (IsBetween least_frames most_frames) script.header.frames.items
   pub objects : length script.header.objects.items ≤ most_objects
   pub pages : All (λ object. IsBetween 1 most_pages object.pages) script.header.objects.items
+  pub names : AreNamedOnce script.header.objects.items
   pub commands : All (λ numbered. InRange script.header numbered.command) script.commands.items
   pub rising : RiseBelow (script.lines + 1) script.commands.items
   pub lines : script.lines ≤ most_script_lines

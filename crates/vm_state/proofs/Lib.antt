@@ -4,6 +4,7 @@ pub mod Changing
 pub mod Copying
 pub mod Counting
 pub mod Declared
+pub mod Files
 pub mod Fresh
 pub mod Going
 pub mod Knowing

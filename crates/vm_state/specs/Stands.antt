@@ -93,6 +93,10 @@ pub record HasRegions (chains : ChainTable) (objects : ObjectTable) (ids : Ids) 
 abbrev pub HasHomes : Header → ℕ → ChainTable → (ℕ → Option ℕ) → Type 0
 HasHomes header h chains home_from = (r : ℕ) (row : RegionRow) → is_paged header r ≡ true → region_at chains r ≡ Some row → home_from r ≡ Some h
 
+-- a file is known on the host that its region belongs to, and on no other
+abbrev pub KnowsFiles : Header → ℕ → ObjectTable → (ℕ → Option ℕ) → Type 0
+KnowsFiles header h objects home_from = (o : ℕ) → is_file header o ≡ true → is_on h (home_from o) ≡ is_some (object_at objects o)
+
 -- an entry lies within its region
 pub record IsInside (size : ℕ) (chains : ChainTable) (row : Entry) : Type 0 where
   pub region : has_region chains row.region.0 ≡ true
