@@ -1,15 +1,13 @@
 -- What is no event of a host leaves what its kernel stands for.
-use Rattle.vm_kernel.proofs.Common.{AllLicensed, AllRows, ApartElsewhere, BeganInOrder, Below, Bool, Command, Down, EachIn, EachOf, EntersNext, Entry, Event, HasCause, HasControls, HasFrames, HasLaundry, HasOrder, HasPages, HasQueue, HasRegions, HasTasks, HasUse, HasWaits, HaveHomes, Header, Ids, IfSome, IsAbroad, IsAmong, IsCommon, IsHeldOn, IsInside, IsMine, IsNobodys, IsOfHost, IsRegionOf, IsShut, Knows, List, Matches, MomentsIn, None, Option, Outside, Parts, PromptAt, RegionRow, Rests, SameFacts, SameForHost, Some, Sound, Suffice, Up, Waiting, [], all_tasks, ap, apart_abroad, arith, backing_of, begun_at, count_by, entries_in, entries_of, entry, eqb_tells, false, frames_free, frames_held, frames_used, frames_wired, has_entry, has_region, holds, home_of, homes_next, homes_stay, host_of, in_use, inl, inr, is_among, is_home, is_ready, is_some, is_used, last_control, live_control, lives_on, local, named, nat_lt, nat_tests, next_object, next_region, pages_abroad, place_of, refl, region_at, region_of, returns_out, reverse, rows_in, rows_map, slice_get, sound_next, stays, subst, suc, swept_now, sym, tasks, true, unwrap_or, use_of, use_same, used_of, vain_now, zero, ℕ, ◌++◌, ◌<◌, ◌==◌, ◌∙◌, ◌∷◌, ◌≡◌, ◌≤◌}
+use Rattle.vm_kernel.proofs.Common.{AllLicensed, AllRows, ApartElsewhere, BeganInOrder, Below, Bool, Command, Down, EachIn, EachOf, EntersNext, Entry, Event, HasCause, HasControls, HasFrames, HasLaundry, HasOrder, HasPages, HasQueue, HasRegions, HasTasks, HasUse, HasWaits, Header, Ids, IfSome, IsAbroad, IsAmong, IsCommon, IsHeldOn, IsInside, IsMine, IsNobodys, IsOfHost, IsRegionOf, IsShut, Knows, List, Matches, MomentsIn, None, Option, Outside, Parts, PromptAt, RegionRow, Rests, SameFacts, SameForHost, Some, Sound, Suffice, Up, Waiting, [], all_tasks, ap, apart_abroad, arith, backing_of, begun_at, count_by, entries_in, entries_of, entry, eqb_tells, false, frames_free, frames_held, frames_used, frames_wired, has_entry, has_region, holds, home_of, homes_stay, host_of, in_use, inl, inr, is_among, is_home, is_ready, is_some, is_used, last_control, live_control, lives_on, local, named, nat_lt, nat_tests, next_object, next_region, pages_abroad, place_of, refl, region_at, region_of, returns_out, reverse, rows_in, rows_map, slice_get, sound_next, stays, subst, suc, swept_now, sym, tasks, true, unwrap_or, use_of, use_same, used_of, vain_now, zero, ℕ, ◌++◌, ◌<◌, ◌==◌, ◌∙◌, ◌∷◌, ◌≡◌, ◌≤◌}
 use Rattle.vm_model.specs.declared.event.Event.TheVariants as event
 use Rattle.std.specs.Prelude.{◌+◌}
 use Rattle.vm_model.specs.Local.{is_on}
 use Rattle.vm_model.specs.Waiting.{waiting}
 use Rattle.vm_state.specs.Places.{known_local}
 use Rattle.vm_state.specs.Waiters.{waiting_in}
-use Rattle.vm_abroad.proofs.Home.{named_objects, named_regions, objects_stay}
-use Rattle.vm_abroad.proofs.Sounds.{unlike}
+use Rattle.vm_abroad.proofs.Home.{homes_abroad, named_objects, objects_stay}
 use Rattle.vm_abroad.specs.Home.{object_home}
-use Rattle.vm_legal.specs.Outside.{is_file}
 use Rattle.vm_model.specs.Regions.{marked_regions}
 use Rattle.vm_parts.specs.Changes.{one}
 use Rattle.vm_shadow.specs.Chains.{ChainTable, shadow_at}
@@ -22,7 +20,7 @@ use Rattle.vm_kernel.proofs.Counts.{by_some}
 use Rattle.vm_kernel.proofs.Own.{lives_in, own_host}
 use Rattle.vm_kernel.proofs.Regions.{region_row}
 use Rattle.vm_kernel.proofs.Terminating.{declared_chain, entry_there, used_there}
-use Rattle.vm_kernel.proofs.Uses.{file_declared, paged_file}
+use Rattle.vm_kernel.proofs.Uses.{paged_file}
 use Rattle.vm_supply.specs.declared.woken.Woken.TheVariants as woken
 use Rattle.std.proofs.lemmas.Bool.{or_right}
 use Rattle.std.proofs.Math.Bool.{and-false}
@@ -161,15 +159,15 @@ module _ (header : Header) (h : ℕ) (k : Parts) (ids next : Ids) (past new : Li
   pages_same : HasPages k.memory.frames k.memory.resident k.memory.objects (λ o p. known_local header o p (local header.size h (place_of o p) new))
   pages_same = record { shown = λ o p. ap (known_local header o p) (same.pages.local (place_of o p)) ∙ rests.matches.pages.shown o p }
 
-  uses_same : ApartElsewhere header h new → ((r : ℕ) → is_file header r ≡ true → in_use header h r past ≡ true → home_of r past ≡ Some h → in_use header h r new ≡ true) → HasUse header k.maps (λ r. in_use header h r new) (tasks new) (λ task r. holds header.size task r new) (next_region header new)
-  uses_same apart files =
+  uses_same : ApartElsewhere header h new → ((r : ℕ) → home_of r past ≡ Some h → home_of r new ≡ Some h) → HasUse header k.maps (λ r. in_use header h r new) (tasks new) (λ task r. holds header.size task r new) (next_region header new)
+  uses_same apart home =
       let has = rests.matches.uses in
       record {
         used = λ r temporary. use_same header h r past new same temporary (rests.matches.settled.shut r) (common.settled.shut r) ∙ has.used r temporary;
         files = λ r file some.
             let task = by_some all_tasks r k.maps some in
             let row = region_row k.chains r (entry_there header.size r k.chains (rows_in task.0 k.maps) (rests.matches.entries.inside task.0) task.1) in
-            files r file (has.files r file some) (rests.matches.homes r row.0 (paged_file header r file) row.1);
+            common.homeless.files r h file (inr (home r (rests.matches.homes r row.0 (paged_file header r file) row.1)));
         among = λ task rows found. subst (λ (z : List ℕ). is_among task z ≡ true) (sym same.made.is) (among_more task same.made.made (tasks past) (has.among task rows found));
         apart = λ task r away ours. apart task r (same.lives task ∙ (rests.matches.tasks.hosts task ∙ ap is_some away)) ours;
       }
@@ -220,8 +218,8 @@ module _ (header : Header) (h : ℕ) (k : Parts) (ids next : Ids) (past new : Li
       let has = rests.matches.frames in record { total = has.total; held = same.pages.held ∙ has.held; wired = same.pages.wired ∙ has.wired; fits = has.fits }
 
   -- tasks elsewhere hold none of its regions, and its regions and objects stay on their host
-  pub rests_same : ApartElsewhere header h new → ((r : ℕ) → is_file header r ≡ true → in_use header h r past ≡ true → home_of r past ≡ Some h → in_use header h r new ≡ true) → ((r : ℕ) → home_of r past ≡ Some h → home_of r new ≡ Some h) → ((o : ℕ) → object_home o past ≡ Some h → object_home o new ≡ Some h) → Rests header h k next new
-  rests_same apart files home objects = record {
+  pub rests_same : ApartElsewhere header h new → ((r : ℕ) → home_of r past ≡ Some h → home_of r new ≡ Some h) → ((r : ℕ) → is_on h (home_of r new) ≡ is_on h (home_of r past)) → ((o : ℕ) → object_home o past ≡ Some h → object_home o new ≡ Some h) → Rests header h k next new
+  rests_same apart home known objects = record {
     matches =
         record {
           ranged = rests.matches.ranged;
@@ -235,9 +233,10 @@ module _ (header : Header) (h : ℕ) (k : Parts) (ids next : Ids) (past new : Li
           tasks = tasks_same;
           regions = regions_same;
           homes = λ r row paged found. home r (rests.matches.homes r row paged found);
+          files = λ o file. known o ∙ rests.matches.files o file;
           entries = rests.matches.entries;
           pages = pages_same;
-          uses = uses_same apart files;
+          uses = uses_same apart home;
           controls = controls_same objects;
           settled = common.settled;
           homeless = common.homeless;
@@ -270,42 +269,6 @@ waits_here header h k ids past rests task lives =
 
 -- behind events that are nothing to its host
 
--- a file's region that is in use on the host, which is its home, is in use there still
-file_one : (header : Header) (outside : Outside) (h : ℕ) (r : ℕ) (e : Event) (past : List Event) → HasCause header outside e past → HaveHomes header past → is_file header r ≡ true → in_use header h r past ≡ true → home_of r past ≡ Some h → in_use header h r (e ∷ past) ≡ true
-file_one header outside h r (event.RegionMade new object pages) past cause homes file used home =
-    let less : r < named header = grind (arith, nat_tests, file_declared header r file) in
-    let more = named_regions header past in
-    let number = cause.1.0 in
-    let other : (r == new.0) ≡ false = unlike r new.0 (λ same. omega (arith, same, less, more, number)) in
-    rw other used
-file_one header outside h r (event.RegionCopied new source offset pages) past cause homes file used home =
-    let less : r < named header = grind (arith, nat_tests, file_declared header r file) in
-    let more = named_regions header past in
-    let number = cause.1.next in
-    let other : (r == new.0) ≡ false = unlike r new.0 (λ same. omega (arith, same, less, more, number)) in
-    rw other used
-file_one header outside h r (event.Entered task address bytes region offset prot inherit) past cause homes file used home = elim (eqb_tells r region.0) [
-  | inl same ↦
-      let there = cause.1.file (subst (λ (z : ℕ). is_file header z ≡ true) same.1 file) in
-      let host : cause.1.host ≡ h = homes.stay cause.1.host h r (subst (λ (z : ℕ). in_use header cause.1.host z past ≡ true) (sym same.1) there) home in
-      let lives : lives_on h task.0 past ≡ true = ap (is_on h) (cause.1.lives ∙ ap Some host) ∙ own_host h in
-      rw (same.0, lives) used
-  | inr apart ↦ rw apart.0 used
-]
-file_one header outside h r (event.Removed task address bytes) past cause homes file used home = rw (file_declared header r file) used
-file_one header outside h r (event.TaskEnded task) past cause homes file used home = rw (file_declared header r file) used
-file_one header outside h r (event.Failed task object page) past cause homes file used home = rw (file_declared header r file) used
-file_one header outside h r other past cause homes file used home = used
-
-homes_more : (header : Header) (outside : Outside) (h : ℕ) (events past : List Event) → EachIn (IsAbroad header outside h) events past → HaveHomes header past → HaveHomes header (events ++ past)
-homes_more header outside h [] past abroad homes = homes
-homes_more header outside h (e ∷ events) past abroad homes = homes_next header outside e (events ++ past) abroad.0.cause (homes_more header outside h events past abroad.1 homes)
-
-file_more : (header : Header) (outside : Outside) (h : ℕ) (events past : List Event) → EachIn (IsAbroad header outside h) events past → HaveHomes header past → (r : ℕ) → is_file header r ≡ true → in_use header h r past ≡ true → home_of r past ≡ Some h → in_use header h r (events ++ past) ≡ true
-file_more header outside h [] past abroad homes r file used home = used
-file_more header outside h (e ∷ events) past abroad homes r file used home =
-    file_one header outside h r e (events ++ past) abroad.0.cause (homes_more header outside h events past abroad.1 homes) file (file_more header outside h events past abroad.1 homes r file used home) (homes_stay r h events past home)
-
 module _ (header : Header) (outside : Outside) (h : ℕ) (k : Parts) (ids : Ids) (events past : List Event) (sound : Sound header past) (rests : Rests header h k ids past) (abroad : EachIn (IsAbroad header outside h) events past) where
   stay : SameForHost header h past (events ++ past)
   stay = stays header outside h events past sound (knows_of header h k ids past rests) abroad
@@ -314,8 +277,8 @@ module _ (header : Header) (outside : Outside) (h : ℕ) (k : Parts) (ids : Ids)
   rests_abroad next common =
       rests_same header h k ids next past (events ++ past) rests stay.same common
       (apart_abroad header outside h events past abroad (apart_of header h k ids past rests))
-      (file_more header outside h events past abroad rests.matches.homeless)
       (λ r is. homes_stay r h events past is)
+      (λ r. homes_abroad header outside h r events past abroad)
       (λ o is. objects_stay o h events past is)
 
   pub queue_abroad : HasQueue header h k past → HasQueue header h k (events ++ past)

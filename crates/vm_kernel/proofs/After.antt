@@ -1,5 +1,5 @@
 -- What a history says of regions, of objects and of where they are, behind an event that changes none of these.
-use Rattle.vm_kernel.proofs.Common.{Backing, Bool, ChainTable, Event, HasControls, HasRegions, HaveHomes, Header, Ids, List, None, ObjectTable, Option, Region, Some, ap, arith, backing_of, home_of, in_use, marked_below, marked_regions, next_object, next_region, object_home, refl, region_of, subst, suc, sym, zero, ℕ, if◌then◌else◌, ◌+◌, ◌∙◌, ◌≡◌, ◌≤◌, ◌∷◌}
+use Rattle.vm_kernel.proofs.Common.{Backing, Bool, ChainTable, Event, HasControls, HasRegions, HaveHomes, Header, Ids, List, None, ObjectTable, Option, Region, Some, ap, arith, backing_of, home_of, in_use, marked_below, marked_regions, next_object, next_region, object_home, refl, region_of, subst, suc, sym, zero, ℕ, if◌then◌else◌, ◌+◌, ◌∙◌, ◌≡◌, ◌≤◌, ◌⊎◌, ◌∷◌}
 use Rattle.vm_abroad.specs.Home.{home_at, region_for}
 use Rattle.vm_model.specs.Named.{named}
 use Rattle.vm_model.specs.Waiting.{copy_target}
@@ -96,6 +96,7 @@ homeless_after leaves homes =
       regions = λ r high. leaves.home r ∙ homes.regions r (subst (λ (z : ℕ). z ≤ r) leaves.regions_made high);
       objects = λ o high. leaves.made_for o ∙ homes.objects o (subst (λ (z : ℕ). z ≤ o) leaves.objects_made high);
       stay = λ g h r used home. homes.stay g h r (sym (leaves.used g r) ∙ used) (sym (leaves.home r) ∙ home);
+      files = λ r h file there. leaves.used h r ∙ homes.files r h file (subst (λ (z : Option ℕ). (z ≡ None) ⊎ (z ≡ Some h)) (leaves.home r) there);
       whole = λ r declared. leaves.region r ∙ homes.whole r declared;
       bare = λ o declared. ap (λ (z : Backing). z.backed) (leaves.backing o) ∙ homes.bare o declared;
       fills = λ task target is. homes.fills task target (sym (leaves.target task) ∙ is);

@@ -56,11 +56,12 @@ matches_asked header h k ids past key control access frame memory m live c plan 
       tasks = m.tasks;
       regions = rw plan.objects (regions_behind header (requesting h key control access) past k.chains k.memory.objects ids (λ r. refl) m.regions);
       homes = m.homes;
+      files = rw plan.objects m.files;
       entries = m.entries;
       pages = rw (plan.objects, own_host h) pages2;
       uses = m.uses;
       controls = rw plan.objects (controls_stay (λ o home. object_stays o h (requesting h key control access) past home) m.controls);
-      homeless = record { regions = m.homeless.regions; objects = m.homeless.objects; stay = m.homeless.stay; whole = m.homeless.whole; bare = m.homeless.bare; fills = m.homeless.fills };
+      homeless = record { regions = m.homeless.regions; objects = m.homeless.objects; stay = m.homeless.stay; files = m.homeless.files; whole = m.homeless.whole; bare = m.homeless.bare; fills = m.homeless.fills };
       settled = record { returned = refl; shut = λ region. refl };
       laundry = laundry_changed key frame _ _ _ _ _ k.memory memory k.laundry (returns_out h past) m.laundry c;
       frames = rw (own_host h) (frames_changed (slice_get (reverse header.frames.items) h) key frame _ _ _ _ _ k.memory memory (frames_held header.size h past) (frames_held header.size h past + 1) (frames_wired h past) m.frames c (λ held. let more = c.claims in omega arith));

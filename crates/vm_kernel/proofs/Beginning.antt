@@ -120,6 +120,7 @@ begun_matches header h k ids past waits task (want.Load address size) rows m liv
       controls = controls_after leaves m.controls;
       homeless = homeless_after leaves m.homeless;
       homes = m.homes;
+      files = m.files;
       settled = record { returned = refl; shut = λ region. refl };
       laundry = m.laundry;
       frames = m.frames;
@@ -143,6 +144,7 @@ begun_matches header h k ids past waits task (want.Store address size value) row
       controls = controls_after leaves m.controls;
       homeless = homeless_after leaves m.homeless;
       homes = m.homes;
+      files = m.files;
       settled = record { returned = refl; shut = λ region. refl };
       laundry = m.laundry;
       frames = m.frames;

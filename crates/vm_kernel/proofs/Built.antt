@@ -1,5 +1,5 @@
 -- A command that is built is one of those that a kernel knows.
-use Rattle.vm_kernel.proofs.Common.{Command, Event, Header, HostId, Ids, Inherit, List, Parts, Prot, Starts, TaskId, acts_on, ap, changes_entries, false, host_id, kernel_runs, refl, subst, true, ℕ, ◌==◌, ◌∙◌, ◌≡◌, ◌≢◌}
+use Rattle.vm_kernel.proofs.Common.{Command, Event, Header, HostId, Ids, Inherit, List, ObjectId, Parts, Prot, Starts, TaskId, acts_on, ap, changes_entries, false, host_id, kernel_runs, refl, subst, true, ℕ, ◌==◌, ◌∙◌, ◌≡◌, ◌≢◌}
 use Rattle.vm_model.specs.declared.command.Command.TheVariants as command
 use Rattle.vm_kernel.proofs.Own.{host_same}
 
@@ -8,6 +8,7 @@ pub record IsUnknown (c : Command) : Type 0 where
   pub task : (task : TaskId) (host : HostId) → c ≢ command.Task task host
   pub fork : (task child : TaskId) → c ≢ command.Fork task child
   pub exit : (task : TaskId) → c ≢ command.Exit task
+  pub map : (task : TaskId) (address bytes : ℕ) (object : ObjectId) (offset : ℕ) → c ≢ command.Map task address bytes object offset
   pub allocate : (task : TaskId) (address bytes : ℕ) → c ≢ command.Allocate task address bytes
   pub deallocate : (task : TaskId) (address bytes : ℕ) → c ≢ command.Deallocate task address bytes
   pub protect : (task : TaskId) (address bytes : ℕ) (prot : Prot) → c ≢ command.Protect task address bytes prot
@@ -23,6 +24,7 @@ pub none_unknown : (c : Command) → kernel_runs c ≡ true → IsUnknown c → 
 none_unknown (command.Task task host) built unknown = unknown.task task host refl
 none_unknown (command.Fork task child) built unknown = unknown.fork task child refl
 none_unknown (command.Exit task) built unknown = unknown.exit task refl
+none_unknown (command.Map task address bytes object offset) built unknown = unknown.map task address bytes object offset refl
 none_unknown (command.Allocate task address bytes) built unknown = unknown.allocate task address bytes refl
 none_unknown (command.Deallocate task address bytes) built unknown = unknown.deallocate task address bytes refl
 none_unknown (command.Protect task address bytes prot) built unknown = unknown.protect task address bytes prot refl

@@ -191,6 +191,7 @@ ran_protect header h outside task address bytes prot past events k ids maps mid 
             controls = controls_after leaves m.controls;
             homeless = homeless_after leaves m.homeless;
             homes = c.homes;
+            files = m.files;
             settled = record { returned = refl; shut = λ region. refl };
             laundry = m.laundry;
             frames = m.frames;
@@ -258,6 +259,7 @@ ran_inherit header h outside task address bytes inherit past events k ids maps m
             controls = controls_after leaves m.controls;
             homeless = homeless_after leaves m.homeless;
             homes = c.homes;
+            files = m.files;
             settled = record { returned = refl; shut = λ region. refl };
             laundry = m.laundry;
             frames = m.frames;

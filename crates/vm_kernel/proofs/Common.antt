@@ -126,14 +126,14 @@ pub use Rattle.vm_kernel.specs.Fits.{ArePlain, IsPlainRow, PartsFit}
 pub use Rattle.vm_kernel.specs.Forking.{CanCopy, CanShare, EntersCopy, Shares, entry_on, got}
 pub use Rattle.vm_state.specs.Stands.{AllEntriesInside, AllUsed, AreShared, EachApart, HasControls, HasEntries, HasFrames, HasHomes, HasKinds, HasLaundry, HasPages, HasRegions, HasTasks, HasUse, IsDeclared, IsInside, IsOfKind, IsShared, IsTemporary, IsWashed, is_among}
 pub use Rattle.vm_state.specs.References.{AllReferred, AllReferredBut}
-pub use Rattle.vm_kernel.specs.Matches.{HasOrder, HasWaits, IsPlain, IsRanged, IsSettled, Matches, Rests, Works, first_ids, host_id}
+pub use Rattle.vm_kernel.specs.Matches.{HasOrder, HasWaits, IsRanged, IsSettled, Matches, Rests, Works, first_ids, host_id}
 pub use Rattle.vm_state.specs.Pagers.{has_pager, is_ready_state, last_in, live_in, ready_in}
 pub use Rattle.vm_state.specs.Places.{entries_in_row, has_region, local_of_row, lock_number, pages_in, place_of, region_entries, region_pages, with_entries}
 pub use Rattle.vm_kernel.specs.Plays.{AnswerBrings, DepartsFrom, Does, IsVictim, Marks, Paging, Plays, PlaysAnswer, Still, Then, frame_here, paging, places_with_frame}
 pub use Rattle.vm_kernel.specs.Refusing.{IsForHere, acting_in, code_of, is_marked, object_total, takes_name}
 pub use Rattle.vm_kernel.specs.Serving.{Attempts, FreesOrReturns, HasQueue, IsHere, IsNextAccess, JoinsQueue, QueueIsServed, RunsFirst}
 pub use Rattle.vm_kernel.specs.Sweeping.{EndsObject, EndsRegion, Lowered, PutsEntries, Raised, Sweeps}
-pub use Rattle.vm_kernel.specs.Taking.{EachGone, EndsAll, EndsEach, EndsNobody, FailsNow, HasAsker, HasEnded, HasFailed, IsAbsencePaid, IsAnswered, IsErrorPaid, IsTempAnswer}
+pub use Rattle.vm_kernel.specs.Taking.{EachGone, EndsAll, EndsEach, EndsNobody, FailsNow, HasAsker, HasEnded, HasFailed, IsAbsencePaid, IsAnswered, IsErrorPaid, IsPlainAnswer}
 pub use Rattle.vm_kernel.specs.Turns.{ClaimsInTurn, Did, ForAsked, ForZeros, Found, Goes, IsBrought, Joins, KeepsOthers, LeavesInTurn, Nothing, QueueAfter, QueueIsStill, Restarted, Restarts, RunsNobody, RunsNone, RunsNoneYet, RunsOnce, Start}
 pub use Rattle.vm_state.specs.Waiters.{Asker, BeganInOrder, HasWaiters, IsAsked, IsPagerTold, IsPlaceOf, LeadsTo, Reason, access_in, is_woken, waiting_in}
 pub use Rattle.vm_fault.specs.Walks.{IsAt, IsUnder}

@@ -15,6 +15,7 @@ use Rattle.vm_shadow.specs.Chains.{CopiesRegion, copy_of, shadow_at}
 use Rattle.vm_state.proofs.Changing.{SameButEntries, regions_recounted}
 use Rattle.vm_state.proofs.Copying.{regions_copied}
 use Rattle.vm_state.proofs.Counting.{elsewhere}
+use Rattle.vm_state.proofs.Files.{files_entered, files_put, no_file}
 use Rattle.vm_state.proofs.Marks.{marked_copied}
 use Rattle.vm_state.proofs.Places.{keeps_copied}
 use Rattle.vm_state.proofs.Referred.{referred_copied, referred_recounted}
@@ -292,7 +293,7 @@ copy_pages : (header : Header) (copy source : RegionId) (offset pages : ℕ) (pa
 copy_pages header copy source offset pages past = elim (eqb_tells copy.0 copy.0) [ inl same ↦ ap (λ (b : Bool). if b then pages else (region_of header copy.0 past).pages) same.0 | inr apart ↦ absurd (apart.1 refl) ]
 
 -- a declared region of one host is a file's
-file_of : (header : Header) (r : ℕ) → r < named header → cause.is_paged header r ≡ true → is_file header r ≡ true
+pub file_of : (header : Header) (r : ℕ) → r < named header → cause.is_paged header r ≡ true → is_file header r ≡ true
 file_of header r declared paged = let test : nat_lt r (named header) ≡ true = grind (arith, nat_tests) in sym (ap (λ b. not b || is_file header r) test) ∙ paged
 
 some_use : (n : ℕ) → 0 < n → nat_lt 0 n ≡ true
@@ -411,7 +412,7 @@ rests_copied header h outside doing task source offset row past k k2 ids ids2 be
       matches =
           record {
             ranged = m.ranged;
-            declared = s.declared ∙ m.declared;
+            declared = ap (λ z. z.items) s.declared ∙ m.declared;
             kinds = kinds_copied header source.0 s.copy.0 offset pages s.region s.known k.chains s.mid k2.chains k.memory.objects k2.memory.objects once may.temporary (referred_source m.regions source.0 s.region s.known s.there s.object) s.object s.refers s.absent m.kinds;
             shared = shared_entered (named header) task.0 k.maps k2.maps new s.maps (temporary_shared (named header) new (let more = named_regions header past in omega (arith, number, more))) m.shared;
             known = m.known;
@@ -429,6 +430,9 @@ rests_copied header h outside doing task source offset row past k k2 ids ids2 be
                 (regions_recounted s.mid k2.chains k2.memory.objects ids2 _ _ _ _ _ recount
                 (regions_copied header past s.copy source offset pages s.region s.known k.chains s.mid k.memory.objects k2.memory.objects ids ids2 (next_region header past) (next_object header past) (marked_regions header past) (marked_regions header (now ∷ past)) s.there number within copies s.object s.refers
                 (ap (λ z. z.next_region) s.ids) (ap (λ z. z.next_object) s.ids) marks few m.regions));
+            files =
+                files_entered header h task new k2.memory.objects (now ∷ past) (λ file. absurd (no_file header s.copy.0 (let more = named_regions header past in omega (arith, number, more)) file))
+                (files_put header h top s.known (record s.known { references = s.known.references + 1 }) k.memory.objects k2.memory.objects (λ o. home_of o past) s.object s.refers m.files);
             homes = λ r found_row paged found. by_row number r found_row paged (row_now source.0 s.copy.0 offset pages s.region k.chains s.mid k2.chains once r found_row found);
             entries = entries_copy size k.maps k2.maps source.0 offset s.region k.chains s.mid k2.chains task.0 s.copy row m.entries once s.maps below free;
             pages = record { shown = λ o p. rw (frames_are, rows_are) (m.pages.shown o p ∙ ap (local_of_row k.memory.frames (row_at k.memory.resident o p)) (sym (s.absent.at o p))) };

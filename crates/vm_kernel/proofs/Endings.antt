@@ -95,6 +95,7 @@ sweeps_exit header h outside task past events k ids maps gone s value changes =
           controls = controls_stay (λ o is. object_stays o h (event.TaskEnded task) past is) m.controls;
           homeless = homes_next header outside (event.TaskEnded task) past (command.Exit task, idle) m.homeless;
           homes = c.homes;
+          files = m.files;
           settled = record { returned = refl; shut = λ region. refl };
           laundry = m.laundry;
           frames = m.frames;
@@ -178,6 +179,7 @@ sweeps_removed header h outside task address bytes past events k ids maps mid hi
           controls = controls_stay (λ o is. object_stays o h (event.Removed task address bytes) past is) m.controls;
           homeless = homes_next header outside (event.Removed task address bytes) past (command.Deallocate task address bytes, idle) m.homeless;
           homes = c.homes;
+          files = m.files;
           settled = record { returned = refl; shut = λ region. refl };
           laundry = m.laundry;
           frames = m.frames;

@@ -71,6 +71,7 @@ runs_less header h outside doing past k ids entry rest events chains s put =
         controls = m.controls;
         homeless = m.homeless;
         homes = recount_homes count header h k.chains chains (λ r. home_of r moment) is m.homes;
+        files = m.files;
         settled = m.settled;
         laundry = m.laundry;
         frames = m.frames;

@@ -156,6 +156,7 @@ failed_one header h outside doing past old events key k ids w waits f found pass
                   controls = controls_stay (λ o held. object_stays o h e moment held) was.controls;
                   homeless = homes_next header outside e moment (doing, cause) was.homeless;
                   homes = was.homes;
+                  files = was.files;
                   settled = record { returned = refl; shut = λ region. refl };
                   laundry = was.laundry;
                   frames = was.frames;

@@ -86,7 +86,7 @@ led_both : (header : Header) (past : List Event) (k : Parts) (old mid new : Fini
 led_both header past k old mid new one two = record { plays = plays_both one.plays two.plays; quiet = λ all. two.quiet (one.quiet all) }
 
 -- the change of a page, whatever the buffers are
-changes_beside : {key : PageKey} {frame : FrameNo} {was now : Option PageRow} {held : Bool} {bytes : List ℕ} {lists : Queues} (old new : HostParts) (k : Parts) → Changes key frame was now held bytes lists old new
+pub changes_beside : {key : PageKey} {frame : FrameNo} {was now : Option PageRow} {held : Bool} {bytes : List ℕ} {lists : Queues} (old new : HostParts) (k : Parts) → Changes key frame was now held bytes lists old new
     → Changes key frame was now held bytes lists (record old { buffers = k.memory.buffers }) (record new { buffers = k.memory.buffers })
 changes_beside old new k c =
     record {
@@ -138,7 +138,7 @@ page_leaves header h outside doing past k ids rest object known page row old new
       ends = subst (λ (z : List Event). EndsObject header h outside doing past (of_state k new) ids rest object.0 z) (sym events)
           (subst (λ (z : Parts). EndsObject header h outside doing past z ids rest object.0 (going_back h key known row (page_in old.parts.frames row.frame.0) ∷ old.events)) (sym same)
           (ends_returned header h outside doing past base ids rest key known row memory laundry old.events e goes));
-      led = record { plays = plays_told events (inr (departs_unheld header h outside doing past base ids rest key row _ _ memory old.events e declared here (changes_beside old.parts new.parts k c))); quiet = λ all. subst (EachOf RunsNone) (sym events) (tt, all) };
+      led = record { plays = plays_told events (inr (inl (departs_unheld header h outside doing past base ids rest key row _ _ memory old.events e declared here (changes_beside old.parts new.parts k c)))); quiet = λ all. subst (EachOf RunsNone) (sym events) (tt, all) };
       found = objects.at object.0;
       gone = row_put old.parts.resident new.parts.resident object.0 page.0 None c.row;
       before = λ q none. elim (row_cases object.0 page.0 None old.parts.resident new.parts.resident c.row object.0 q) [ inl put ↦ put.is | inr apart ↦ apart.is ∙ none ];

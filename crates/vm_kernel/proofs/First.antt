@@ -1,5 +1,5 @@
 -- The kernel before anything has happened.
-use Rattle.vm_kernel.proofs.Common.{All, BeganInOrder, EachApart, Event, Header, Ids, IsRanged, IsStart, IsWashed, List, None, Parts, Rests, Some, Starts, TaskId, Waiting, [], absent_among, absent_at, all_tasks, away, ap, arith, begun_at, claimed, count_again, count_by, count_claims, entry, false, first_ids, frame_count, host_id, in_use, last_in, length, length-replicate, live_in, marked_below, marked_regions, named, nat_lt, nat_tests, none_of, not, object_among, object_at, refl, region_at, replicate, reverse, row_at, shadow_at, slice_get, subst, suc, sym, waiting_in, zero, ℕ, ◌<◌, ◌≤◌, ◌∙◌, ◌∷◌, ◌≡◌}
+use Rattle.vm_kernel.proofs.Common.{All, BeganInOrder, Declared, EachApart, Event, Header, Ids, IsRanged, IsStart, IsWashed, List, None, Parts, Rests, Some, Starts, TaskId, Waiting, [], absent_among, absent_at, all_tasks, away, ap, arith, begun_at, claimed, count_again, count_by, count_claims, entry, false, first_ids, frame_count, host_id, in_use, is_some, last_in, length, length-replicate, live_in, marked_below, marked_regions, named, nat_lt, nat_tests, none_of, not, object_among, object_at, refl, region_at, replicate, reverse, reverse-append, row_at, shadow_at, slice_get, subst, suc, sym, take, waiting_in, zero, ℕ, ◌+◌, ◌<◌, ◌≤◌, ◌∙◌, ◌∷◌, ◌≡◌}
 use Rattle.std.proofs.Math.Bool.{and-false}
 use Rattle.vm_abroad.proofs.Home.{homes_start}
 use Rattle.vm_model.specs.declared.command.Command.TheVariants as command
@@ -7,10 +7,16 @@ use Rattle.vm_model.specs.declared.event.Event.TheVariants as event
 use Rattle.vm_kernel.proofs.After.{Leaves, controls_after, homeless_after, regions_after}
 use Rattle.vm_kernel.proofs.Counts.{by_none}
 use Rattle.vm_kernel.proofs.Own.{own_host}
+use Rattle.vm_kernel.proofs.Recounts.{more_taken}
 
 no_claims : (n : ℕ) → count_claims (replicate n false) ≡ 0
 no_claims zero = refl
 no_claims (suc n) = no_claims n
+
+-- one more of the declared objects stands in their copy
+pub copied_more : (objects kept new : List Declared) (i : ℕ) (object : Declared) → slice_get (reverse objects) i ≡ Some object → kept ≡ reverse (take i (reverse objects)) → new ≡ object ∷ kept → new ≡ reverse (take (i + 1) (reverse objects))
+copied_more objects kept new i object found was more =
+    more ∙ (ap (λ z. object ∷ z) was ∙ sym (ap reverse (more_taken (reverse objects) i object found) ∙ reverse-append (take i (reverse objects)) (object ∷ [])))
 
 -- no entry leads to a region yet
 no_entries : (size r : ℕ) → count_by all_tasks r (record { size = size; tasks = [] }) ≡ 0
@@ -28,7 +34,7 @@ unmarked : (header : Header) (n : ℕ) → marked_below header n [] ≡ 0
 unmarked header zero = refl
 unmarked header (suc n) = unmarked header n
 
-pub first_rests : (header : Header) (h : ℕ) (k : Parts) (count : ℕ) → IsRanged header → h < length header.frames.items → k.size ≡ header.size → k.host.0 ≡ h → k.declared ≡ named header → slice_get (reverse header.frames.items) h ≡ Some count → IsStart count header.size k.memory
+pub first_rests : (header : Header) (h : ℕ) (k : Parts) (count : ℕ) → IsRanged header → h < length header.frames.items → k.size ≡ header.size → k.host.0 ≡ h → k.declared.items ≡ header.objects.items → slice_get (reverse header.frames.items) h ≡ Some count → IsStart count header.size k.memory
     → k.maps ≡ record { size = header.size; tasks = [] } → ((r : ℕ) → region_at k.chains r ≡ None) → ((o : ℕ) → shadow_at k.chains o ≡ None) → k.laundry.held ≡ [] → k.laundry.room ≡ count → k.waits.rows ≡ []
     → Rests header h k (first_ids header) []
 first_rests header h k count ranged known size host declared hosts start maps regions shadows held room waits =
@@ -96,6 +102,7 @@ first_rests header h k count ranged known size host declared hosts start maps re
                 };
             homeless = homes_start header;
             homes = λ r row paged is. none_of (region_at k.chains r) row (regions r) is;
+            files = λ o file. sym (ap is_some (objects o));
             settled = record { returned = refl; shut = λ region. refl };
             laundry =
                 record {
@@ -150,6 +157,7 @@ rests_line header h k ids line past rests =
             controls = controls_after leaves m.controls;
             homeless = homeless_after leaves m.homeless;
             homes = m.homes;
+            files = m.files;
             settled = record { returned = refl; shut = λ region. refl };
             laundry = m.laundry;
             frames = m.frames;

@@ -22,7 +22,7 @@ pub record Follows (header : Header) (h : ℕ) (outside : Outside) (doing : Comm
   pub inner : IsInner e
   pub said : KernelSays h header.size e
   pub own : IsOnlyOfHost header h e past
-  pub creates : CreatesHere h e past
+  pub creates : CreatesHere header h e past
 
 pub grows_more : (header : Header) (h : ℕ) (outside : Outside) (doing : Command) (past events : List Event) (e : Event) → Grows header h outside doing past events → IsSettled (events ++ past) → Follows header h outside doing e (events ++ past)
     → Grows header h outside doing past (e ∷ events)

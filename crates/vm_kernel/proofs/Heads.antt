@@ -42,7 +42,7 @@ pub record IsOne (header : Header) (h : ℕ) (outside : Outside) (doing : Comman
   pub inner : IsInner e
   pub said : KernelSays h header.size e
   pub own : IsOnlyOfHost header h e past
-  pub creates : CreatesHere h e past
+  pub creates : CreatesHere header h e past
 
 pub heads_one : (header : Header) (h : ℕ) (outside : Outside) (doing : Command) (past : List Event) (e : Event) → IsOne header h outside doing past e → Heads header h outside doing past (e ∷ [])
 heads_one header h outside doing past e is =

@@ -1,5 +1,5 @@
 -- What a message of a pager comes to, once it is heard.
-use Rattle.vm_kernel.proofs.Common.{AnswerEffects, AnswerOutcome, Asked, Bool, Command, Discarded, EndsNobody, Event, Failed, FailsNow, Fit, FrameTable, HasAsker, Header, HostParts, Ids, IsAbsencePaid, IsAnswer, IsAnswered, IsBrought, IsTempAnswer, Lacked, LegalEvents, List, Message, None, ObjectId, ObjectKind, ObjectRow, ObjectTable, Option, Outside, PageNo, PageRow, PagerState, Parts, Readied, Rests, Some, Supplied, Temp, Woken, Works, Zeroed, [], absence_taken, absent_at, ap, arith, asked_row, false, if◌then◌else◌, inl, inr, is_control, is_ready_state, is_some, key_of, live_control, live_in, live_outcome, local, local_of_row, named, not, object_at, outcome_of, place_of, ready_in, ready_outcome, refl, row_at, some_is, subst, sym, true, unavailable_outcome, ℕ, ◌&&◌, ◌++◌, ◌<◌, ◌==◌, ◌||◌, ◌∙◌, ◌∷◌, ◌≡◌, ◌≢◌, ◌≤◌}
+use Rattle.vm_kernel.proofs.Common.{AnswerEffects, AnswerOutcome, Asked, Bool, Command, Discarded, EndsNobody, Event, Failed, FailsNow, Fit, FrameTable, HasAsker, Header, HostParts, Ids, IsAbsencePaid, IsAnswer, IsAnswered, IsBrought, IsPlainAnswer, Lacked, LegalEvents, List, Message, None, ObjectId, ObjectKind, ObjectRow, ObjectTable, Option, Outside, PageNo, PageRow, PagerState, Parts, Readied, Rests, Some, Supplied, Temp, Woken, Works, Zeroed, [], absence_taken, absent_at, ap, arith, asked_row, false, if◌then◌else◌, inl, inr, is_control, is_ready_state, is_some, key_of, live_control, live_in, live_outcome, local, local_of_row, named, not, object_at, outcome_of, place_of, ready_in, ready_outcome, refl, row_at, some_is, subst, sym, true, unavailable_outcome, ℕ, ◌&&◌, ◌++◌, ◌<◌, ◌==◌, ◌||◌, ◌∙◌, ◌∷◌, ◌≡◌, ◌≢◌, ◌≤◌}
 use Rattle.vm_model.specs.declared.message.Message.TheVariants as message
 use Rattle.vm_objects.specs.declared.row.PagerState.TheVariants as state
 use Rattle.vm_kernel.proofs.Answers.{IsNothing, hears, lives, nothing_dead, ready_again, unfailed, unlacked, unsupplied}
@@ -35,7 +35,7 @@ unasked_shows fs (Some row) lacked none = by_here row.here none
 
 -- the step took no word that a pager has no page, but of a temporary object
 
-no_absence : (header : Header) (past : List Event) → absence_taken header.size past ≡ None → IsAbsencePaid header past
+pub no_absence : (header : Header) (past : List Event) → absence_taken header.size past ≡ None → IsAbsencePaid header past
 no_absence header past none = λ host object page declared is. absurd (let bad : None ≡ Some (record { host = host; object = object; page = page }) = sym none ∙ is in cc)
 
 -- a page of a host's object
@@ -113,7 +113,7 @@ heard_zeros header h outside doing k ids after past object control page who new 
     })
 
 hears_it : (header : Header) (h : ℕ) (outside : Outside) (doing : Command) (k : Parts) (ids : Ids) (after past : List Event) (object : ObjectId) (control : ℕ) (m : Message) (who : Woken) (new : HostParts)
-    → Hearing header h k ids new past → IsTempAnswer k.size m → AnswerEffects k.host object (outcome_of (object_at k.memory.objects object.0) control (row_at k.memory.resident object.0) m) who k.memory new [] after
+    → Hearing header h k ids new past → IsPlainAnswer k.size m → AnswerEffects k.host object (outcome_of (object_at k.memory.objects object.0) control (row_at k.memory.resident object.0) m) who k.memory new [] after
     → Heard header h outside doing k ids who new after (hears h object control m ∷ past)
 hears_it header h outside doing k ids after past object control m who new was temp answered = by_known (object_at k.memory.objects object.0) refl answered
   where
@@ -181,7 +181,7 @@ hears_it header h outside doing k ids after past object control m who new was te
     by_kind known page kinds.Shared is found lives_now done = zeroed_now known page kinds.Shared is (λ bad. (let clash : kinds.Shared ≡ kinds.Temp = bad in cc)) found lives_now done
     by_kind known page kinds.Wild is found lives_now done = zeroed_now known page kinds.Wild is (λ bad. (let clash : kinds.Wild ≡ kinds.Temp = bad in cc)) found lives_now done
 
-    by_message : (known : ObjectRow) (said : Message) → IsTempAnswer k.size said → object_at k.memory.objects object.0 ≡ Some known → known.live ≡ true → lives h object control past ≡ true → live_control h object.0 past ≡ Some known.control
+    by_message : (known : ObjectRow) (said : Message) → IsPlainAnswer k.size said → object_at k.memory.objects object.0 ≡ Some known → known.live ≡ true → lives h object control past ≡ true → live_control h object.0 past ≡ Some known.control
         → Answers (live_outcome known (row_at k.memory.resident object.0) said) → Hear said
     by_message known (message.Ready cache strategy) plain found live lives_now number done = by_state known cache strategy known.state refl found live lives_now number done
     by_message known (message.Supply page lock precious bytes) plain found live lives_now number done =
@@ -209,7 +209,7 @@ hears_it header h outside doing k ids after past object control m who new was te
     by_known (Some known) found done = by_test known (known.live && known.control == control) refl found done
 
 pub hears_done : (header : Header) (h : ℕ) (outside : Outside) (doing : Command) (k : Parts) (ids : Ids) (before after past front : List Event) (object : ObjectId) (control : ℕ) (m : Message) (who : Woken) (new : HostParts)
-    → Rests header h k ids past → front ≡ hears h object control m ∷ [] → IsTempAnswer k.size m → before ≡ [] → Fit new → new.buffers ≡ k.memory.buffers
+    → Rests header h k ids past → front ≡ hears h object control m ∷ [] → IsPlainAnswer k.size m → before ≡ [] → Fit new → new.buffers ≡ k.memory.buffers
     → AnswerEffects k.host object (outcome_of (object_at k.memory.objects object.0) control (row_at k.memory.resident object.0) m) who k.memory new before after → Heard header h outside doing k ids who new after (front ++ past)
 hears_done header h outside doing k ids before after past front object control m who new rests is temp none fit same answered =
     subst (λ (z : List Event). Heard header h outside doing k ids who new after (z ++ past)) (sym is)
@@ -217,7 +217,7 @@ hears_done header h outside doing k ids before after past front object control m
     (subst (λ (z : List Event). AnswerEffects k.host object (outcome_of (object_at k.memory.objects object.0) control (row_at k.memory.resident object.0) m) who k.memory new z after) none answered))
 
 -- the message is one that the host can take, and its parts fit
-pub plain_answer : (size : ℕ) (m : Message) → IsTempAnswer size m → IsAnswer size m
+pub plain_answer : (size : ℕ) (m : Message) → IsPlainAnswer size m → IsAnswer size m
 plain_answer size (message.Ready cache strategy) temp = tt
 plain_answer size (message.Supply page lock precious bytes) temp = (subst (λ (z : ℕ). z < 4) (sym temp.0) (omega arith), temp.2)
 plain_answer size (message.Unavailable page) temp = tt

@@ -1,5 +1,5 @@
 -- A message of a pager is taken: what the kernel stands for behind it.
-use Rattle.vm_kernel.proofs.Common.{Access, AllReferred, ArePlain, Backing, Bool, Cancels, ChainTable, Changes, Command, Elsewhere, EndsNobody, Event, FailsNow, FailsPage, FillsPage, Fit, FrameTable, HasAsker, HasControls, HasFrames, HasHomes, HasKinds, HasLaundry, HasOrder, HasPages, HasRegions, HasTasks, HasUse, HasWaiters, Header, HostId, HostParts, Ids, IsAnswered, IsAsked, IsOfKind, IsPagerTold, IsReferred, IsSettled, Lacks, List, Local, LocalEffect, Mapped, Message, None, ObjectId, ObjectRow, ObjectTable, On, Option, Outside, PageNo, PageRow, Parts, PutsObject, PutsRow, Readies, Reason, Region, ResidentTable, Rests, SameMarks, SameObjects, Some, Supplies, TakesError, TakesNothing, TakesPage, Waiting, Want, Woken, Works, Zeroes, [], absent_at, added, ap, arith, asked_is, asked_row, away, backing_of, clean_row, count_released, entries_of, eqb_tells, false, frames_held, frames_wired, holds, home_of, host_id, host_of, if◌then◌else◌, in_use, inl, inr, is_control, is_ready, is_some, is_woken, key_of, last_control, last_in, live_control, live_in, local, local_after, local_of_row, lock_numbered, marked_regions, named, nat_lt, nat_tests, next_object, next_region, not, object_at, object_home, one_case, page_in, page_key, place_of, ready_in, refl, region_of, replicate, returns_out, reverse, row_at, row_cases, slice_get, some_is, subst, sym, true, unlocked, waiting, ℕ, ◌&&◌, ◌+◌, ◌-◌, ◌<◌, ◌==◌, ◌^◌, ◌∙◌, ◌∷◌, ◌≡◌, ◌≤◌, ◌⊎◌}
+use Rattle.vm_kernel.proofs.Common.{Access, AllReferred, ArePlain, Backing, Bool, Cancels, ChainTable, Changes, Command, Elsewhere, EndsNobody, Event, FailsNow, FailsPage, FillsPage, Fit, FrameTable, HasAsker, HasControls, HasFrames, HasHomes, HasKinds, HasLaundry, HasOrder, HasPages, HasRegions, HasTasks, HasUse, HasWaiters, Header, HostId, HostParts, Ids, IsAnswered, IsAsked, IsOfKind, IsPagerTold, IsReferred, IsSettled, Lacks, List, Local, LocalEffect, Mapped, Message, None, ObjectId, ObjectRow, ObjectTable, On, Option, Outside, PageNo, PageRow, Parts, PutsObject, PutsRow, Readies, Reason, Region, ResidentTable, Rests, SameMarks, SameObjects, Some, Supplies, TakesError, TakesNothing, TakesPage, Waiting, Want, Woken, Works, Zeroes, [], absent_at, added, ap, arith, asked_is, asked_row, away, backing_of, clean_row, count_released, entries_of, eqb_tells, false, frames_held, frames_wired, holds, home_of, host_id, host_of, if◌then◌else◌, in_use, inl, inr, is_control, is_on, is_ready, is_some, is_woken, key_of, last_control, last_in, live_control, live_in, local, local_after, local_of_row, lock_numbered, marked_regions, named, nat_lt, nat_tests, next_object, next_region, not, object_at, object_home, one_case, page_in, page_key, place_of, ready_in, refl, region_of, replicate, returns_out, reverse, row_at, row_cases, slice_get, some_is, subst, sym, true, unlocked, waiting, ℕ, ◌&&◌, ◌+◌, ◌-◌, ◌<◌, ◌==◌, ◌^◌, ◌∙◌, ◌∷◌, ◌≡◌, ◌≤◌, ◌⊎◌}
 use Rattle.vm_model.specs.declared.message.Message.TheVariants as message
 use Rattle.vm_objects.specs.declared.row.PagerState.TheVariants as state
 use Rattle.vm_supply.specs.declared.woken.Woken.TheVariants as woken
@@ -19,7 +19,9 @@ use Rattle.vm_kernel.proofs.Mine.{own_named}
 use Rattle.vm_legal.specs.Licences.{Fills}
 use Rattle.vm_model.specs.declared.event.Event.TheVariants as event
 use Rattle.vm_state.proofs.Declared.{kinds_marked, kinds_put, kinds_same}
+use Rattle.vm_state.proofs.Files.{files_put, files_same}
 use Rattle.vm_state.specs.Places.{known_local}
+use Rattle.vm_state.specs.Stands.{KnowsFiles}
 use Rattle.vm_supply.specs.Answers as supply
 use Rattle.vm_legal.specs.Living.{tasks as made_tasks}
 use Rattle.vm_abroad.proofs.Home.{object_stays}
@@ -58,6 +60,7 @@ pub record Changed (header : Header) (h : ℕ) (k : Parts) (ids : Ids) (who : Wo
   pub plain : ArePlain new.resident
   pub regions : HasRegions k.chains new.objects ids (λ r. region_of header r past) (λ o. backing_of header o past) (next_region header past) (next_object header past) (marked_regions header past)
   pub kinds : HasKinds header new.objects k.chains
+  pub files : KnowsFiles header h new.objects (λ o. home_of o past)
   pub pages : HasPages new.frames new.resident new.objects (λ o p. known_local header o p (local header.size h (place_of o p) now))
   pub controls : HasControls (named header) h new.objects (λ o. last_control h o past) (λ o. live_control h o past) (λ o. is_ready h o now) (λ o. object_home o past)
   pub laundry : HasLaundry new.frames new.resident k.laundry (returns_out h past)
@@ -144,6 +147,7 @@ works_of header h k ids who new past now rests stays fit same c =
             controls = stays.controls c.controls;
             homeless = homeless_after stays.leaves was.homeless;
             homes = stays.homes;
+            files = λ o file. ap (is_on h) (stays.leaves.home o) ∙ c.files o file;
             settled = stays.settled;
             laundry = subst (λ (z : ℕ). HasLaundry new.frames new.resident k.laundry z) (sym stays.returned) c.laundry;
             frames = subst (λ (z : ℕ). HasFrames (slice_get (reverse header.frames.items) h) new.frames (frames_held header.size h now) z) (sym stays.wired) c.frames;
@@ -159,7 +163,7 @@ works_of header h k ids who new past now rests stays fit same c =
 same_referred : (os os2 : ObjectTable) → SameObjects os os2 → (o : ℕ) → IsReferred os2 o → IsReferred os o
 same_referred os os2 same o is = record { row = is.row; known = sym (same.at o) ∙ is.known; some = is.some }
 
-regions_of : (cs : ChainTable) (os os2 : ObjectTable) (ids : Ids) (region_from : ℕ → Region) (backing_from : ℕ → Backing) (regions_made objects_made marked : ℕ)
+pub regions_of : (cs : ChainTable) (os os2 : ObjectTable) (ids : Ids) (region_from : ℕ → Region) (backing_from : ℕ → Backing) (regions_made objects_made marked : ℕ)
     → HasRegions cs os ids region_from backing_from regions_made objects_made marked → SameObjects os os2 → HasRegions cs os2 ids region_from backing_from regions_made objects_made marked
 regions_of cs os os2 ids region_from backing_from regions_made objects_made marked has same =
     record {
@@ -226,6 +230,7 @@ changed_none header h k ids past object control m rests nothing =
       plain = was.fits.plain;
       regions = was.regions;
       kinds = was.kinds;
+      files = was.files;
       pages = pages_eq k.memory.frames k.memory.resident k.memory.objects (λ o p. known_local header o p (local header.size h (place_of o p) past)) (λ o p. known_local header o p (local header.size h (place_of o p) (hears h object control m ∷ past)))
           was.pages (λ o p. ap (known_local header o p) (nothing.pages o p));
       controls = controls_of k.memory.objects k.memory.objects (λ o. last_control h o past) (λ o. live_control h o past) (λ o. is_ready h o past) (λ o. is_ready h o (hears h object control m ∷ past)) was.controls (itself k.memory.objects) nothing.ready;
@@ -327,6 +332,7 @@ changed_ready header h k ids events after past object control cache strategy who
       regions = regions_controlled object.0 known (record known { state = state.Ready }) k.chains k.memory.objects new.objects ids (λ r. region_of header r past) (λ o. backing_of header o past) (next_region header past) (next_object header past) (marked_regions header past)
           readies.found readies.ready refl refl was.regions;
       kinds = kinds_put header object.0 (record known { state = state.Ready }) k.memory.objects new.objects k.chains readies.ready readies.marks (kind_ready header object.0 known (was.kinds.kinds object.0 known readies.found) live) was.kinds;
+      files = files_put header h object.0 known (record known { state = state.Ready }) k.memory.objects new.objects (λ o. home_of o past) readies.found readies.ready was.files;
       pages = pages_marked k.memory.frames k.memory.resident k.memory.objects new.objects (λ o p. known_local header o p (local header.size h (place_of o p) (hears h object control (message.Ready cache strategy) ∷ past)))
           (pages_eq k.memory.frames k.memory.resident k.memory.objects (λ o p. known_local header o p (local header.size h (place_of o p) past))
           (λ o p. known_local header o p (local header.size h (place_of o p) (hears h object control (message.Ready cache strategy) ∷ past))) was.pages
@@ -442,6 +448,7 @@ changed_supplied header h k ids events after past object control page lock preci
       plain = plain_changed key row.frame _ _ _ _ _ k.memory new was.fits.plain comes (record { lock = refl; precious = refl; unlock_sent = refl });
       regions = regions_of k.chains k.memory.objects new.objects ids (λ r. region_of header r past) (λ o. backing_of header o past) (next_region header past) (next_object header past) (marked_regions header past) was.regions same;
       kinds = kinds_same header k.memory.objects new.objects k.chains same (same_marks k.memory.objects new.objects supplies.objects) was.kinds;
+      files = files_same header h k.memory.objects new.objects (λ o. home_of o past) same was.files;
       pages = pages_eq new.frames new.resident new.objects (λ o p. known_local header o p (effect_on header.size key (TakesPage 0 false bytes) local_at o p))
           (λ o p. known_local header o p (local header.size h (place_of o p) (hears h object control (message.Supply page lock precious bytes) ∷ past)))
           (subst (λ (z : ObjectTable). HasPages new.frames new.resident z (λ o p. known_local header o p (effect_on header.size key (TakesPage 0 false bytes) local_at o p))) (sym supplies.objects) pages) (λ o p. ap (known_local header o p) (moves o p));
@@ -486,6 +493,7 @@ changed_ended header h k ids past object control page m effect who row new rests
       plain = plain_changed key row.frame _ _ _ _ _ k.memory new was.fits.plain ends tt;
       regions = regions_of k.chains k.memory.objects new.objects ids (λ r. region_of header r past) (λ o. backing_of header o past) (next_region header past) (next_object header past) (marked_regions header past) was.regions same;
       kinds = kinds;
+      files = files_same header h k.memory.objects new.objects (λ o. home_of o past) same was.files;
       pages = pages_eq new.frames new.resident new.objects (λ o p. known_local header o p (effect_on header.size key effect local_at o p))
           (λ o p. known_local header o p (local header.size h (place_of o p) (hears h object control m ∷ past))) pages
           (λ o p. ap (known_local header o p)
@@ -609,6 +617,7 @@ changed_zeroed header h k ids host after past object control page who new rests 
       plain = plain_changed key row.frame _ _ _ _ _ k.memory new was.fits.plain comes (record { lock = refl; precious = refl; unlock_sent = refl });
       regions = regions_of k.chains k.memory.objects new.objects ids (λ r. region_of header r past) (λ o. backing_of header o past) (next_region header past) (next_object header past) (marked_regions header past) was.regions same;
       kinds = kinds_same header k.memory.objects new.objects k.chains same (same_marks k.memory.objects new.objects zeroes.objects) was.kinds;
+      files = files_same header h k.memory.objects new.objects (λ o. home_of o past) same was.files;
       pages = subst (λ (z : ObjectTable). HasPages new.frames new.resident z local_now) (sym zeroes.objects) pages;
       controls = controls_of k.memory.objects new.objects (λ o. last_control h o past) (λ o. live_control h o past) (λ o. is_ready h o past) (λ o. is_ready h o past) was.controls same (λ o live is. refl);
       laundry = laundry_changed key row.frame _ _ _ _ _ k.memory new k.laundry (returns_out h past) was.laundry comes;

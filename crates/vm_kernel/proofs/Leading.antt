@@ -1,5 +1,5 @@
 -- Where a waiting access leads: its entry, its region, and the top place of its page; and that it can be run.
-use Rattle.vm_kernel.proofs.Common.{ChainTable, Entry, Event, FoundRow, HasWaits, Header, Ids, IsAt, IsInside, IsPlain, IsTop, List, Matches, PageKey, Parts, RegionRow, Some, Waiting, Waits, Want, Woken, Works, [], access_in, address_in, ap, arith, entries_of, entry, entry_at, found_row, has_region, host_of, is_some, is_store, length, named, next_page, page_at, page_of, pages_in, refl, region_at, region_of, region_pages, rows_in, subst, sym, true, waiting, waiting_in, ℕ, ◌<◌, ◌^◌, ◌∙◌, ◌≡◌, ◌≤◌}
+use Rattle.vm_kernel.proofs.Common.{ChainTable, Entry, Event, FoundRow, HasWaits, Header, Ids, IsAt, IsInside, IsTop, List, Matches, PageKey, Parts, RegionRow, Some, Waiting, Waits, Want, Woken, Works, [], access_in, address_in, ap, arith, entries_of, entry, entry_at, found_row, has_region, host_of, is_some, is_store, length, named, next_page, page_at, page_of, pages_in, refl, region_at, region_of, region_pages, rows_in, subst, sym, true, waiting, waiting_in, ℕ, ◌<◌, ◌^◌, ◌∙◌, ◌≡◌, ◌≤◌}
 use Rattle.std.specs.Prelude.{◌-◌}
 use Rattle.vm_fault.specs.Faults.{CanFault}
 use Rattle.vm_fault.specs.Sources.{CanWalk}
@@ -17,10 +17,6 @@ use Rattle.vm_kernel.proofs.Shown.{shown_at, want_address}
 
 pub region_is : (cs : ChainTable) (r : ℕ) (row : RegionRow) → region_at cs r ≡ Some row → has_region cs r ≡ true
 region_is cs r row is = ap is_some is
-
--- no object is declared
-pub none_named : (header : Header) → IsPlain header → named header ≡ 0
-none_named header plain = ap length plain.objects
 
 -- an entry that holds an address lies within its region
 pub inside_of : (header : Header) (h : ℕ) (k : Parts) (ids : Ids) (past : List Event) (lost : List Entry) (task address : ℕ) (entry : Entry) → Matches header h k ids lost past → entry_at address (rows_in task k.maps) ≡ Some entry

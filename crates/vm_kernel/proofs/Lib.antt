@@ -14,6 +14,7 @@ pub mod Copied
 pub mod Copies
 pub mod Counts
 pub mod Cutting
+pub mod Declares
 pub mod Done
 pub mod Endings
 pub mod Ends
@@ -27,13 +28,17 @@ pub mod Growing
 pub mod Heads
 pub mod Heard
 pub mod Hearing
+pub mod Heeding
 pub mod Holding
 pub mod Known
 pub mod Laundering
 pub mod Leading
+pub mod Locked
+pub mod Locking
 pub mod Losing
 pub mod Making
 pub mod Mine
+pub mod Opening
 pub mod Ordering
 pub mod Own
 pub mod Pageout

@@ -80,6 +80,7 @@ rests_made header h task past k ids maps rests changes free below =
             controls = controls_after leaves m.controls;
             homeless = homeless_after leaves m.homeless;
             homes = m.homes;
+            files = m.files;
             settled = record { returned = refl; shut = λ region. refl };
             laundry = m.laundry;
             frames = m.frames;

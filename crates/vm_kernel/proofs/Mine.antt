@@ -23,5 +23,5 @@ own_new h task past free g is = own_named h g (either (h == g) (host_of task pas
     either false (Some other) none is = absurd (let bad : true ≡ false = none in cc)
 
 -- where no region waits for its entry, none needs to stand next
-pub mine_of : (header : Header) (h : ℕ) (e : Event) (past : List Event) → IsShut past → IsOnlyOfHost header h e past → CreatesHere h e past → IsMine header h e past
+pub mine_of : (header : Header) (h : ℕ) (e : Event) (past : List Event) → IsShut past → IsOnlyOfHost header h e past → CreatesHere header h e past → IsMine header h e past
 mine_of header h e past shut own creates = record { enters = λ region is. absurd (let bad : false ≡ true = sym (shut region) ∙ is in cc); own = own; creates = creates }

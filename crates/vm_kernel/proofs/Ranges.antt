@@ -23,6 +23,7 @@ use Rattle.vm_abroad.proofs.Home.{named_objects, named_regions, objects_stay, re
 use Rattle.vm_abroad.specs.Home.{home_at}
 use Rattle.vm_base.specs.Limits.{most_objects}
 use Rattle.vm_state.proofs.Bare.{next_bare}
+use Rattle.vm_state.proofs.Files.{files_entered, files_temporary, no_file}
 use Rattle.vm_state.proofs.Making.{regions_made}
 use Rattle.vm_state.proofs.Marks.{marked_made}
 use Rattle.vm_state.proofs.Places.{keeps_made}
@@ -399,6 +400,9 @@ rests_range header h outside task address bytes past k k2 ids maps lined rests m
                 (λ o is. objects_stay o h (ranged task ids address bytes pages) past is)
                 (range_object_home header h task address bytes past k ids rests may);
             homeless = range_homeless header h outside task address bytes past k ids lined rests may;
+            files =
+                files_entered header h task row k2.memory.objects (event.RegionMade (record { 0 = n }) object pages ∷ past) (λ file. absurd (no_file header n (first_temporary header h past k ids rests).region file))
+                (files_temporary header h ids.next_object (Some (new_object pages)) k.memory.objects k2.memory.objects (λ o. home_of o past) (first_temporary header h past k ids rests).object made.object_row m.files);
             homes = homes_range header h k.chains k2.chains n (new_region object pages) (λ r. home_of r past) (λ r. home_of r (ranged task ids address bytes pages ++ past)) m.homes (λ r is. homes_stay r h (ranged task ids address bytes pages) past is) (range_home header h task address bytes past k ids rests may) made.region_row;
             settled = record { returned = refl; shut = λ region. refl };
             laundry = m.laundry;

@@ -22,7 +22,8 @@ use Rattle.vm_legal.specs.Prompt.{IsSource}
 use Rattle.vm_model.specs.Regions.{marked_regions}
 use Rattle.vm_parts.proofs.Rows.{stood}
 use Rattle.vm_state.specs.Places.{known_local}
-use Rattle.vm_state.specs.Stands.{HasHomes, IsOfKind}
+use Rattle.vm_state.specs.Stands.{HasHomes, IsOfKind, KnowsFiles}
+use Rattle.vm_state.proofs.Files.{files_put}
 use Rattle.vm_kernel.specs.Serving.{FreesBut, IsHere, IsToCopy}
 use Rattle.vm_state.proofs.Changing.{regions_controlled}
 use Rattle.vm_state.proofs.Referred.{referred_controlled, referred_gone}
@@ -85,7 +86,7 @@ took_nothing header h outside doing past ids skip k k2 before after rests beside
             matches =
                 record {
                   ranged = m.ranged;
-                  declared = beside.declared ∙ m.declared;
+                  declared = ap (λ z. z.items) beside.declared ∙ m.declared;
                   kinds = rw (beside.chains, is.objects) m.kinds;
                   shared = rw beside.maps m.shared;
                   known = m.known;
@@ -100,6 +101,7 @@ took_nothing header h outside doing past ids skip k k2 before after rests beside
                   controls = rw is.objects m.controls;
                   homeless = m.homeless;
                   homes = rw beside.chains m.homes;
+                  files = rw is.objects m.files;
                   settled = m.settled;
                   laundry = rw (is.frames, is.resident, is.laundry) m.laundry;
                   frames = rw is.frames m.frames;
@@ -151,7 +153,7 @@ took_freed header h outside doing past ids skip k k2 before after rests beside k
             matches =
                 record {
                   ranged = m.ranged;
-                  declared = beside.declared ∙ m.declared;
+                  declared = ap (λ z. z.items) beside.declared ∙ m.declared;
                   kinds = rw (beside.chains, freed.objects) m.kinds;
                   shared = rw beside.maps m.shared;
                   known = m.known;
@@ -167,8 +169,9 @@ took_freed header h outside doing past ids skip k k2 before after rests beside k
                       (ap (λ z. record away { asked = not z; absent = absent_at k.memory.objects o p }) here) (λ o p apart. refl)));
                   uses = rw beside.maps m.uses;
                   controls = rw freed.objects (controls_stay (λ o is. object_stays o h e moment is) m.controls);
-                  homeless = record { regions = m.homeless.regions; objects = m.homeless.objects; stay = m.homeless.stay; whole = m.homeless.whole; bare = m.homeless.bare; fills = m.homeless.fills };
+                  homeless = record { regions = m.homeless.regions; objects = m.homeless.objects; stay = m.homeless.stay; files = m.homeless.files; whole = m.homeless.whole; bare = m.homeless.bare; fills = m.homeless.fills };
                   homes = rw beside.chains m.homes;
+                  files = rw freed.objects m.files;
                   settled = record { returned = refl; shut = λ region. refl };
                   laundry = rw freed.laundry (laundry_changed key row.frame _ _ _ _ _ (looked k.memory) k2.memory k.laundry (returns_out h moment) m.laundry page);
                   frames = frames;
@@ -211,6 +214,7 @@ record Before (header : Header) (h : ℕ) (k : Parts) (ids : Ids) (past : List E
   uses : HasUse header k.maps (λ r. in_use header h r past) (made_tasks past) (λ t r. holds header.size t r past) (next_region header past)
   homeless : HaveHomes header past
   homes : HasHomes header h k.chains (λ r. home_of r past)
+  files : KnowsFiles header h k.memory.objects (λ o. home_of o past)
   laundry : HasLaundry k.memory.frames k.memory.resident k.laundry (returns_out h past)
   frames : HasFrames (slice_get (reverse header.frames.items) h) k.memory.frames (frames_held header.size h past) (frames_wired h past)
   waits : HasWaits k woken.Nobody past
@@ -256,7 +260,7 @@ returned_rests header h ids skip k k2 before after moment past control rests bes
       matches =
           record {
             ranged = m.ranged;
-            declared = beside.declared ∙ m.declared;
+            declared = ap (λ z. z.items) beside.declared ∙ m.declared;
             kinds = rw beside.chains (kinds_controlled header o p (controlled is.object) k.memory.objects k2.memory.objects k.chains is.objects is.present (kind_controlled header o is.object.state is.object refl has) m.kinds);
             shared = rw beside.maps m.shared;
             known = m.known;
@@ -269,8 +273,9 @@ returned_rests header h ids skip k k2 before after moment past control rests bes
             pages = rw (own_host h) pages;
             uses = rw beside.maps b.uses;
             controls = controls_stay (λ o is. object_stays o h e moment is) controls;
-            homeless = record { regions = b.homeless.regions; objects = b.homeless.objects; stay = b.homeless.stay; whole = b.homeless.whole; bare = b.homeless.bare; fills = b.homeless.fills };
+            homeless = record { regions = b.homeless.regions; objects = b.homeless.objects; stay = b.homeless.stay; files = b.homeless.files; whole = b.homeless.whole; bare = b.homeless.bare; fills = b.homeless.fills };
             homes = rw beside.chains b.homes;
+            files = files_put header h o is.object (controlled is.object) k.memory.objects k2.memory.objects (λ r. home_of r moment) is.known is.objects b.files;
             settled = record { returned = refl; shut = λ region. refl };
             laundry = rw (own_host h) (laundry_returned key row _ _ (looked k.memory) k2.memory k.laundry k2.laundry (returns_out h moment) b.laundry page is.held is.room);
             frames = frames_changed (slice_get (reverse header.frames.items) h) key row.frame _ _ _ _ _ (looked k.memory) k2.memory (frames_held header.size h moment) (frames_held header.size h moment) (frames_wired h moment) b.frames page (λ held. let same = page.claims in omega arith);
@@ -327,7 +332,7 @@ took_told header h outside doing past ids skip k k2 before after rests beside ke
     let lives : live_control h o moment ≡ Some is.object.control = m.controls.live o ∙ (ap live_in is.known ∙ ap (λ b. if b then Some is.object.control else None) (kind.lives ∙ paged)) in
     let why : ReturnCause header doing h o p false moment = ForFrames refl (may_take header h doing o p moment seen.lock may) in
     let follows = back_follows header h outside doing ids k key row is.row.frame.0 is.object.control moment moment m page.found refl seen dirty lives why m.frames in
-    let b : Before header h k ids moment = record { tasks = m.tasks; regions = m.regions; pages = m.pages; uses = m.uses; homeless = m.homeless; homes = m.homes; laundry = m.laundry; frames = m.frames; waits = rests.waits; order = rests.order } in
+    let b : Before header h k ids moment = record { tasks = m.tasks; regions = m.regions; pages = m.pages; uses = m.uses; homeless = m.homeless; homes = m.homes; files = m.files; laundry = m.laundry; frames = m.frames; waits = rests.waits; order = rests.order } in
     let controls = controls_same k.memory.objects k2.memory.objects _ _ _ m.controls (controls_told k.memory.objects k2.memory.objects o is.object is.known same is.objects) in
     subst (λ (z : List Event). Took header h outside doing past ids reclaim.Returned skip k k2 before z) (sym log)
     (record {
@@ -380,8 +385,9 @@ took_first header h outside doing past ids skip k k2 before after rests beside k
       regions = regions_behind header e1 h0 k.chains k.memory.objects ids (λ r. refl) m.regions;
       pages = pages;
       uses = m.uses;
-      homeless = record { regions = m.homeless.regions; objects = m.homeless.objects; stay = m.homeless.stay; whole = m.homeless.whole; bare = m.homeless.bare; fills = m.homeless.fills };
+      homeless = record { regions = m.homeless.regions; objects = m.homeless.objects; stay = m.homeless.stay; files = m.homeless.files; whole = m.homeless.whole; bare = m.homeless.bare; fills = m.homeless.fills };
       homes = m.homes;
+      files = m.files;
       laundry = m.laundry;
       frames = m.frames;
       waits = rests.waits;
@@ -463,6 +469,7 @@ rests_touched header h ids k queues past rests keeps count =
             controls = m.controls;
             homeless = m.homeless;
             homes = m.homes;
+            files = m.files;
             settled = m.settled;
             laundry = m.laundry;
             frames = m.frames;

@@ -99,7 +99,7 @@ next_row rows i entry found =
     let next : suc i ≡ i + 1 = omega arith in
     drop-cons rows i entry inside ∙ (ap (λ z. z ∷ drop (suc i) rows) here ∙ ap (λ z. entry ∷ drop z rows) next)
 
-pub more_taken : (rows : List Entry) (i : ℕ) (entry : Entry) → slice_get rows i ≡ Some entry → take (i + 1) rows ≡ take i rows ++ entry ∷ []
+pub more_taken : {A : Type 0} (rows : List A) (i : ℕ) (entry : A) → slice_get rows i ≡ Some entry → take (i + 1) rows ≡ take i rows ++ entry ∷ []
 more_taken rows i entry found =
     take_more rows i entry (slice_get_within rows i entry found) ∙ ap (λ z. take i rows ++ z ∷ []) (get_or_from_slice_get rows i entry entry found)
 

@@ -13,6 +13,7 @@ use Rattle.vm_model.specs.Named.{named}
 use Rattle.vm_model.specs.Regions.{backing_of, over, region_of, shadowed}
 use Rattle.vm_kernel.proofs.Uses.{paged_temporary}
 use Rattle.vm_state.proofs.Declared.{kind_new, kinds_put, kinds_shadowed, marked_temporary}
+use Rattle.vm_state.proofs.Files.{files_temporary}
 use Rattle.vm_state.proofs.Fresh.{other_test}
 use Rattle.vm_state.proofs.Marks.{marked_shadowed}
 use Rattle.vm_state.proofs.Places.{waits_shadowed}
@@ -96,6 +97,7 @@ shadowed_with header h past k ids region object row chains objects works there m
           | inl this ↦ subst (λ (z : ℕ). home_of z past ≡ Some h) this.0 (m.homes region.0 row (paged_temporary header region.0 temporary) there)
           | inr other ↦ m.homes r found paged (sym other.1 ∙ is)
         ];
+        files = files_temporary header h object.0 (Some (new_object row.pages)) k.memory.objects objects (λ o. home_of o past) new put m.files;
         entries = entries_kept header.size k chains m.entries keeps;
         pages = record { shown = λ o p. m.pages.shown o p ∙ ap (λ b. local_of_row k.memory.frames (row_at k.memory.resident o p) b) (sym (same.at o p)) };
         uses = m.uses;
@@ -107,6 +109,7 @@ shadowed_with header h past k ids region object row chains objects works there m
               let apart : (object.0 == o) ≡ false = other_test object.0 o (λ eq. omega (arith, eq, number, high)) in
               ap (λ b. if b then first_of (region_for o past) (Some region.0) else region_for o past) apart ∙ m.homeless.objects o (omega (arith, high));
           stay = m.homeless.stay;
+          files = m.homeless.files;
           whole = λ r declared.
               let other : (r == region.0) ≡ false = other_test r region.0 (λ eq. omega (arith, eq, declared, temporary)) in
               ap (λ b. shadowed b object.0 (region_of header r past)) other ∙ m.homeless.whole r declared;

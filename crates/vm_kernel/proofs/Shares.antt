@@ -13,6 +13,7 @@ use Rattle.vm_model.specs.declared.command.Command.TheVariants as command
 use Rattle.vm_state.proofs.Changing.{SameButEntries, regions_recounted}
 use Rattle.vm_model.specs.Waiting.{is_target}
 use Rattle.vm_state.proofs.Declared.{kind_cases}
+use Rattle.vm_state.proofs.Files.{files_entered}
 use Rattle.vm_state.proofs.Marks.{marked_copied}
 use Rattle.vm_state.proofs.Referred.{referred_recounted}
 use Rattle.vm_state.proofs.Referring.{small_region}
@@ -57,7 +58,7 @@ pub same_rows : (a b : List Entry) (o : Option (List Entry)) → o ≡ Some a �
 same_rows a b o one two = let both : ◌≡◌ {A = Option (List Entry)} (Some a) (Some b) = sym one ∙ two in cc
 
 -- the number of a region's entries is far below its limit
-few_entries : (size : ℕ) (maps : Mapped) (chains : ChainTable) (r : ℕ) → HasEntries size maps chains [] → has_region chains r ≡ true → region_entries chains r + 1 < 2 ^ 32
+pub few_entries : (size : ℕ) (maps : Mapped) (chains : ChainTable) (r : ℕ) → HasEntries size maps chains [] → has_region chains r ≡ true → region_entries chains r + 1 < 2 ^ 32
 few_entries size maps chains r has there =
     let row = region_row chains r there in
     let same : region_entries chains r ≡ row.0.entries = ap entries_in_row row.1 in
@@ -114,7 +115,7 @@ target_declared : (header : Header) (r : ℕ) (x : Option Target) → r < named 
 target_declared header r None declared temporary = refl
 target_declared header r (Some target) declared temporary = let least = temporary target refl in grind (arith, nat_tests)
 
-unfilled_declared : (header : Header) (r : ℕ) (list : List ℕ) (past : List Event) → r < named header → HaveHomes header past → is_filled r list past ≡ false
+pub unfilled_declared : (header : Header) (r : ℕ) (list : List ℕ) (past : List Event) → r < named header → HaveHomes header past → is_filled r list past ≡ false
 unfilled_declared header r [] past declared homes = refl
 unfilled_declared header r (task ∷ others) past declared homes =
     rw (filled_other r (waiting task past) (copy_target task past) (target_declared header r (copy_target task past) declared (homes.fills task))) (unfilled_declared header r others past declared homes)
@@ -165,7 +166,7 @@ rests_shared header h outside doing task row past k k2 ids before after rests ma
       matches =
           record {
             ranged = m.ranged;
-            declared = s.declared ∙ m.declared;
+            declared = ap (λ z. z.items) s.declared ∙ m.declared;
             kinds = rw s.memory (kinds_recounted header _ k.memory.objects k.chains k2.chains (recounts_put r (region_entries k.chains r + 1) k.chains k2.chains s.counts) m.kinds);
             shared = shared_entered (named header) task.0 k.maps k2.maps row s.maps may.shared m.shared;
             known = m.known;
@@ -179,6 +180,7 @@ rests_shared header h outside doing task row past k k2 ids before after rests ma
                 };
             tasks = tasks_entered h size k.maps k2.maps past task row m.tasks s.maps lives;
             regions = rw s.memory (regions_behind header e past k2.chains k.memory.objects ids (λ r. refl) (regions_recounted k.chains k2.chains k.memory.objects ids _ _ _ _ _ recount m.regions));
+            files = rw s.memory (files_entered header h task row k.memory.objects past (λ file. m.homes r there.0 (paged_file header r file) there.1) m.files);
             homes = λ q now paged found. home_stays q h e past (m.homes q (was_row recount q now found).0 paged (was_row recount q now found).1);
             entries = entries_share size k.maps k2.maps k.chains k2.chains task.0 row m.entries may.inside s.counts s.maps below free.room;
             pages = rw s.memory m.pages;

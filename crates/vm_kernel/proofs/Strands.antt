@@ -1,10 +1,11 @@
 -- No entry leads to a region any more: it goes, and its top has one reference less.
-use Rattle.vm_kernel.proofs.Common.{AllEntriesInside, AllRows, AllUsed, Bool, ChainTable, Command, EndsObject, EndsRegion, Entry, Event, HasControls, HasEntries, Header, Ids, IfSome, Inside, IsInStep, IsReferred, IsSome, List, Mapped, Matches, None, ObjectId, ObjectRow, ObjectTable, Option, Outside, Parts, PutsObject, PutsRegion, RegionRow, SameMarks, Some, Sweeps, [], all_tasks, ap, arith, backing_of, count_by, count_on, entries_in_row, eqb_tells, false, fit_objects, has_entry, has_region, inl, inr, is_some, last_in, live_in, local_of_row, marked_regions, nat_lt, nat_tests, next_object, next_region, object_at, one_case, pages_in, ready_in, refl, region_at, region_entries, region_of, row_at, rows_in, same_pages, some_is, subst, sym, true, unwrap_or, waiting, ℕ, ◌++◌, ◌+◌, ◌-◌, ◌<◌, ◌^◌, ◌∙◌, ◌∷◌, ◌≡◌, ◌≢◌, ◌≤◌}
+use Rattle.vm_kernel.proofs.Common.{AllEntriesInside, AllRows, AllUsed, Bool, ChainTable, Command, EndsObject, EndsRegion, Entry, Event, HasControls, HasEntries, Header, Ids, IfSome, Inside, IsInStep, IsReferred, IsSome, List, Mapped, Matches, None, ObjectId, ObjectRow, ObjectTable, Option, Outside, Parts, PutsObject, PutsRegion, RegionRow, SameMarks, Some, Sweeps, [], all_tasks, ap, arith, backing_of, count_by, count_on, entries_in_row, eqb_tells, false, fit_objects, has_entry, has_region, home_of, inl, inr, is_some, last_in, live_in, local_of_row, marked_regions, nat_lt, nat_tests, next_object, next_region, object_at, one_case, pages_in, ready_in, refl, region_at, region_entries, region_of, row_at, rows_in, same_pages, some_is, subst, sym, true, unwrap_or, waiting, ℕ, ◌++◌, ◌+◌, ◌-◌, ◌<◌, ◌^◌, ◌∙◌, ◌∷◌, ◌≡◌, ◌≢◌, ◌≤◌}
 use Rattle.vm_supply.specs.declared.woken.Woken.TheVariants as woken
 use Rattle.vm_kernel.proofs.Counts.{by_zero, on_zero}
 use Rattle.vm_kernel.proofs.Regions.{region_row}
 use Rattle.vm_kernel.proofs.Rows.{region_cases}
 use Rattle.vm_state.proofs.Declared.{kind_referred, kinds_gone, kinds_put}
+use Rattle.vm_state.proofs.Files.{files_put}
 use Rattle.vm_state.proofs.Going.{regions_gone}
 use Rattle.vm_state.proofs.Knowing.{known_put}
 use Rattle.vm_state.proofs.Places.{waits_without}
@@ -187,6 +188,7 @@ runs_gone header h outside doing past k ids rest r left events object chains obj
         tasks = m.tasks;
         regions = regions_gone r left loses.row was k.chains chains k.memory.objects objects ids (λ r. region_of header r moment) (λ o. backing_of header o moment) (next_region header moment) (next_object header moment) (marked_regions header moment) loses.found loses.region loses.known loses.less loses.put m.regions;
         homes = λ r2 row paged found. m.homes r2 row paged (other_row r k.chains chains loses.region r2 row found).1;
+        files = files_put header h top was (record was { references = left }) k.memory.objects objects (λ o. home_of o moment) loses.known loses.put m.files;
         entries = entries_without header.size r k.maps k.chains chains rest loses.region m.entries e.there e.none;
         pages = record { shown = λ o p. m.pages.shown o p ∙ ap (local_of_row k.memory.frames (row_at k.memory.resident o p)) (sym (loses.marks.at o p)) };
         uses = m.uses;

@@ -1,5 +1,5 @@
 -- An object to which nothing refers: its pages go, its control ends, where one lives, and what stood under it has one reference less.
-use Rattle.vm_kernel.proofs.Common.{AllEntriesInside, AllUsed, Bool, Caused, ChainTable, Command, Does, Drops, Elsewhere, EndsObject, Entry, Event, FrameTable, HasControls, HasEntries, HasFrames, HasKinds, HasPages, HasWaiters, HaveHomes, Header, HostParts, Ids, Inside, IsInStep, IsInside, IsOfKind, IsReferred, List, Local, LocalEffect, Mapped, Matches, None, ObjectId, ObjectRow, ObjectTable, Option, Outside, PageKey, PageRow, Parts, PutsAbsent, PutsObject, Reach, RegionRow, ResidentTable, ReturnCause, Returns, SameMarks, SameObjects, Some, Sweeps, Unreached, Up, Below, Changes, Fit, LaundryList, Region, [], absent_at, all_tasks, ap, arith, away, backing_of, count_by, entries_in, entries_of, eqb_tells, false, fit_objects, frames_held, frames_wired, has_entry, has_region, host_id, if◌then◌else◌, in_use, inl, inr, is_control, is_ready, is_some, last_control, last_in, length, live_control, live_in, local, local_after, local_of_row, marked_regions, named, nat_lt, nat_tests, next_object, next_region, not, object_at, one_case, page_in, pages_in, pages_of_row, paging, place_of, queues_except, ready_in, refl, region_at, region_of, returns_out, reverse, row_at, row_cases, rows_in, rows_map, same_pages, slice_get, some_is, subst, sym, true, waiting, without_control, zero, suc, ℕ, ◌++◌, ◌+◌, ◌-◌, ◌&&◌, ◌<◌, ◌==◌, ◌^◌, ◌||◌, ◌≤◌, ◌∙◌, ◌∷◌, ◌≡◌, ◌⊎◌}
+use Rattle.vm_kernel.proofs.Common.{AllEntriesInside, AllUsed, Bool, Caused, ChainTable, Command, Does, Drops, Elsewhere, EndsObject, Entry, Event, FrameTable, HasControls, HasEntries, HasFrames, HasKinds, HasPages, HasWaiters, HaveHomes, Header, HostParts, Ids, Inside, IsInStep, IsInside, IsOfKind, IsReferred, List, Local, LocalEffect, Mapped, Matches, None, ObjectId, ObjectRow, ObjectTable, Option, Outside, PageKey, PageRow, Parts, PutsAbsent, PutsObject, Reach, RegionRow, ResidentTable, ReturnCause, Returns, SameMarks, SameObjects, Some, Sweeps, Unreached, Up, Below, Changes, Fit, LaundryList, Region, [], absent_at, all_tasks, ap, arith, away, backing_of, count_by, entries_in, entries_of, eqb_tells, false, fit_objects, frames_held, frames_wired, has_entry, has_region, home_of, host_id, if◌then◌else◌, in_use, inl, inr, is_control, is_ready, is_some, last_control, last_in, length, live_control, live_in, local, local_after, local_of_row, marked_regions, named, nat_lt, nat_tests, next_object, next_region, not, object_at, one_case, page_in, pages_in, pages_of_row, paging, place_of, queues_except, ready_in, refl, region_at, region_of, returns_out, reverse, row_at, row_cases, rows_in, rows_map, same_pages, slice_get, some_is, subst, sym, true, waiting, without_control, zero, suc, ℕ, ◌++◌, ◌+◌, ◌-◌, ◌&&◌, ◌<◌, ◌==◌, ◌^◌, ◌||◌, ◌≤◌, ◌∙◌, ◌∷◌, ◌≡◌, ◌⊎◌}
 use Rattle.std.proofs.lemmas.Bool.{or_parts}
 use Rattle.vm_kernel.specs.Fits.{ArePlain}
 use Rattle.vm_legal.specs.Licences.{DropCause, Ended, IsUnheld}
@@ -29,6 +29,7 @@ use Rattle.vm_kernel.proofs.Strands.{controls_referred}
 use Rattle.vm_kernel.proofs.Washing.{laundry_returned}
 use Rattle.vm_state.proofs.Changing.{regions_controlled}
 use Rattle.vm_state.proofs.Declared.{kind_cases, kind_referred, kinds_dropped, kinds_put, kinds_same, whole_row}
+use Rattle.vm_state.proofs.Files.{files_put, files_same}
 use Rattle.vm_state.proofs.Going.{regions_dropped}
 use Rattle.vm_state.proofs.Knowing.{known_put}
 use Rattle.vm_state.proofs.Places.{told_apart, waits_dropped}
@@ -112,6 +113,7 @@ ends_lost header h outside doing past k ids rest key row memory events e first i
           tasks = m.tasks;
           regions = rw objects (regions_after leaves m.regions);
           homes = m.homes;
+          files = rw objects m.files;
           entries = m.entries;
           pages = rw objects pages2;
           uses = m.uses;
@@ -189,7 +191,7 @@ ends_lost header h outside doing past k ids rest key row memory events e first i
 
 -- and is off the lists
 
-leaves_lists : (k : Parts) (key : PageKey) (row : PageRow) (held : Bool) (bytes : List ℕ) (memory : HostParts) → row.here ≡ true → Changes key row.frame (Some row) None held bytes (queues_except row.frame.0 k.memory.queues) k.memory memory
+pub leaves_lists : (k : Parts) (key : PageKey) (row : PageRow) (held : Bool) (bytes : List ℕ) (memory : HostParts) → row.here ≡ true → Changes key row.frame (Some row) None held bytes (queues_except row.frame.0 k.memory.queues) k.memory memory
     → Departs key.object.0 key.page.0 k.memory.queues (paging k) (paging (record k { memory = memory }))
 leaves_lists k key row held bytes memory is_here c = record {
   frame = row.frame;
@@ -279,6 +281,7 @@ ends_returned header h outside doing past k ids rest key known row memory laundr
           tasks = m.tasks;
           regions = regions_after leaves (regions_controlled o known known k.chains k.memory.objects memory.objects ids (λ r. region_of header r moment) (λ o2. backing_of header o2 moment) (next_region header moment) (next_object header moment) (marked_regions header moment) goes.found put refl refl m.regions);
           homes = m.homes;
+          files = files_same header h k.memory.objects memory.objects (λ o2. home_of o2 moment) goes.objects m.files;
           entries = m.entries;
           pages = rw (own_host h) (pages_known header header.size effect_at (λ o2 p2. local header.size h (place_of o2 p2) moment) (λ o2 p2. other_nested (o == o2) (p == p2)) pages2);
           uses = m.uses;
@@ -492,6 +495,7 @@ ends_told header h outside doing past k ids rest object events row objects s non
           tasks = m.tasks;
           regions = regions_after leaves (regions_controlled o row (quiet_row row) k.chains k.memory.objects objects ids (λ r. region_of header r moment) (λ o2. backing_of header o2 moment) (next_region header moment) (next_object header moment) (marked_regions header moment) found put refl refl m.regions);
           homes = m.homes;
+          files = files_put header h o row (quiet_row row) k.memory.objects objects (λ o2. home_of o2 moment) found put m.files;
           entries = m.entries;
           pages = rw (own_host h)
               (pages_known header header.size (λ o2 p. if o == o2 then (if is_control row.control (live_control h o2 moment) then EndsControl else Elsewhere) else Elsewhere) (λ o2 p. local header.size h (place_of o2 p) moment)
@@ -611,6 +615,7 @@ runs_dropped header h outside doing past k ids rest o left row known events chai
         regions = regions_dropped o left row e.row known k.chains chains k.memory.objects objects ids (λ r. region_of header r moment) (λ o2. backing_of header o2 moment) (next_region header moment) (next_object header moment) (marked_regions header moment)
             leaves.found e.known e.none leaves.drops leaves.under leaves.less leaves.put m.regions;
         homes = λ r region paged found. m.homes r region paged (sym (ap (λ f. f r) leaves.drops.regions) ∙ found);
+        files = files_put header h under known (record known { references = left }) k.memory.objects objects (λ o2. home_of o2 moment) leaves.under leaves.put m.files;
         entries = entries_kept header.size k.maps k.chains chains rest (λ r. ap (λ f. f r) leaves.drops.regions) m.entries;
         pages = record { shown = λ o2 p. m.pages.shown o2 p ∙ ap (local_of_row k.memory.frames (row_at k.memory.resident o2 p)) (sym (leaves.marks.at o2 p)) };
         uses = m.uses;

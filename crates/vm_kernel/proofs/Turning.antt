@@ -1,5 +1,5 @@
 -- Frames in turn: how a queue changes where an access was run, and which frames were claimed.
-use Rattle.vm_kernel.proofs.Common.{AreQueued, Attempts, BeganInOrder, Bool, ClaimsInTurn, Did, EachGone, EachListedOnce, EachOf, Event, ForAsked, ForZeros, Found, Goes, Header, Ids, IsBrought, IsEnd, IsReclaim, Joins, KeepsOthers, LeavesInTurn, List, None, Nothing, On, Parts, QueueIsStill, Restarted, Restarts, RunsNobody, RunsNone, RunsNoneYet, RunsOnce, Some, Start, TaskId, Up, WaitTable, Waiting, Wants, Works, [], ap, append-nil, append_assoc, arith, begun_at, entry, eqb_tells, false, first_in_queue, frames_free, if◌then◌else◌, inl, inr, is_again, is_frame, is_listed, length, nat_lt, nat_tests, not, of_both, oldest_row, queue_without, queued, refl, reverse, reverse-append, same_others, subst, suc, sym, true, waits_for_frame, ℕ, ◌++◌, ◌==◌, ◌∙◌, ◌∷◌, ◌≡◌, ◌≢◌, ◌⊎◌}
+use Rattle.vm_kernel.proofs.Common.{AreQueued, Attempts, BeganInOrder, Bool, ClaimsInTurn, Did, EachGone, EachListedOnce, EachOf, Event, ForAsked, ForZeros, Found, Goes, Header, Ids, IsEnd, IsReclaim, Joins, KeepsOthers, LeavesInTurn, List, None, Nothing, On, Parts, QueueIsStill, Restarted, Restarts, RunsNobody, RunsNone, RunsNoneYet, RunsOnce, Some, Start, TaskId, Up, WaitTable, Waiting, Wants, Works, [], ap, append-nil, append_assoc, arith, begun_at, entry, eqb_tells, false, first_in_queue, frames_free, if◌then◌else◌, inl, inr, is_again, is_frame, is_listed, length, nat_lt, nat_tests, not, of_both, oldest_row, queue_without, queued, refl, reverse, reverse-append, same_others, subst, suc, sym, true, waits_for_frame, ℕ, ◌++◌, ◌==◌, ◌∙◌, ◌∷◌, ◌≡◌, ◌≢◌, ◌⊎◌}
 use Rattle.std.specs.Prelude.{◌<◌, ◌≤◌, ◌||◌}
 use Rattle.vm_model.specs.declared.event.Event.TheVariants as event
 use Rattle.vm_model.specs.declared.message.Message.TheVariants as message
@@ -127,9 +127,15 @@ quiet_unlisted rows old new w before after e line is other queue told none =
 pub nobody_more : (old new : List TaskId) (before mid after : List Event) (e : Event) {now : List TaskId} → RunsNobody old new before mid → now ≡ new → after ≡ e ∷ mid → RunsNone e → RunsNobody old now before after
 nobody_more old new before mid after e runs queue told none = record { queue = queue ∙ runs.queue; more = e ∷ runs.more; told = told ∙ ap (λ z. e ∷ z) runs.told; none = (none, runs.none) }
 
--- an answer was heard, and nobody was run yet
-pub unrun_behind : (old new : List TaskId) (before after : List Event) → IsBrought before → RunsNobody old new before after → RunsNoneYet after
-unrun_behind old new before after brought runs = record { late = runs.more; first = before; is = runs.told; none = runs.none; brought = brought }
+-- what a pager said was heeded, and nobody was run yet
+pub unrun_after : (old new : List TaskId) (before after : List Event) → RunsNoneYet before → RunsNobody old new before after → RunsNoneYet after
+unrun_after old new before after yet runs = record {
+  late = runs.more ++ yet.late;
+  first = yet.first;
+  is = runs.told ∙ (ap (λ z. runs.more ++ z) yet.is ∙ sym (append_assoc runs.more yet.late yet.first));
+  none = of_both RunsNone runs.more yet.late runs.none yet.none;
+  brought = yet.brought;
+}
 
 -- running again
 

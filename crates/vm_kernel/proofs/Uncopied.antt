@@ -1,5 +1,5 @@
 -- The refusal of a copy is that of its history.
-use Rattle.vm_kernel.proofs.Common.{Bool, Code, Entry, Event, Header, Ids, IsInside, IsSome, List, None, Option, Parts, RegionRow, Rests, Some, TaskId, Temp, Waiting, ap, arith, code_of, code_where, entries_of, entry, entry_at, false, found_row, has_region, host_of, if◌then◌else◌, inl, inr, is_marked, is_range, is_some, lives_on, marked_regions, named, nat_le, nat_lt, nat_tests, next_object, not, object_at, refl, refusal, region_at, region_of, rows_in, subst, sym, true, waiting, waiting_in, ℕ, ◌&&◌, ◌+◌, ◌/◌, ◌<◌, ◌==◌, ◌||◌, ◌∙◌, ◌≡◌}
+use Rattle.vm_kernel.proofs.Common.{Bool, Code, Entry, Event, Header, Ids, IsInside, IsSome, List, None, Option, Parts, RegionRow, Rests, Some, TaskId, Temp, Waiting, ap, arith, code_of, code_where, entries_of, entry, entry_at, false, found_row, has_region, host_of, if◌then◌else◌, inl, inr, is_marked, is_range, is_some, length, lives_on, marked_regions, named, nat_le, nat_lt, nat_tests, next_object, not, object_at, refl, refusal, region_at, region_of, rows_in, subst, sym, true, waiting, waiting_in, ℕ, ◌&&◌, ◌+◌, ◌/◌, ◌<◌, ◌==◌, ◌||◌, ◌∙◌, ◌≡◌}
 use Rattle.vm_base.specs.Limits.{most_objects, most_pages, most_regions}
 use Rattle.vm_base.specs.declared.code.Code.TheVariants as code
 use Rattle.vm_legal.specs.Outside.{is_wild, is_wild_kind, kind_in}
@@ -28,15 +28,19 @@ tests_are false false c why later = refl
 marked_is : (k : Parts) (r : ℕ) (row : RegionRow) → region_at k.chains r ≡ Some row → is_marked k.chains r ≡ row.marked
 marked_is k r row there = rw there refl
 
-full_same : (header : Header) (h : ℕ) (k : Parts) (ids : Ids) (past : List Event) (r : ℕ) → Rests header h k ids past → has_region k.chains r ≡ true → refusing.is_copy_full header r past ≡ is_copy_full k.declared k.chains ids r
+-- as many objects are declared as the kernel has declarations
+pub declared_are : {header : Header} {h : ℕ} {k : Parts} {ids : Ids} {past : List Event} → Rests header h k ids past → length k.declared.items ≡ named header
+declared_are rests = ap length rests.matches.declared
+
+full_same : (header : Header) (h : ℕ) (k : Parts) (ids : Ids) (past : List Event) (r : ℕ) → Rests header h k ids past → has_region k.chains r ≡ true → refusing.is_copy_full header r past ≡ is_copy_full (length k.declared.items) k.chains ids r
 full_same header h k ids past r rests there =
     let m = rests.matches in
     let row = region_row k.chains r there in
     let mark : (region_of header r past).mark ≡ is_marked k.chains r = ap (λ z. z.mark) (m.regions.rows r row.0 row.1) ∙ sym (marked_is k r row.0 row.1) in
-    is_full_copy header r past (nat_lt r k.declared) (is_marked k.chains r) (ap (nat_lt r) (sym m.declared)) mark
-    ∙ (ap (λ (z : ℕ). nat_le most_regions z || nat_lt most_objects (next_object header past + marked_regions header past + (if nat_lt r k.declared || is_marked k.chains r then 1 else 2))) (sym m.regions.region)
-    ∙ (ap (λ (z : ℕ). nat_le most_regions ids.next_region || nat_lt most_objects (z + marked_regions header past + (if nat_lt r k.declared || is_marked k.chains r then 1 else 2))) (sym m.regions.object)
-    ∙ ap (λ (z : ℕ). nat_le most_regions ids.next_region || nat_lt most_objects (ids.next_object + z + (if nat_lt r k.declared || is_marked k.chains r then 1 else 2))) (sym m.regions.marks)))
+    is_full_copy header r past (nat_lt r (length k.declared.items)) (is_marked k.chains r) (ap (nat_lt r) (sym (declared_are rests))) mark
+    ∙ (ap (λ (z : ℕ). nat_le most_regions z || nat_lt most_objects (next_object header past + marked_regions header past + (if nat_lt r (length k.declared.items) || is_marked k.chains r then 1 else 2))) (sym m.regions.region)
+    ∙ (ap (λ (z : ℕ). nat_le most_regions ids.next_region || nat_lt most_objects (z + marked_regions header past + (if nat_lt r (length k.declared.items) || is_marked k.chains r then 1 else 2))) (sym m.regions.object)
+    ∙ ap (λ (z : ℕ). nat_le most_regions ids.next_region || nat_lt most_objects (ids.next_object + z + (if nat_lt r (length k.declared.items) || is_marked k.chains r then 1 else 2))) (sym m.regions.marks)))
 
 -- a declared object whose region is there is known by its kind
 wild_is : (header : Header) (h : ℕ) (k : Parts) (ids : Ids) (past : List Event) (r : ℕ) → Rests header h k ids past → has_region k.chains r ≡ true → r < named header → is_wild_row (object_at k.memory.objects r) ≡ is_wild header r
@@ -48,19 +52,19 @@ wild_is header h k ids past r rests there declared =
     ap is_wild_row known.1 ∙ ap is_wild_kind ((m.kinds.kinds r known.0 known.1).declared declared).kind
 
 uncopied_same : (header : Header) (h : ℕ) (k : Parts) (ids : Ids) (past : List Event) (own : Bool) (row : Entry) → Rests header h k ids past → has_region k.chains row.region.0 ≡ true
-    → refusing.is_uncopied header own (Some row) ≡ is_uncopied k.declared k.memory.objects own row.region.0
+    → refusing.is_uncopied header own (Some row) ≡ is_uncopied (length k.declared.items) k.memory.objects own row.region.0
 uncopied_same header h k ids past own row rests there =
     let r = row.region.0 in
-    let count = rests.matches.declared in
+    let count = declared_are rests in
     elim (kind_cases header r) [
       | inl declared ↦
           let one : nat_lt r (named header) ≡ true = grind (arith, nat_tests) in
-          let two : nat_lt r k.declared ≡ true = ap (nat_lt r) count ∙ one in
+          let two : nat_lt r (length k.declared.items) ≡ true = ap (nat_lt r) count ∙ one in
           ap (λ b. is_wild header r || (b && not own)) one
           ∙ (ap (λ b. b || not own) (sym (wild_is header h k ids past r rests there declared)) ∙ ap (λ b. b && (is_wild_row (object_at k.memory.objects r) || not own)) (sym two))
       | inr temporary ↦
           let one : nat_lt r (named header) ≡ false = grind (arith, nat_tests) in
-          let two : nat_lt r k.declared ≡ false = ap (nat_lt r) count ∙ one in
+          let two : nat_lt r (length k.declared.items) ≡ false = ap (nat_lt r) count ∙ one in
           ap (λ b. is_wild_kind (if b then kind_in (declared header r) else Temp) || (b && not own)) one ∙ ap (λ b. b && (is_wild_row (object_at k.memory.objects r) || not own)) (sym two)
     ]
 
@@ -78,9 +82,9 @@ some_waits (Some w) = refl
 pub waits_are : (header : Header) (h : ℕ) (k : Parts) (ids : Ids) (past : List Event) (task : ℕ) → Rests header h k ids past → lives_on h task past ≡ true → is_some (waiting task past) ≡ is_some (entry k.waits.rows task)
 waits_are header h k ids past task rests acts = ap (λ z. is_some z) (rests.waits.is task (ap (λ z. is_some z) (lives_in task rests.matches.tasks acts))) ∙ some_waits (entry k.waits.rows task)
 
-pub copy_refused : (header : Header) (h : ℕ) (k : Parts) (ids : Ids) (past : List Event) (task : TaskId) (address bytes : ℕ) (target : TaskId) (to : ℕ) → Rests header h k ids past → lives_on h task.0 past ≡ true → lives_on h target.0 past ≡ true
-    → refusal header past (command.Copy task address bytes target to) ≡ code_of k ids (command.Copy task address bytes target to)
-copy_refused header h k ids past task address bytes target to rests acts there =
+pub copy_refused : (header : Header) (h : ℕ) (k : Parts) (ids : Ids) (past : List Event) (elsewhere : Bool) (task : TaskId) (address bytes : ℕ) (target : TaskId) (to : ℕ) → Rests header h k ids past → lives_on h task.0 past ≡ true → lives_on h target.0 past ≡ true
+    → refusal header past (command.Copy task address bytes target to) ≡ code_of k ids elsewhere (command.Copy task address bytes target to)
+copy_refused header h k ids past elsewhere task address bytes target to rests acts there =
     let m = rests.matches in
     let size = header.size in
     let own : entries_of size task.0 past ≡ rows_in task.0 k.maps = rows_here m.tasks (lives_in task.0 m.tasks acts) in

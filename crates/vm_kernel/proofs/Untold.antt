@@ -17,6 +17,7 @@ matches_with queues buffers waits fit size m =
       tasks = m.tasks;
       regions = m.regions;
       homes = m.homes;
+      files = m.files;
       entries = m.entries;
       pages = m.pages;
       uses = m.uses;

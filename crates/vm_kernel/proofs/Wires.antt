@@ -73,6 +73,7 @@ ran_wired header h outside doing past k ids wired rests few first done =
             controls = controls_after leaves m.controls;
             homeless = homeless_after leaves m.homeless;
             homes = m.homes;
+            files = m.files;
             settled = record { returned = refl; shut = λ region. refl };
             laundry = laundry_wired k.memory.frames k.memory.resident k.laundry (returns_out h past) wired m.laundry;
             frames = frames;

@@ -14,11 +14,11 @@ use Rattle.vm_legal.specs.Frames.{Suffice}
 use Rattle.vm_legal.specs.Homes.{EntersNext}
 use Rattle.vm_legal.specs.Licences.{AllLicensed}
 use Rattle.vm_legal.specs.Living.{lives_on}
-use Rattle.vm_legal.specs.Outside.{Outside}
+use Rattle.vm_legal.specs.Outside.{Outside, is_file}
 use Rattle.vm_legal.specs.Prompt.{PromptAt}
 use Rattle.vm_legal.specs.Refusal.{refusal}
 use Rattle.vm_legal.specs.Stretches.{AllInner, EachIn, EachOf, MomentsIn}
-use Rattle.vm_abroad.specs.Home.{object_home}
+use Rattle.vm_abroad.specs.Home.{home_of, object_home}
 use Rattle.vm_abroad.specs.Whose.{IsOnlyOfHost}
 use Rattle.vm_shadow.specs.declared.ids.Ids.{Ids}
 use Rattle.vm_kernel.specs.Matches.{HasOrder, HasWaits, Matches, Rests, host_id}
@@ -48,8 +48,11 @@ pub record Doing : Type 0 where
 -- what a kernel says: to pagers alone, from its own host, and with whole pages; tasks are made there
 abbrev pub KernelSays : ℕ → ℕ → Event → Type 0
 KernelSays h size (event.Sent (Up host object) (message.Return control page dirty keep bytes)) = (host.0 ≡ h) × (length bytes ≡ size)
+KernelSays h size (event.Sent (Up host object) (message.Init control bytes)) = host.0 ≡ h
 KernelSays h size (event.Sent (Up host object) (message.Create control bytes)) = host.0 ≡ h
 KernelSays h size (event.Sent (Up host object) (message.Request control page access)) = host.0 ≡ h
+KernelSays h size (event.Sent (Up host object) (message.Unlock control page access)) = host.0 ≡ h
+KernelSays h size (event.Sent (Up host object) (message.Completed control page count)) = host.0 ≡ h
 KernelSays h size (event.Sent (Up host object) (message.Terminate control)) = host.0 ≡ h
 KernelSays h size (event.Sent (Up host object) other) = ⊥
 KernelSays h size (event.Sent (Down host object control) m) = ⊥
@@ -80,23 +83,24 @@ KernelSays h size (event.Raised host lower lower_page upper upper_page) = Unit {
 KernelSays h size (event.Shadowed region new old) = Unit {0}
 KernelSays h size (event.Wired host count) = Unit {0}
 
--- a pager is told of an object on the host of the region that it was made for
-abbrev pub CreatesHere : ℕ → Event → List Event → Type 0
-CreatesHere h (event.Sent (Up host object) (message.Create control size)) past = object_home object.0 past ≡ Some h
-CreatesHere h other past = Unit {0}
+-- a pager is told of an object on the host of the region that it was made for, and of a file on that of the file's region
+abbrev pub CreatesHere : Header → ℕ → Event → List Event → Type 0
+CreatesHere header h (event.Sent (Up host object) (message.Create control size)) past = object_home object.0 past ≡ Some h
+CreatesHere header h (event.Sent (Up host object) (message.Init control size)) past = is_file header object.0 ≡ true → home_of object.0 past ≡ Some h
+CreatesHere header h other past = Unit {0}
 
 -- whosever an event is, it is the kernel's; and behind a region that it makes stands its entry
 pub record IsMine (header : Header) (h : ℕ) (e : Event) (past : List Event) : Type 0 where
   pub enters : EntersNext e past
   pub own : IsOnlyOfHost header h e past
-  pub creates : CreatesHere h e past
+  pub creates : CreatesHere header h e past
 
 -- what some kernel says
 pub record SomeKernelSays (header : Header) (e : Event) (past : List Event) : Type 0 where
   pub host : ℕ
   pub known : host < length header.frames.items
   pub says : KernelSays host header.size e
-  pub creates : CreatesHere host e past
+  pub creates : CreatesHere header host e past
 
 -- events of one step: the head of its command, and what follows from it; each has its cause
 pub record Grows (header : Header) (h : ℕ) (outside : Outside) (doing : Command) (past events : List Event) : Type 0 where

@@ -9,6 +9,7 @@ kernel_runs (command.Task task host) = true
 kernel_runs (command.Fork task child) = true
 kernel_runs (command.Copy task address bytes target to) = true
 kernel_runs (command.Exit task) = true
+kernel_runs (command.Map task address bytes object offset) = true
 kernel_runs (command.Allocate task address bytes) = true
 kernel_runs (command.Deallocate task address bytes) = true
 kernel_runs (command.Protect task address bytes prot) = true

@@ -4,6 +4,7 @@ pub mod Built
 pub mod Changes
 pub mod Fits
 pub mod Forking
+pub mod Mapping
 pub mod Matches
 pub mod Plays
 pub mod Refusing

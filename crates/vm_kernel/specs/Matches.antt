@@ -22,7 +22,7 @@ use Rattle.vm_legal.specs.Living.{tasks as made_tasks}
 use Rattle.vm_legal.specs.Used.{in_use}
 use Rattle.vm_abroad.specs.Home.{HaveHomes, home_of, object_home}
 use Rattle.vm_state.specs.References.{AllReferred}
-use Rattle.vm_state.specs.Stands.{AllUsed, AreShared, HasControls, HasEntries, HasFrames, HasHomes, HasKinds, HasLaundry, HasPages, HasRegions, HasTasks, HasUse}
+use Rattle.vm_state.specs.Stands.{AllUsed, AreShared, HasControls, HasEntries, HasFrames, HasHomes, HasKinds, HasLaundry, HasPages, HasRegions, HasTasks, HasUse, KnowsFiles}
 use Rattle.vm_abroad.specs.Sound.{holds}
 use Rattle.vm_abroad.specs.Whose.{IsShut}
 use Rattle.vm_supply.specs.declared.woken.Woken.{Woken}
@@ -46,13 +46,6 @@ pub record IsRanged (header : Header) : Type 0 where
   pub objects : named header ≤ most_objects
   pub kinds : All (λ (object : Declared). object.kind ≢ Temp) header.objects.items
 
--- the header of a script of temporary memory: its numbers are in their ranges, and it has no objects
-pub record IsPlain (header : Header) : Type 0 where
-  pub size : IsPageSize header.size
-  pub hosts : IsBetween 1 8 (length header.frames.items)
-  pub few : All (λ frames. frames < 2 ^ 32) header.frames.items
-  pub objects : header.objects.items ≡ []
-
 -- the numbers of the first region and object, behind those of the declared ones
 abbrev pub first_ids : Header → Ids
 first_ids header = record { next_object = named header; next_region = named header; marks = 0 }
@@ -68,12 +61,13 @@ pub record Matches (header : Header) (h : ℕ) (k : Parts) (ids : Ids) (gone : L
   pub known : h < length header.frames.items
   pub size : k.size ≡ header.size
   pub host : k.host.0 ≡ h
-  pub declared : k.declared ≡ named header
+  pub declared : k.declared.items ≡ header.objects.items
   pub fits : PartsFit k
   pub tasks : HasTasks h header.size k.maps (λ task. host_of task past) (λ task. entries_of header.size task past)
   pub regions : HasRegions k.chains k.memory.objects ids (λ r. region_of header r past) (λ o. backing_of header o past) (next_region header past) (next_object header past) (marked_regions header past)
   pub kinds : HasKinds header k.memory.objects k.chains
   pub homes : HasHomes header h k.chains (λ r. home_of r past)
+  pub files : KnowsFiles header h k.memory.objects (λ o. home_of o past)
   pub entries : HasEntries header.size k.maps k.chains gone
   pub shared : AreShared (named header) k.maps
   pub pages : HasPages k.memory.frames k.memory.resident k.memory.objects (λ o p. known_local header o p (local header.size h (place_of o p) past))

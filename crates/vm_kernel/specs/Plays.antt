@@ -1,5 +1,5 @@
 -- What happens to the lists of a host's pages over a call: what its events say, one after another.
-use Rattle.std.specs.Prelude.{ℕ, ◌<◌, ◌⊎◌, ◌≡◌, ◌==◌, ◌&&◌, false, List, [], ◌∷◌, ◌++◌, Option, Some, None, if◌then◌else◌}
+use Rattle.std.specs.Prelude.{ℕ, ◌<◌, ◌⊎◌, ◌≡◌, ◌==◌, ◌&&◌, true, false, List, [], ◌∷◌, ◌++◌, Option, Some, None, if◌then◌else◌}
 use Rattle.vm_base.specs.declared.ids.FrameNo.{FrameNo}
 use Rattle.vm_base.specs.declared.ids.ObjectId.{ObjectId}
 use Rattle.vm_model.specs.declared.event.Event.{Event}
@@ -8,7 +8,8 @@ use Rattle.vm_model.specs.declared.message.Channel.TheVariants.{Up}
 use Rattle.vm_model.specs.declared.message.Message.TheVariants as message
 use Rattle.vm_model.specs.declared.script.Header.{Header}
 use Rattle.vm_model.specs.Named.{named}
-use Rattle.vm_legal.specs.Licences.{IsUnheld}
+use Rattle.vm_model.specs.Words.{in_range}
+use Rattle.vm_legal.specs.Licences.{IsUnheld, LockRequest, lock_taken}
 use Rattle.vm_legal.specs.Prompt.{IsSource}
 use Rattle.vm_legal.specs.Walks.{Reach}
 use Rattle.vm_pageout.specs.Reclaims.{queues_after_search}
@@ -73,11 +74,20 @@ pub record DepartsUnheld (header : Header) (host : ℕ) (past : List Event) (obj
   pub unheld : IsUnheld header host object past
   pub departs : Departs object page old.queues old new
 
--- a page goes as the victim, or its object is in no chain, or nothing holds it, and then its pages go in any order
+-- a page goes that a lock request is over, which the step took
+pub record DepartsLocked (host : ℕ) (past : List Event) (object page : ℕ) (old new : Paging) : Type 0 where
+  pub request : LockRequest
+  pub taken : lock_taken past ≡ Some request
+  pub of : (request.host ≡ host) × (request.object ≡ object)
+  pub over : in_range page request.page request.count ≡ true
+  pub departs : Departs object page old.queues old new
+
+-- a page goes as the victim, or for a lock request, or its object is in no chain, or nothing holds it, and then its pages go in any order
 pub data DepartsFrom (header : Header) (host : ℕ) (past : List Event) (object page : ℕ) (old new : Paging) : Type 0 where
   AsVictim : IsVictim header host past object page old new → DepartsFrom header host past object page old new
   AsUnreached : (Reach header host object past → ⊥) → Departs object page old.queues old new → DepartsFrom header host past object page old new
   AsUnheld : DepartsUnheld header host past object page old new → DepartsFrom header host past object page old new
+  AsLocked : DepartsLocked host past object page old new → DepartsFrom header host past object page old new
 
 -- in front of the create that a return needs
 abbrev pub uncreated : List Event → List Event
@@ -98,7 +108,7 @@ Does header past (event.Zeroed host object page) old new = Arrives object.0 page
 Does header past (event.Raised host lower lower_page upper upper_page) old new = Copies lower.0 lower_page.0 upper.0 upper_page.0 old new
 Does header past (event.Dropped host object page) old new = DepartsFrom header host.0 past object.0 page.0 old new
 Does header past (event.Sent (Up host object) (message.Return control page dirty false bytes)) old new =
-    IsVictim header host.0 (uncreated past) object.0 page.0 old new ⊎ DepartsUnheld header host.0 past object.0 page.0 old new
+    IsVictim header host.0 (uncreated past) object.0 page.0 old new ⊎ (DepartsUnheld header host.0 past object.0 page.0 old new ⊎ DepartsLocked host.0 past object.0 page.0 old new)
 Does header past other old new = new ≡ old
 
 -- a victim was looked for, and there is none: each page on the lists is one that an access is to copy which wants a frame

@@ -1,7 +1,7 @@
 -- Why a kernel refuses a command, from what it keeps.
-use Rattle.std.specs.Prelude.{ℕ, ◌+◌, ◌/◌, ◌%◌, ◌<◌, ◌==◌, ◌&&◌, ◌||◌, if◌then◌else◌, Bool, false, not, List, length, nat_le, nat_lt, Option, Some, None, IsSome, is_some}
+use Rattle.std.specs.Prelude.{ℕ, ◌+◌, ◌/◌, ◌%◌, ◌<◌, ◌==◌, ◌&&◌, ◌||◌, if◌then◌else◌, Bool, false, not, List, length, nat_le, nat_lt, reverse, slice_get, Option, Some, None, IsSome, is_some}
 use Rattle.vm_base.specs.declared.code.Code.{Code}
-use Rattle.vm_base.specs.declared.code.Code.TheVariants.{Blocked, InvalidAddress, InvalidArgument, NoSpace, ProtectionFailure, ResourceShortage, TableFull}
+use Rattle.vm_base.specs.declared.code.Code.TheVariants.{Blocked, InvalidAddress, InvalidArgument, NoSpace, ProtectionFailure, ResourceShortage, TableFull, WrongHost}
 use Rattle.vm_base.specs.declared.entry.Entry.{Entry}
 use Rattle.vm_base.specs.declared.ids.Access.{Access}
 use Rattle.vm_base.specs.declared.ids.Access.TheVariants as need
@@ -10,9 +10,11 @@ use Rattle.vm_base.specs.Limits.{most_objects, most_pages, most_regions}
 use Rattle.vm_model.specs.declared.command.Command.{Command}
 use Rattle.vm_model.specs.declared.command.Command.TheVariants as command
 use Rattle.vm_model.specs.declared.event.Event.{Event}
+use Rattle.vm_model.specs.declared.script.Header.{Header}
+use Rattle.vm_model.specs.Named.{pages_kept}
 use Rattle.vm_model.specs.Tasks.{copies, host_of, is_copied, new_marks}
 use Rattle.vm_legal.specs.Outside.{is_wild_kind}
-use Rattle.vm_legal.specs.Refusal.{access_refusal, code_where, meets_declared}
+use Rattle.vm_legal.specs.Refusal.{access_refusal, code_where, is_elsewhere, meets_declared}
 use Rattle.vm_frames.specs.Frames.{free}
 use Rattle.vm_objects.specs.Objects.{ObjectTable, object_at}
 use Rattle.vm_objects.specs.declared.row.ObjectRow.{ObjectRow}
@@ -47,6 +49,23 @@ range_code size rows ids address bytes =
     (code_where (meets_range address bytes rows) NoSpace
     (code_where (nat_lt most_entries (length rows + 1) || (nat_le most_regions ids.next_region || nat_le most_objects (object_total ids))) TableFull None))
 
+-- the pages of a declared object
+abbrev pub pages_declared : Parts → ℕ → ℕ
+pages_declared k object = pages_kept (slice_get (reverse k.declared.items) object)
+
+-- the code of a mapping of a declared object by a task, which may belong to another host
+abbrev pub map_code : Parts → Bool → ℕ → ℕ → ℕ → ℕ → ℕ → Option Code
+map_code k elsewhere task address bytes object offset =
+    code_where (not (is_range k.size address bytes) || nat_lt (pages_declared k object) (offset + bytes / k.size)) InvalidArgument
+    (code_where elsewhere WrongHost
+    (code_where (meets_range address bytes (rows_in task k.maps)) NoSpace
+    (code_where (nat_lt most_entries (length (rows_in task k.maps) + 1)) TableFull None)))
+
+-- the command maps a file that belongs to another host
+abbrev pub maps_elsewhere : Header → ℕ → Command → List Event → Bool
+maps_elsewhere header h (command.Map task address bytes object offset) past = is_elsewhere header object.0 (Some h) past
+maps_elsewhere header h other past = false
+
 -- the region has a copy mark
 abbrev pub is_marked : ChainTable → ℕ → Bool
 is_marked chains r = mark_in (region_at chains r)
@@ -80,11 +99,11 @@ is_uncopied declared objects own region = nat_lt region declared && (is_wild_row
 abbrev pub source_code : Parts → Ids → Bool → List Entry → ℕ → ℕ → ℕ → Option Entry → Option Code
 source_code k ids own rows address bytes to None = Some InvalidAddress
 source_code k ids own rows address bytes to (Some row) =
-    code_where (is_uncopied k.declared k.memory.objects own row.region.0) InvalidArgument
+    code_where (is_uncopied (length k.declared.items) k.memory.objects own row.region.0) InvalidArgument
     (code_where (nat_lt (row.address + row.bytes) (address + bytes)) InvalidAddress
     (code_where (not (allows need.Load row.prot)) ProtectionFailure
     (code_where (meets_range to bytes rows) NoSpace
-    (code_where (nat_lt most_entries (length rows + 1) || is_copy_full k.declared k.chains ids row.region.0) TableFull None))))
+    (code_where (nat_lt most_entries (length rows + 1) || is_copy_full (length k.declared.items) k.chains ids row.region.0) TableFull None))))
 
 -- the code of a copy from a task to another, or to itself
 abbrev pub copy_code : Parts → Ids → ℕ → ℕ → ℕ → ℕ → ℕ → Option Code
@@ -106,30 +125,42 @@ changing_code k (command.Deallocate task address bytes) = change_code k task.0 (
 changing_code k (command.Protect task address bytes prot) = change_code k task.0 (protection address bytes prot)
 changing_code k (command.Inherit task address bytes inherit) =
     acting_in k task.0
-    (code_where (is_copied inherit && meets_declared k.declared address bytes (rows_in task.0 k.maps)) InvalidArgument (judged k.maps.size (inheritance address bytes inherit) (rows_in task.0 k.maps)))
+    (code_where (is_copied inherit && meets_declared (length k.declared.items) address bytes (rows_in task.0 k.maps)) InvalidArgument (judged k.maps.size (inheritance address bytes inherit) (rows_in task.0 k.maps)))
 changing_code k other = None
 
--- the code of a command
-abbrev pub code_of : Parts → Ids → Command → Option Code
-code_of k ids (command.Fork task child) = acting_in k task.0 (fork_code k.chains (rows_in task.0 k.maps) ids)
-code_of k ids (command.Exit task) = acting_in k task.0 None
-code_of k ids (command.Allocate task address bytes) = acting_in k task.0 (range_code k.size (rows_in task.0 k.maps) ids address bytes)
-code_of k ids (command.Load task address size) = acting_in k task.0 (access_code (rows_in task.0 k.maps) address size need.Load)
-code_of k ids (command.Store task address size value) = acting_in k task.0 (access_code (rows_in task.0 k.maps) address size need.Store)
-code_of k ids (command.Copy task address bytes target to) =
+-- the code of a command; what it maps may belong to another host
+abbrev pub code_of : Parts → Ids → Bool → Command → Option Code
+code_of k ids elsewhere (command.Fork task child) = acting_in k task.0 (fork_code k.chains (rows_in task.0 k.maps) ids)
+code_of k ids elsewhere (command.Exit task) = acting_in k task.0 None
+code_of k ids elsewhere (command.Allocate task address bytes) = acting_in k task.0 (range_code k.size (rows_in task.0 k.maps) ids address bytes)
+code_of k ids elsewhere (command.Map task address bytes object offset) = acting_in k task.0 (map_code k elsewhere task.0 address bytes object.0 offset)
+code_of k ids elsewhere (command.Load task address size) = acting_in k task.0 (access_code (rows_in task.0 k.maps) address size need.Load)
+code_of k ids elsewhere (command.Store task address size value) = acting_in k task.0 (access_code (rows_in task.0 k.maps) address size need.Store)
+code_of k ids elsewhere (command.Copy task address bytes target to) =
     acting_in k task.0 (acting_in k target.0 (copy_code k ids task.0 target.0 address bytes to))
-code_of k ids (command.Wire host frames) = code_where (nat_lt (free k.memory.frames) frames) ResourceShortage None
-code_of k ids (command.Unwire host frames) = code_where (nat_lt k.memory.frames.wired frames) InvalidArgument None
-code_of k ids other = changing_code k other
+code_of k ids elsewhere (command.Wire host frames) = code_where (nat_lt (free k.memory.frames) frames) ResourceShortage None
+code_of k ids elsewhere (command.Unwire host frames) = code_where (nat_lt k.memory.frames.wired frames) InvalidArgument None
+code_of k ids elsewhere other = changing_code k other
 
--- The tasks of the command are in the maps, and an access is of some bytes.
-abbrev pub IsForHere : Mapped → Command → Type 0
-IsForHere maps (command.Fork task child) = IsSome (entries_in task.0 maps)
-IsForHere maps (command.Allocate task address bytes) = IsSome (entries_in task.0 maps)
-IsForHere maps (command.Deallocate task address bytes) = IsSome (entries_in task.0 maps)
-IsForHere maps (command.Protect task address bytes prot) = IsSome (entries_in task.0 maps)
-IsForHere maps (command.Inherit task address bytes inherit) = IsSome (entries_in task.0 maps)
-IsForHere maps (command.Load task address size) = IsSome (entries_in task.0 maps) × (0 < size)
-IsForHere maps (command.Store task address size value) = IsSome (entries_in task.0 maps) × (0 < size)
-IsForHere maps (command.Copy task address bytes target to) = IsSome (entries_in task.0 maps) × IsSome (entries_in target.0 maps)
-IsForHere maps other = Unit {0}
+-- the entry is on one of so many declared objects
+abbrev pub is_declared_entry : ℕ → Option Entry → Bool
+is_declared_entry declared None = false
+is_declared_entry declared (Some row) = nat_lt row.region.0 declared
+
+-- the command copies from an entry on a declared object
+abbrev pub copies_declared : Parts → Command → Bool
+copies_declared k (command.Copy task address bytes target to) = is_declared_entry (length k.declared.items) (entry_at address (rows_in task.0 k.maps))
+copies_declared k other = false
+
+-- The tasks of the command are in the maps, what it maps is one of so many declared objects, and an access is of some bytes.
+abbrev pub IsForHere : Mapped → ℕ → Command → Type 0
+IsForHere maps declared (command.Fork task child) = IsSome (entries_in task.0 maps)
+IsForHere maps declared (command.Allocate task address bytes) = IsSome (entries_in task.0 maps)
+IsForHere maps declared (command.Map task address bytes object offset) = IsSome (entries_in task.0 maps) × (object.0 < declared)
+IsForHere maps declared (command.Deallocate task address bytes) = IsSome (entries_in task.0 maps)
+IsForHere maps declared (command.Protect task address bytes prot) = IsSome (entries_in task.0 maps)
+IsForHere maps declared (command.Inherit task address bytes inherit) = IsSome (entries_in task.0 maps)
+IsForHere maps declared (command.Load task address size) = IsSome (entries_in task.0 maps) × (0 < size)
+IsForHere maps declared (command.Store task address size value) = IsSome (entries_in task.0 maps) × (0 < size)
+IsForHere maps declared (command.Copy task address bytes target to) = IsSome (entries_in task.0 maps) × IsSome (entries_in target.0 maps)
+IsForHere maps declared other = Unit {0}

@@ -1,12 +1,12 @@
 -- A message of a pager is taken.
-use Rattle.std.specs.Prelude.{ℕ, ◌<◌, ◌≡◌, ◌++◌, true, false, List, length, Some, None}
+use Rattle.std.specs.Prelude.{ℕ, ◌<◌, ◌≡◌, ◌++◌, Bool, true, false, List, length, Some, None}
 use Rattle.vm_model.specs.declared.event.Event.{Event}
 use Rattle.vm_model.specs.declared.message.Message.{Message}
 use Rattle.vm_model.specs.declared.message.Message.TheVariants as message
 use Rattle.vm_model.specs.declared.script.Header.{Header}
 use Rattle.vm_model.specs.Named.{named}
-use Rattle.vm_legal.specs.Debts.{EndsWaiters}
-use Rattle.vm_legal.specs.Licences.{zeroes}
+use Rattle.vm_legal.specs.Debts.{EndsWaiters, HasLocked}
+use Rattle.vm_legal.specs.Licences.{LockRequest, lock_taken, zeroes}
 use Rattle.vm_legal.specs.Steps.{absence_taken, error_taken, fails_access, fails_task, since}
 use Rattle.vm_legal.specs.Stretches.{EachOf}
 use Rattle.vm_legal.specs.Reclaims.{IsReclaim}
@@ -19,13 +19,27 @@ use Rattle.vm_waits.specs.declared.waiting.On.TheVariants as on
 use Rattle.vm_waits.specs.declared.waiting.Waiting.{Waiting}
 use Rattle.vm_state.specs.Waiters.{Asker, is_woken}
 
--- what the default pager may say, where a page has so many bytes
-abbrev pub IsTempAnswer : ℕ → Message → Type 0
-IsTempAnswer size (message.Ready cache strategy) = Unit {0}
-IsTempAnswer size (message.Supply page lock precious bytes) = (lock ≡ 0) × (precious ≡ false) × (length bytes ≡ size)
-IsTempAnswer size (message.Unavailable page) = Unit {0}
-IsTempAnswer size (message.Error page reason) = Unit {0}
-IsTempAnswer size other = ⊥
+-- how the pager of temporary memory, or of a file, may answer, where a page has so many bytes
+abbrev pub IsPlainAnswer : ℕ → Message → Type 0
+IsPlainAnswer size (message.Ready cache strategy) = Unit {0}
+IsPlainAnswer size (message.Supply page lock precious bytes) = (lock ≡ 0) × (precious ≡ false) × (length bytes ≡ size)
+IsPlainAnswer size (message.Unavailable page) = Unit {0}
+IsPlainAnswer size (message.Error page reason) = Unit {0}
+IsPlainAnswer size other = ⊥
+
+-- what it may say: an answer, or a lock request that leaves all locks as they are
+abbrev pub IsPlainWord : ℕ → Message → Type 0
+IsPlainWord size (message.Lock page count returns flush lock reply) = (returns < 3) × (lock ≡ 8)
+IsPlainWord size (message.Ready cache strategy) = IsPlainAnswer size (message.Ready cache strategy)
+IsPlainWord size (message.Supply page lock precious bytes) = IsPlainAnswer size (message.Supply page lock precious bytes)
+IsPlainWord size (message.Unavailable page) = IsPlainAnswer size (message.Unavailable page)
+IsPlainWord size (message.Error page reason) = IsPlainAnswer size (message.Error page reason)
+IsPlainWord size other = ⊥
+
+-- the message is a lock request
+abbrev pub is_lock_request : Message → Bool
+is_lock_request (message.Lock page count returns flush lock reply) = true
+is_lock_request other = false
 
 -- the step took the error that ends those who wait for a page; or it took none that counts
 abbrev pub FailsNow : Header → ℕ → Woken → List Event → Type 0
@@ -76,6 +90,10 @@ IsErrorPaid header past = (host object page : ℕ) → error_taken header.size p
 -- zeros have come where the step took the word of a declared object's pager that it has no such page
 abbrev pub IsAbsencePaid : Header → List Event → Type 0
 IsAbsencePaid header past = (host object page : ℕ) → object < named header → absence_taken header.size past ≡ Some (record { host = host; object = object; page = page }) → since (zeroes object page) past ≡ true
+
+-- a lock request that the step took is obeyed
+abbrev pub IsLockPaid : Header → List Event → Type 0
+IsLockPaid header past = (request : LockRequest) → lock_taken past ≡ Some request → HasLocked header request past
 
 -- all events that were added take pages from the host
 pub record EachGone (h : ℕ) (old new : List Event) : Type 0 where

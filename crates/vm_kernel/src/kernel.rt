@@ -1,5 +1,5 @@
 // One host's kernel.
-ghost use Rattle.std.specs.Prelude.{◌≡◌, ◌≢◌, ◌++◌, ◌∷◌, ◌<◌, [], length, false, true, is_some, IfOk, OnOk};
+ghost use Rattle.std.specs.Prelude.{◌≡◌, ◌≢◌, ◌++◌, ◌∷◌, ◌<◌, [], length, false, true, is_none, is_some, IfOk, OnOk};
 ghost use Rattle.vm_model.specs.declared.event.Event.TheVariants as event;
 ghost use Rattle.vm_model.specs.declared.message.Channel.TheVariants.{Down};
 ghost use Rattle.vm_waits.specs.Waits.{entry, queued};
@@ -7,16 +7,18 @@ ghost use Rattle.vm_kernel.specs.Serving.{HasQueue};
 ghost use Rattle.vm_frames.specs.Frames.{free};
 ghost use Rattle.vm_objects.specs.Objects.{object_at};
 ghost use Rattle.vm_model.specs.Ranges.{InRange};
+ghost use Rattle.vm_legal.specs.Follows.{head};
 ghost use Rattle.vm_legal.specs.Refusal.{refusal};
 ghost use Rattle.vm_kernel.specs.Begun.{Doing, Given, IsLaundered, Passed, Passing, Ran, Served, Starts, acts_on, targets_here};
 ghost use Rattle.vm_kernel.specs.Built.{kernel_runs};
 ghost use Rattle.vm_kernel.specs.Plays.{Plays, PlaysAnswer, paging};
 ghost use Rattle.vm_resident.specs.Resident.{row_at};
 ghost use Rattle.vm_supply.specs.Answers.{outcome_of};
+ghost use Rattle.vm_shadow.specs.declared.ids.Ids.{Ids as Numbers};
 ghost use Rattle.vm_state.specs.Stands.{HasTasks};
 ghost use Rattle.vm_kernel.specs.Matches.{IsRanged, Rests, first_ids, host_id};
-ghost use Rattle.vm_kernel.specs.Refusing.{takes_name};
-ghost use Rattle.vm_kernel.specs.Taking.{EndsAll, IsAbsencePaid, IsErrorPaid, IsTempAnswer};
+ghost use Rattle.vm_kernel.specs.Refusing.{maps_elsewhere, takes_name};
+ghost use Rattle.vm_kernel.specs.Taking.{EndsAll, IsAbsencePaid, IsErrorPaid, IsLockPaid, IsPlainWord};
 ghost use Rattle.vm_kernel.specs.Turns.{KeepsOthers, LeavesInTurn, Restarted};
 
 use crate::parts::Parts;
@@ -24,7 +26,7 @@ use std::alloc::Global;
 use std::marker::Model;
 use vm_base::{Code, HostId, NoMemory, ObjectId, TaskId};
 use vm_maps::Maps;
-use vm_model::{Command, Events, Header, Message};
+use vm_model::{Command, Declarations, Events, Header, Message};
 use vm_objects::ObjectRow;
 use vm_pageout::Laundry;
 use vm_parts::HostParts;
@@ -60,13 +62,14 @@ impl Kernel {
         ensures lists { IfOk result (λ kernel. (kernel.memory.queues.active ≡ []) × (kernel.memory.queues.inactive ≡ [])) }
     {
         let count = *header.frames.at(host.0);
+        let declared = copied(alloc, &header.objects)?;
         let memory = HostParts::new(alloc, count, header.size)?;
         let laundry = Laundry::new(alloc, count)?;
         let parts = Parts {
             alloc,
             host,
             size: header.size,
-            declared: header.objects.len(),
+            declared,
             memory,
             maps: Maps::new(alloc, header.size),
             chains: Chains::new(alloc),
@@ -97,12 +100,12 @@ impl Kernel {
         Ok(log)
     }
 
-    /// Takes an answer of the default pager to a control of an object, and gives what happened
-    /// behind the taking, up to where the frame queues are served. What isn't for the live control,
-    /// or answers nothing, is discarded (this profile).
+    /// Takes what the pager of temporary memory, or of a file, says to a control of an object, and
+    /// gives what happened behind the taking, up to where the frame queues are served. What isn't for
+    /// the live control, or answers nothing, is discarded (this profile).
     ///
-    /// The answers are memory_object_ready, memory_object_data_supply, memory_object_data_unavailable
-    /// and memory_object_data_error.
+    /// The messages are memory_object_ready, memory_object_data_supply, memory_object_data_unavailable,
+    /// memory_object_data_error, and a memory_object_lock_request that leaves all locks as they are.
     ///
     /// After `NoMemory` the kernel is used no more.
     pub fn take(
@@ -115,10 +118,11 @@ impl Kernel {
         ghost given: { Passing }
         requires rests { Rests given.header given.host self.old ids.old given.past }
         requires front { given.front ≡ event.Taken (Down (host_id given.host) object control) message.now ∷ [] }
-        requires answer { IsTempAnswer given.header.size message.now }
+        requires word { IsPlainWord given.header.size message.now }
         ensures passed { IfOk result (λ events. Passed given.header given.host given.outside given.command (given.front ++ given.past) self.new ids.new events.items) }
         ensures failed { IfOk result (λ events. IsErrorPaid given.header (events.items ++ (given.front ++ given.past))) }
         ensures zeroed { IfOk result (λ events. IsAbsencePaid given.header (events.items ++ (given.front ++ given.past))) }
+        ensures locked { IfOk result (λ events. IsLockPaid given.header (events.items ++ (given.front ++ given.past))) }
         ensures plays { IfOk result (λ events. PlaysAnswer given.header (given.front ++ given.past) object (outcome_of (object_at self.old.memory.objects object.0) control (row_at self.old.memory.resident object.0) message.now) (paging self.old) events.items (paging self.new)) }
         ensures ended { HasQueue given.header given.host self.old given.past → IfOk result (λ events. EndsAll given.header (events.items ++ (given.front ++ given.past))) }
         ensures restarts { IfOk result (λ events. Restarted given.header given.host self.new.waits.rows (given.front ++ given.past) self.old.waits.queue self.new.waits.queue events.items) }
@@ -170,8 +174,9 @@ impl Kernel {
     }
 
     /// Why a command that acts on this host is refused now, if it is; the numbers that it gives to
-    /// tasks are free, and the task to which it copies lives here. It takes no memory.
-    pub fn refusal(&self, command: &Command, ids: &Ids) -> Option<Code>
+    /// tasks are free, and the task to which it copies lives here. A file that it maps may belong to
+    /// another host (`elsewhere`). It takes no memory.
+    pub fn refusal(&self, command: &Command, ids: &Ids, elsewhere: bool) -> Option<Code>
         ghost given: { Given }
         requires rests { Rests given.header given.host self.now ids.now given.past }
         requires acts { acts_on given.host command.now given.past ≡ true }
@@ -179,9 +184,23 @@ impl Kernel {
         requires range { InRange given.header command.now }
         requires built { kernel_runs command.now ≡ true }
         requires unnamed { takes_name command.now given.past ≡ false }
+        requires elsewhere { elsewhere ≡ maps_elsewhere given.header given.host command.now given.past }
         ensures { result ≡ refusal given.header given.past command.now }
     {
-        self.parts.refusal(command, ids)
+        self.parts.refusal(command, ids, elsewhere)
+    }
+
+    /// Whether a command that isn't refused copies from an entry on a declared object.
+    pub fn copies_declared(&self, command: &Command) -> bool
+        ghost given: { Given }
+        requires rests { (ids : Numbers) × Rests given.header given.host self.now ids given.past }
+        requires acts { acts_on given.host command.now given.past ≡ true }
+        requires range { InRange given.header command.now }
+        requires built { kernel_runs command.now ≡ true }
+        requires accepted { refusal given.header given.past command.now ≡ None }
+        ensures { result ≡ is_none (head given.header given.past command.now) }
+    {
+        self.parts.copies_declared(command)
     }
 
     /// The number of frames that are neither claimed nor wired.
@@ -218,4 +237,15 @@ impl Kernel {
     {
         self.parts.memory.objects.find(id)
     }
+}
+
+// The declared objects once more.
+fn copied(alloc: Global, objects: &Declarations) -> Result<Declarations, NoMemory>
+    ensures { IfOk result (λ declared. declared.items ≡ objects.now.items) }
+{
+    let mut declared = Declarations::new(alloc);
+    'all: for i in 0..objects.len() {
+        declared.push(*objects.at(i))?;
+    }
+    Ok(declared)
 }

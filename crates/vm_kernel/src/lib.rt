@@ -10,6 +10,8 @@ mod counting;
 mod dropping;
 mod forking;
 mod kernel;
+mod mapping;
+mod obeying;
 mod others;
 mod parts;
 mod refusing;

@@ -3,6 +3,7 @@
 use std::alloc::Global;
 use vm_base::{HostId, PageSize};
 use vm_maps::Maps;
+use vm_model::Declarations;
 use vm_pageout::Laundry;
 use vm_parts::HostParts;
 use vm_shadow::Chains;
@@ -13,8 +14,8 @@ pub struct Parts {
     pub alloc: Global,
     pub host: HostId,
     pub size: PageSize,
-    // How many objects are declared.
-    pub declared: u32,
+    // The declared objects, by their numbers.
+    pub declared: Declarations,
     pub memory: HostParts,
     pub maps: Maps,
     pub chains: Chains,

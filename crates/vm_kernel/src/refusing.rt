@@ -1,5 +1,5 @@
 // Why a command is refused.
-ghost use Rattle.std.specs.Prelude.{◌≡◌, ◌==◌, ◌&&◌, ◌≤◌, ◌+◌, ◌<◌, ◌^◌, true, IsSome, nat_lt, not, None};
+ghost use Rattle.std.specs.Prelude.{◌≡◌, ◌==◌, ◌&&◌, ◌≤◌, ◌+◌, ◌<◌, ◌^◌, true, IsSome, length, nat_lt, not, None};
 ghost use Rattle.vm_base.specs.declared.code.Code.TheVariants as code;
 ghost use Rattle.vm_base.specs.Entries.{by_address, entry_at, is_range};
 ghost use Rattle.vm_legal.specs.Refusal.{code_where, meets_declared};
@@ -10,7 +10,7 @@ ghost use Rattle.vm_frames.specs.Frames.{free};
 ghost use Rattle.vm_maps.specs.Maps.{entries_in, rows_in};
 ghost use Rattle.vm_kernel.specs.Begun.{Given, acts_on};
 ghost use Rattle.vm_state.specs.Stands.{HasTasks};
-ghost use Rattle.vm_kernel.specs.Refusing.{IsForHere, access_code, acting_in, change_code, changing_code, code_of, copy_code, fork_code, is_copy_full, is_uncopied, makes_too_many, object_total, range_code, source_code};
+ghost use Rattle.vm_kernel.specs.Refusing.{IsForHere, access_code, acting_in, change_code, changing_code, code_of, copies_declared, copy_code, fork_code, is_copy_full, is_uncopied, makes_too_many, map_code, object_total, range_code, source_code};
 
 use crate::changes::{enter, inheritance, protection, removal};
 use crate::copying::{copies, is_marked, meets_declared, new_marks};
@@ -69,10 +69,10 @@ fn ends_behind(entry: Entry, address: u64, bytes: u64) -> bool
 
 impl Parts {
     // Why the command is refused now, if it is.
-    pub fn refusal(&self, command: &Command, ids: &Ids) -> Option<Code>
+    pub fn refusal(&self, command: &Command, ids: &Ids, elsewhere: bool) -> Option<Code>
         requires sized { self.now.maps.size ≡ self.now.size }
-        requires here { IsForHere self.now.maps command.now }
-        ensures { result ≡ code_of self.now ids.now command.now }
+        requires here { IsForHere self.now.maps (length self.now.declared.items) command.now }
+        ensures { result ≡ code_of self.now ids.now elsewhere command.now }
     {
         match command {
             Command::Fork { task, .. } => self.fork_refusal(*task, ids),
@@ -82,6 +82,13 @@ impl Parts {
                 address,
                 bytes,
             } => self.allocate_refusal(*task, *address, *bytes, ids),
+            Command::Map {
+                task,
+                address,
+                bytes,
+                object,
+                offset,
+            } => self.map_refusal(*task, *address, *bytes, *object, *offset, elsewhere),
             Command::Load {
                 task,
                 address,
@@ -108,7 +115,7 @@ impl Parts {
 
     // Of the commands that change the range of a task.
     fn changing_refusal(&self, command: &Command) -> Option<Code>
-        requires { IsForHere self.now.maps command.now }
+        requires { IsForHere self.now.maps (length self.now.declared.items) command.now }
         ensures { result ≡ changing_code self.now command.now }
     {
         match command {
@@ -163,6 +170,36 @@ impl Parts {
         None
     }
 
+    // The tests of a mapping, in their order: the task can act, the range is one of whole pages within
+    // the object, the object doesn't belong to another host, and the range is free, as one entry more.
+    fn map_refusal(
+        &self,
+        task: TaskId,
+        address: u64,
+        bytes: u64,
+        object: ObjectId,
+        offset: u32,
+        elsewhere: bool,
+    ) -> Option<Code>
+        requires sized { self.now.maps.size ≡ self.now.size }
+        requires here { IsSome (entries_in task.0 self.now.maps) }
+        requires declared { object.0 < length self.now.declared.items }
+        ensures { result ≡ acting_in self.now task.0 (map_code self.now elsewhere task.0 address bytes object.0 offset) }
+    {
+        if let Some(code) = self.acting_refusal(task) {
+            return Some(code);
+        }
+        let pages = bytes / u64::from(self.size.bytes());
+        let within = u64::from(self.declared.at(object.0).pages);
+        if !self.is_range(task, address, bytes) || u64::from(offset) + pages > within {
+            return Some(Code::InvalidArgument);
+        }
+        if elsewhere {
+            return Some(Code::WrongHost);
+        }
+        self.maps.judge(task, &enter(address, bytes))
+    }
+
     fn access_refusal(&self, task: TaskId, address: u64, size: u32, need: Access) -> Option<Code>
         requires here { IsSome (entries_in task.0 self.now.maps) }
         requires some { 0 < size }
@@ -197,14 +234,16 @@ impl Parts {
     ) -> Option<Code>
         requires { IsSome (entries_in task.0 self.now.maps) }
         ensures { result ≡ acting_in self.now task.0
-            (code_where (is_copied inherit && meets_declared self.now.declared address bytes (rows_in task.0 self.now.maps)) code.InvalidArgument
+            (code_where (is_copied inherit && meets_declared (length self.now.declared.items) address bytes (rows_in task.0 self.now.maps)) code.InvalidArgument
             (judged self.now.maps.size (inheritance_of address bytes inherit) (rows_in task.0 self.now.maps))) }
     {
         if let Some(code) = self.acting_refusal(task) {
             return Some(code);
         }
         let entries = self.maps.entries(task);
-        if inherit == Inherit::Copy && meets_declared(entries, self.declared, address, bytes) {
+        if inherit == Inherit::Copy
+            && meets_declared(entries, self.declared.len(), address, bytes)
+        {
             return Some(Code::InvalidArgument);
         }
         self.maps.judge(task, &inheritance(address, bytes, inherit))
@@ -296,7 +335,7 @@ impl Parts {
         if let Some(code) = self.maps.judge(target, &enter(to, bytes)) {
             return Some(code);
         }
-        if is_copy_full(self.declared, &self.chains, ids, entry.region) {
+        if is_copy_full(self.declared.len(), &self.chains, ids, entry.region) {
             return Some(Code::TableFull);
         }
         None
@@ -304,14 +343,28 @@ impl Parts {
 
     // Whether nothing is copied from entries on the region: to the same task, or to another.
     fn is_uncopied(&self, region: RegionId, own: bool) -> bool
-        ensures { result ≡ is_uncopied self.now.declared self.now.memory.objects own region.0 }
+        ensures { result ≡ is_uncopied (length self.now.declared.items) self.now.memory.objects own region.0 }
     {
-        if region.0 >= self.declared {
+        if region.0 >= self.declared.len() {
             return false;
         }
         match self.memory.objects.find(ObjectId(region.0)) {
             Some(known) => known.kind == ObjectKind::Wild || !own,
             None => !own,
+        }
+    }
+
+    // Whether a command copies from an entry on a declared object.
+    pub fn copies_declared(&self, command: &Command) -> bool
+        requires here { IsForHere self.now.maps (length self.now.declared.items) command.now }
+        ensures { result ≡ copies_declared self.now command.now }
+    {
+        let Command::Copy { task, address, .. } = command else {
+            return false;
+        };
+        match self.maps.entry(*task, *address) {
+            Some(entry) => entry.region.0 < self.declared.len(),
+            None => false,
         }
     }
 

@@ -40,6 +40,13 @@ impl Parts {
             | Command::Deallocate { .. }
             | Command::Protect { .. }
             | Command::Inherit { .. } => self.change_entries(command, ids, log),
+            Command::Map {
+                task,
+                address,
+                bytes,
+                object,
+                offset,
+            } => self.map(ids, *task, *address, *bytes, *object, *offset, log),
             Command::Load {
                 task,
                 address,

@@ -5,7 +5,7 @@ ghost use Rattle.vm_model.specs.declared.message.Channel.TheVariants.{Down};
 ghost use Rattle.vm_supply.specs.declared.woken.Woken.TheVariants as who;
 ghost use Rattle.vm_kernel.specs.Begun.{Doing, IsLaundered, LegalEvents, Passing};
 ghost use Rattle.vm_kernel.specs.Matches.{Rests, Works, host_id};
-ghost use Rattle.vm_kernel.specs.Taking.{EndsEach, EndsNobody, FailsNow, HasAsker, HasEnded, HasFailed, IsAbsencePaid, IsAnswered, IsErrorPaid, IsTempAnswer};
+ghost use Rattle.vm_kernel.specs.Taking.{EndsEach, EndsNobody, FailsNow, HasAsker, HasEnded, HasFailed, IsAbsencePaid, IsAnswered, IsErrorPaid, IsLockPaid, IsPlainAnswer, IsPlainWord};
 ghost use Rattle.vm_objects.specs.Objects.{object_at};
 ghost use Rattle.vm_resident.specs.Resident.{row_at};
 ghost use Rattle.vm_supply.specs.Answers.{outcome_of};
@@ -19,8 +19,9 @@ use vm_shadow::Ids;
 use vm_supply::{Woken, answer};
 
 impl Parts {
-    // Does to the pages and objects what an answer says. The event of a page of zeros may come with it.
-    fn hear(
+    /// Does to the pages and objects what an answer says. The event of a page of zeros may come with
+    /// it.
+    pub fn hear(
         &mut self,
         ids: &Ids,
         object: ObjectId,
@@ -31,7 +32,7 @@ impl Parts {
         ghost given: { Passing }
         requires rests { Rests given.header given.host self.old ids.now given.past }
         requires front { given.front ≡ event.Taken (Down (host_id given.host) object control) message.now ∷ [] }
-        requires answer { IsTempAnswer self.old.size message.now }
+        requires answer { IsPlainAnswer self.old.size message.now }
         requires nothing { log.old.items ≡ [] }
         ensures works { IfOk result (λ woken. Works given.header given.host self.new ids.now woken (log.new.items ++ (given.front ++ given.past))) }
         ensures fails { IfOk result (λ woken. FailsNow given.header given.host woken (log.new.items ++ (given.front ++ given.past))) }
@@ -105,7 +106,7 @@ impl Parts {
         Ok(())
     }
 
-    // Whom an answer wakes is run again.
+    // Whom the word of a pager wakes is run again.
     pub fn take(
         &mut self,
         ids: &mut Ids,
@@ -117,17 +118,18 @@ impl Parts {
         ghost given: { Passing }
         requires rests { Rests given.header given.host self.old ids.old given.past }
         requires front { given.front ≡ event.Taken (Down (host_id given.host) object control) message.now ∷ [] }
-        requires answer { IsTempAnswer self.old.size message.now }
+        requires word { IsPlainWord self.old.size message.now }
         requires nothing { log.old.items ≡ [] }
         ensures rests { OnOk result (Rests given.header given.host self.new ids.new (log.new.items ++ (given.front ++ given.past))) }
         ensures goes { OnOk result (LegalEvents given.header given.host given.outside given.command (given.front ++ given.past) [] log.new.items) }
         ensures failed { OnOk result (IsErrorPaid given.header (log.new.items ++ (given.front ++ given.past))) }
         ensures zeroed { OnOk result (IsAbsencePaid given.header (log.new.items ++ (given.front ++ given.past))) }
+        ensures locked { OnOk result (IsLockPaid given.header (log.new.items ++ (given.front ++ given.past))) }
         ensures plays { OnOk result (PlaysAnswer given.header (given.front ++ given.past) object (outcome_of (object_at self.old.memory.objects object.0) control (row_at self.old.memory.resident object.0) message.now) (paging self.old) log.new.items (paging self.new)) }
         ensures ended { OnOk result (EndsEach given.header self.old.waits.rows (log.new.items ++ (given.front ++ given.past))) }
         ensures restarts { OnOk result (Restarted given.header given.host self.new.waits.rows (given.front ++ given.past) self.old.waits.queue self.new.waits.queue log.new.items) }
     {
-        let woken = self.hear(ids, object, control, message, log)?;
+        let woken = self.heed(ids, object, control, message, log)?;
         self.wake(ids, woken, log)?;
         self.restart(ids, log)
     }

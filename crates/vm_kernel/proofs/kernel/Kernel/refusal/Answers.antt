@@ -10,4 +10,4 @@ refusal-requires g c =
 pub returns : goal.returns
 returns g c =
     let rests = subst (λ (z : Parts). Rests g.given.header g.given.host z c.args.ids.now g.given.past) (sym c.self.view_is) c.requires.0 in
-    c.refusal.ensures ∙ sym (refusal_is g.given.header g.given.host c.self.inside.parts c.args.ids.now g.given.past c.args.command.now rests c.requires.1.0 c.requires.1.1.0 c.requires.1.1.1.1.0 c.requires.1.1.1.1.1)
+    c.refusal.ensures ∙ sym (refusal_is g.given.header g.given.host c.self.inside.parts c.args.ids.now g.given.past c.args.elsewhere c.args.command.now rests c.requires.1.0 c.requires.1.1.0 c.requires.1.1.1.1.0 c.requires.1.1.1.1.1.0 c.requires.1.1.1.1.1.1)

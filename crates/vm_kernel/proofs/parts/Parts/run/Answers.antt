@@ -10,6 +10,7 @@ returns-in_default-clause-ran g c =
       task = c.in_default.not-Task;
       fork = c.in_default.not-Fork;
       exit = c.in_default.not-Exit;
+      map = c.in_default.not-Map;
       allocate = c.in_default.not-Allocate;
       deallocate = c.in_default.not-Deallocate;
       protect = c.in_default.not-Protect;
@@ -35,6 +36,9 @@ returns-in-Fork-clause-restarts g c = on_ok c.fork.result _ _ (restarts_quiet g.
 
 pub returns-in-Copy-clause-restarts : goal.returns-in-Copy-clause-restarts
 returns-in-Copy-clause-restarts g c = on_ok c.copy.result _ _ (restarts_quiet g.given.header g.given.host c.copy.new.self.waits.rows g.given.past c.args.self.now.waits.queue c.copy.new.self.waits.queue c.args.log.now.items c.copy.new.log.items c.requires.0.nothing) c.copy.ensures.quiet
+
+pub returns-in-Map-clause-restarts : goal.returns-in-Map-clause-restarts
+returns-in-Map-clause-restarts g c = on_ok c.map.result _ _ (restarts_quiet g.given.header g.given.host c.map.new.self.waits.rows g.given.past c.args.self.now.waits.queue c.map.new.self.waits.queue c.args.log.now.items c.map.new.log.items c.requires.0.nothing) c.map.ensures.quiet
 
 pub returns-in-Exit-clause-restarts : goal.returns-in-Exit-clause-restarts
 returns-in-Exit-clause-restarts g c = on_ok c.exit.result _ _ (restarts_quiet g.given.header g.given.host c.exit.new.self.waits.rows g.given.past c.args.self.now.waits.queue c.exit.new.self.waits.queue c.args.log.now.items c.exit.new.log.items c.requires.0.nothing) c.exit.ensures.quiet

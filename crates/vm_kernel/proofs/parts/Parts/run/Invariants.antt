@@ -17,6 +17,9 @@ ghost-wire g a = g.given
 abbrev pub ghost-unwire : goal.ghost-unwire
 ghost-unwire g a = g.given
 
+abbrev pub ghost-map : goal.ghost-map
+ghost-map g a = g.given
+
 abbrev pub ghost-exit : goal.ghost-exit
 ghost-exit g a = record { header = g.given.header; host = g.given.host; outside = g.given.outside; past = g.given.past; command = command.Exit a.task }
 

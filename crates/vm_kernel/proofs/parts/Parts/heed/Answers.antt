@@ -1,0 +1,21 @@
+use Rattle.vm_kernel.proofs.Growing.{on_ok}
+use Rattle.vm_kernel.proofs.Heeding.{early_answer, none_locked, other_word}
+use Rattle.vm_kernel.proofs.parts.Parts.heed.Goals as goal
+
+pub returns-in_default : goal.returns-in_default
+returns-in_default g c =
+    record {
+      works = c.hear.ensures.works;
+      fails = c.hear.ensures.fails;
+      fresh = c.hear.ensures.fresh;
+      asker = c.hear.ensures.asker;
+      answered = c.hear.ensures.answered;
+      waits = c.hear.ensures.waits;
+      goes = c.hear.ensures.goes;
+      early = on_ok c.hear.result _ _ (λ brought. early_answer c.hear.new.log.items brought) c.hear.ensures.brought;
+      zeroed = c.hear.ensures.zeroed;
+      locked = on_ok c.hear.result _ _
+          (λ goes. none_locked g.given.header g.given.host g.given.outside g.given.command g.given.past g.given.front c.hear.new.log.items c.args.object c.args.control c.args.message.now c.requires.1.0 (other_word c.args.message.now c.in_default.not-Lock) goes)
+          c.hear.ensures.goes;
+      plays = c.hear.ensures.plays;
+    }
