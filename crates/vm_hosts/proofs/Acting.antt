@@ -1,5 +1,5 @@
 -- One host acts: the kernels of the others stand for what it adds as well.
-use Rattle.vm_hosts.proofs.Common.{AllInner, AllLicensed, AllRest, Bool, Command, CreatesHere, EachIn, EachOf, EntersNext, Event, HasQueue, Header, HostTable, Ids, IsAbroad, IsMine, IsNewTask, IsOfHost, KernelSays, Licensed, List, MomentsIn, None, Outside, OwnBytes, Parts, PromptAt, Rests, Some, SomeKernelSays, Stretch, Suffice, [], abroad_of_own, arith, common_of, each_both, false, frames_abroad, host_of, if◌then◌else◌, inl, inr, is_home, length, length-set, licensed_both, of_both, of_host, own_of_home, prompt_abroad, queue_abroad, rests_abroad, same_Some, slice_get, sound_more, subst, sym, true, ℕ, ℕ_discrete, ◌++◌, ◌+◌, ◌<◌, ◌==◌, ◌∙◌, ◌∷◌, ◌≡◌, ◌≢◌}
+use Rattle.vm_hosts.proofs.Common.{AllInner, AllLicensed, AllRest, Bool, Command, CreatesHere, EachIn, EachOf, EntersNext, Event, HasQueue, Header, HostTable, Ids, IsAbroad, IsMine, IsNewTask, IsOfHost, KernelSays, Licensed, List, MomentsIn, None, Option, Outside, OwnBytes, Parts, PromptAt, Rests, Some, SomeKernelSays, Stretch, Suffice, [], abroad_of_own, arith, common_of, each_both, false, first_home, frames_abroad, home_of, host_of, if◌then◌else◌, inl, inr, is_home, length, length-set, licensed_both, of_both, of_host, own_of_home, prompt_abroad, queue_abroad, refl, rests_abroad, same_Some, slice_get, sound_more, subst, sym, true, ℕ, ℕ_discrete, ◌++◌, ◌+◌, ◌<◌, ◌==◌, ◌∙◌, ◌∷◌, ◌≡◌, ◌≢◌}
 use Rattle.vm_model.specs.declared.event.Event.TheVariants as event
 use Rattle.vm_hosts.proofs.Tables.{common_all, put, set_cases}
 
@@ -34,6 +34,20 @@ pub tasks_more : (n : ℕ) (events past : List Event) → EachOf (MakesOn n) eve
 tasks_more n [] past makes was = was
 tasks_more n (e ∷ events) past makes was = tasks_next n e (events ++ past) makes.0 (tasks_more n events past makes.1 was)
 
+-- so homes are hosts of the header
+homes_next : (n : ℕ) (e : Event) (past : List Event) → ((task g : ℕ) → host_of task past ≡ Some g → g < n) → ((r g : ℕ) → home_of r past ≡ Some g → g < n) → (r g : ℕ) → home_of r (e ∷ past) ≡ Some g → g < n
+homes_next n (event.Entered task address bytes region offset prot inherit) past tasks was r g is = by_test (region.0 == r) (home_of r past) refl is
+  where
+    by_test : (b : Bool) (x : Option ℕ) → home_of r past ≡ x → (if b then first_home x (host_of task.0 past) else x) ≡ Some g → g < n
+    by_test true None none here = tasks task.0 g here
+    by_test true (Some h) some here = was r g (some ∙ here)
+    by_test false x same there = was r g (same ∙ there)
+homes_next n other past tasks was r g is = was r g is
+
+pub homes_more : (n : ℕ) (events past : List Event) → EachOf (MakesOn n) events → ((task g : ℕ) → host_of task past ≡ Some g → g < n) → ((r g : ℕ) → home_of r past ≡ Some g → g < n) → (r g : ℕ) → home_of r (events ++ past) ≡ Some g → g < n
+homes_more n [] past makes tasks was = was
+homes_more n (e ∷ events) past makes tasks was = homes_next n e (events ++ past) (tasks_more n events past makes.1 tasks) (homes_more n events past makes.1 tasks was)
+
 -- what a kernel adds to a history: each event has its cause and is its own
 pub record Acts (header : Header) (h : ℕ) (outside : Outside) (doing : Command) (past events : List Event) : Type 0 where
   pub known : h < length header.frames.items
@@ -51,7 +65,7 @@ acts_both header h outside doing past front later one two = record {
 
 -- it takes a message that is for it
 pub acts_one : (header : Header) (hosts : HostTable) (h : ℕ) (outside : Outside) (doing : Command) (past : List Event) (e : Event) → AllRest header hosts past → h < length header.frames.items → Licensed header outside doing e past
-    → is_home header h e past ≡ true → IsNewTask e past → CreatesHere h e past → MakesOn (length header.frames.items) e → Acts header h outside doing past (e ∷ [])
+    → is_home header h e past ≡ true → IsNewTask e past → CreatesHere header h e past → MakesOn (length header.frames.items) e → Acts header h outside doing past (e ∷ [])
 acts_one header hosts h outside doing past e all known licensed home new creates makes =
     let shut = (common_all header hosts past all).settled.shut in
     let enters : EntersNext e past = λ region opened. absurd (let bad : true ≡ false = sym opened ∙ shut region in cc) in
@@ -114,11 +128,12 @@ module _ (header : Header) (h : ℕ) (outside : Outside) (doing : Command) (host
 
   pub acting_rests : AllRest header (put hosts h k next) (events ++ past)
   acting_rests = record {
-    plain = all.plain;
+    ranged = all.ranged;
     count = length-set {A = Parts} hosts.kernels h k ∙ all.count;
     rests = rests_at;
     sound = sound_more header outside h events past all.sound (own header h outside doing past events acts);
     tasks = tasks_more (length header.frames.items) events past acts.makes all.tasks;
+    homes = homes_more (length header.frames.items) events past acts.makes all.tasks all.homes;
   }
 
   -- it serves its queue, behind those below it

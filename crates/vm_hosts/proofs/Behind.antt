@@ -3,7 +3,7 @@ use Rattle.vm_hosts.proofs.Common.{AllLicensed, AllRest, Bool, Command, EachOf, 
 use Rattle.vm_model.specs.declared.event.Event.TheVariants as event
 use Rattle.vm_model.specs.declared.message.Message.TheVariants as message
 use Rattle.vm_hosts.proofs.Acting.{acting_rests, acts_one}
-use Rattle.vm_hosts.proofs.Nobodys.{all_nobodys}
+use Rattle.vm_hosts.proofs.Nobodys.{MakesNoControl, all_nobodys, told_controls}
 use Rattle.vm_hosts.proofs.Tables.{put, same_number}
 
 -- the first of some events, which are the newest first
@@ -67,12 +67,14 @@ module _ (header : Header) (outside : Outside) (doing : Command) (host : HostId)
       let home : (host.0 == host.0 && gives_frame answers.m) ≡ true = rw (same_number host.0, answers.gives, wash) refl in
       let acts = acts_one header hosts host.0 outside doing past taken all answers.known parts.1.0 home tt tt tt in
       let rest : AllRest header (put hosts host.0 k ids) (taken ∷ past) = acting_rests header host.0 outside doing hosts past (taken ∷ []) all acts k ids rests in
-      let told = all_nobodys header outside doing (put hosts host.0 k ids) answers.told (taken ∷ past) rest answers.nobodys parts.0 in
+      let told = all_nobodys header outside doing (put hosts host.0 k ids) answers.told (taken ∷ past) rest (told_controls header outside doing answers.told past taken refl answers.inner parts.0) answers.nobodys parts.0 in
       subst (AllRest header (put hosts host.0 k ids)) (sym (ap (λ z. z ++ past) answers.is ∙ append_assoc answers.told (taken ∷ []) past)) told
 
   -- else all of it is nobody's
   pub behind_kept : (washed : Bool) (hosts : HostTable) → washed ≡ false → PagerStep header outside doing host washed past front → AllRest header hosts past → AllRest header hosts (front ++ past)
   behind_kept washed hosts kept answers all =
       let taken = event.Taken (Up host answers.object) answers.m in
+      let parts = licensed_apart header outside doing answers.told (taken ∷ []) past (subst (λ (z : List Event). AllLicensed header outside doing z past) answers.is answers.licensed) in
       all_nobodys header outside doing hosts front past all
+      (subst (EachOf MakesNoControl) (sym answers.is) (of_both MakesNoControl answers.told (taken ∷ []) (told_controls header outside doing answers.told past taken refl answers.inner parts.0) (tt, tt)))
       (subst (EachOf IsNobodys) (sym answers.is) (of_both IsNobodys answers.told (taken ∷ []) answers.nobodys (answers.gives ∙ kept, tt))) answers.licensed

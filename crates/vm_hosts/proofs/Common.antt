@@ -7,6 +7,7 @@ pub use Rattle.std.proofs.lemmas.Option.{same_Some, slice_get_read, slice_get_wi
 pub use Rattle.std.specs.Prelude.{IfSome, MatchOption, if◌then◌else◌, is_some, nat_lt, not, reverse, slice_get, ◌⊎◌}
 pub use Rattle.vm_abroad.proofs.Sounds.{sound_start}
 pub use Rattle.vm_abroad.proofs.Whose.{abroad_of_own, own_of_home}
+pub use Rattle.vm_abroad.specs.Home.{first_of as first_home, home_of}
 pub use Rattle.vm_abroad.specs.Sound.{IsAbroad}
 pub use Rattle.vm_abroad.specs.Whose.{IsNewTask, IsOfHost}
 pub use Rattle.vm_base.specs.declared.code.Code.{Code}
@@ -21,23 +22,25 @@ pub use Rattle.vm_kernel.proofs.Growing.{paid_of, suffices}
 pub use Rattle.vm_kernel.specs.Abroad.{IsCommon, IsNobodys}
 pub use Rattle.vm_kernel.specs.Begun.{CreatesHere, IsLaundered, IsLined, IsMine, KernelSays, LegalEvents, Passed, Ran, Served, SomeKernelSays, Starts, acts_on}
 pub use Rattle.vm_kernel.specs.Built.{kernel_runs}
-pub use Rattle.vm_kernel.specs.Matches.{IsPlain, Rests, first_ids, host_id}
+pub use Rattle.vm_kernel.specs.Matches.{IsRanged, Rests, first_ids, host_id}
 pub use Rattle.vm_kernel.specs.Serving.{HasQueue}
-pub use Rattle.vm_kernel.specs.Taking.{EndsAll, IsErrorPaid}
+pub use Rattle.vm_kernel.specs.Taking.{EndsAll, IsAbsencePaid, IsErrorPaid, IsLockPaid}
 pub use Rattle.vm_kernel.specs.declared.parts.Parts.{Parts}
-pub use Rattle.vm_legal.proofs.Inside.{before_more, error_more, since_more}
+pub use Rattle.vm_legal.proofs.Inside.{absence_more, before_more, error_more, since_more}
+pub use Rattle.vm_legal.proofs.Paying.{lock_more, locked_more}
 pub use Rattle.vm_legal.proofs.Stretched.{each_both, inner_both, licensed_both, moments_both, of_both}
 pub use Rattle.vm_legal.specs.Bytes.{OwnBytes}
 pub use Rattle.vm_legal.specs.Debts.{WaitsAt}
 pub use Rattle.vm_legal.specs.Follows.{IsConsequence, IsDone}
 pub use Rattle.vm_legal.specs.Frames.{FramesSuffice, Suffice, frames_free, frames_used}
 pub use Rattle.vm_legal.specs.Homes.{EntersNext, gives_frame, is_home}
-pub use Rattle.vm_legal.specs.Licences.{AllLicensed, HasCause, IsBehind, Licensed, MaySendDown, PagerSends, ReturnsOn, created}
-pub use Rattle.vm_legal.specs.Outside.{Outside, kind_of}
+pub use Rattle.vm_legal.specs.Licences.{AllLicensed, HasCause, IsBehind, Licensed, PagerSends, ReturnsOn, Says, created, zeroes}
+pub use Rattle.vm_legal.specs.Outside.{Outside, is_file, is_file_kept, is_file_kind, kind_in, kind_of}
 pub use Rattle.vm_legal.specs.Prompt.{PromptAt}
-pub use Rattle.vm_legal.specs.Refusal.{refusal}
-pub use Rattle.vm_legal.specs.Steps.{before_step, fails_access, fails_task}
+pub use Rattle.vm_legal.specs.Refusal.{is_elsewhere, refusal}
+pub use Rattle.vm_legal.specs.Steps.{before_step, fails_task, just_begun}
 pub use Rattle.vm_legal.specs.Stretches.{AllInner, EachIn, EachOf, MomentsIn}
+pub use Rattle.vm_legal.specs.Used.{in_use}
 pub use Rattle.vm_maps.specs.Maps.{entries_in}
 pub use Rattle.vm_model.specs.Local.{is_on}
 pub use Rattle.vm_model.specs.Named.{named}
@@ -50,7 +53,9 @@ pub use Rattle.vm_model.specs.declared.message.Channel.{Channel}
 pub use Rattle.vm_model.specs.declared.message.Channel.TheVariants.{Down, Up}
 pub use Rattle.vm_model.specs.declared.message.Message.{Message}
 pub use Rattle.vm_model.specs.declared.script.Header.{Header}
+pub use Rattle.vm_objects.specs.Objects.{object_at}
+pub use Rattle.vm_objects.specs.declared.row.ObjectRow.{ObjectRow}
 pub use Rattle.vm_shadow.specs.declared.ids.Ids.{Ids}
 pub use native.Mathlib.Decide.{ℕ_discrete}
-pub use Rattle.vm_hosts.specs.Hosts.{AllQueued, AllRest, AreNew, HostTable}
+pub use Rattle.vm_hosts.specs.Hosts.{AllQueued, AllRest, AreNew, HostTable, knows_file}
 pub use Rattle.vm_hosts.specs.Steps.{Began, EventsFollow, Heads, PagerStep, Stretch, Went}

@@ -1,6 +1,7 @@
 mod Common
 pub mod Acting
 pub mod Behind
+pub mod Files
 pub mod Homes
 pub mod Newest
 pub mod Nobodys

@@ -1,10 +1,5 @@
 -- The kernels before anything has happened.
-use Rattle.vm_hosts.proofs.Common.{AllRest, AreNew, HasQueue, Header, IsPlain, List, None, Parts, Rests, Some, [], ap, first_ids, inl, inr, length, length-append, refl, same_Some, slice_get, sound_start, subst, suc, sym, zero, ℕ, ◌++◌, ◌+◌, ◌∙◌, ◌∷◌, ◌≡◌, ◌⊎◌}
-use Rattle.std.specs.Prelude.{All, ◌≢◌}
-use Rattle.std.proofs.Common.{arith}
-use Rattle.vm_base.specs.declared.ids.ObjectKind.TheVariants.{Temp}
-use Rattle.vm_kernel.specs.Matches.{IsRanged}
-use Rattle.vm_model.specs.declared.script.Declared.{Declared}
+use Rattle.vm_hosts.proofs.Common.{AllRest, AreNew, HasQueue, Header, IsRanged, List, None, Parts, Rests, Some, [], ap, first_ids, inl, inr, length, length-append, refl, same_Some, slice_get, sound_start, subst, suc, sym, zero, ℕ, ◌++◌, ◌+◌, ◌∙◌, ◌∷◌, ◌≡◌, ◌⊎◌}
 
 -- one kernel more, at the end
 more_cases : (ks : List Parts) (k m : Parts) (h : ℕ) → slice_get (ks ++ k ∷ []) h ≡ Some m → (slice_get ks h ≡ Some m) ⊎ ((length ks ≡ h) × (k ≡ m))
@@ -29,17 +24,13 @@ new_more header n ks k was rests queue = record {
   ];
 }
 
-pub all_new : (header : Header) (ks : List Parts) → IsPlain header → AreNew header (length header.frames.items) ks → AllRest header (record { kernels = ks; ids = first_ids header }) []
-all_new header ks plain new =
-    record { plain = plain; count = new.count; rests = new.rests; sound = sound_start header; tasks = λ task h is. absurd (let bad : None ≡ Some h = is in cc) }
-
--- a header without objects has its numbers in their ranges
-pub ranged_of : (header : Header) → IsPlain header → IsRanged header
-ranged_of header plain =
+pub all_new : (header : Header) (ks : List Parts) → IsRanged header → AreNew header (length header.frames.items) ks → AllRest header (record { kernels = ks; ids = first_ids header }) []
+all_new header ks ranged new =
     record {
-      size = plain.size;
-      hosts = plain.hosts;
-      few = plain.few;
-      objects = let none : length header.objects.items ≡ 0 = ap length plain.objects in omega (arith, none);
-      kinds = subst (λ (z : List Declared). All (λ (object : Declared). object.kind ≢ Temp) z) (sym plain.objects) (λ object none less. absurd (omega arith));
+      ranged = ranged;
+      count = new.count;
+      rests = new.rests;
+      sound = sound_start header;
+      tasks = λ task h is. absurd (let bad : None ≡ Some h = is in cc);
+      homes = λ r h is. absurd (let bad : None ≡ Some h = is in cc);
     }

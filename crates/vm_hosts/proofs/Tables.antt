@@ -31,7 +31,7 @@ kernel_of header hosts past all h known = let count = all.count in kernel_at hos
 -- what all of them say alike: there is one at the least
 pub common_all : (header : Header) (hosts : HostTable) (past : List Event) → AllRest header hosts past → IsCommon header hosts.ids past
 common_all header hosts past all =
-    let least = all.plain.hosts.0 in
+    let least = all.ranged.hosts.0 in
     let first = kernel_of header hosts past all 0 (omega (arith, least)) in
     common_of header 0 first.0 hosts.ids [] past (all.rests 0 first.0 first.1).matches
 

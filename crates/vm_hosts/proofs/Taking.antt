@@ -1,5 +1,5 @@
 -- A step that began with a taking.
-use Rattle.vm_hosts.proofs.Common.{AllInner, AllRest, Command, Down, EndsAll, Event, EventsFollow, Header, HostId, HostTable, Ids, IsErrorPaid, LegalEvents, Licensed, List, Message, MomentsIn, ObjectId, Outside, Parts, Passed, Rests, Suffice, WaitsAt, Went, [], ap, append-nil, append_assoc, before_more, before_step, error_more, fails_task, frames_abroad, frames_free, length, paid_more, since_more, subst, sym, ℕ, ◌++◌, ◌<◌, ◌∙◌, ◌∷◌, ◌≡◌, ◌≢◌}
+use Rattle.vm_hosts.proofs.Common.{AllInner, AllRest, Command, Down, EndsAll, Event, EventsFollow, Header, HostId, HostTable, Ids, IsAbsencePaid, IsErrorPaid, IsLockPaid, LegalEvents, Licensed, List, Message, MomentsIn, ObjectId, Outside, Parts, Passed, Rests, Suffice, WaitsAt, Went, [], absence_more, ap, append-nil, append_assoc, before_more, before_step, error_more, fails_task, frames_abroad, frames_free, length, lock_more, locked_more, paid_more, since_more, subst, sym, zeroes, ℕ, ◌++◌, ◌<◌, ◌∙◌, ◌∷◌, ◌≡◌, ◌≢◌}
 use Rattle.vm_model.specs.declared.event.Event.TheVariants as event
 use Rattle.vm_hosts.specs.Steps as steps
 use Rattle.vm_hosts.proofs.Acting.{Acts, acting_rests, acts_both, acts_one, others}
@@ -66,3 +66,19 @@ paid_went header outside doing past old new hosts went paid =
 pub ends_went : (header : Header) (outside : Outside) (doing : Command) (past old new : List Event) (hosts : HostTable) → Went header outside doing past old hosts new → EndsAll header (old ++ past) → EndsAll header (new ++ past)
 ends_went header outside doing past old new hosts went ends =
     goes_behind (EndsAll header) past old new went.more went.is (ends_more header went.more (old ++ past) went.follows.stretch.inner ends)
+
+-- so are zeros, where there is no page, and what a lock request owes
+
+absence_paid : (header : Header) (more past : List Event) → AllInner more → IsAbsencePaid header past → IsAbsencePaid header (more ++ past)
+absence_paid header more past inner paid = λ host object page declared is. since_more (zeroes object page) more past inner (paid host object page declared (sym (absence_more header.size more past inner) ∙ is))
+
+lock_paid : (header : Header) (more past : List Event) → AllInner more → IsLockPaid header past → IsLockPaid header (more ++ past)
+lock_paid header more past inner paid = λ request is. locked_more header request more past inner (paid request (sym (lock_more more past inner) ∙ is))
+
+pub zeroed_went : (header : Header) (outside : Outside) (doing : Command) (past old new : List Event) (hosts : HostTable) → Went header outside doing past old hosts new → IsAbsencePaid header (old ++ past) → IsAbsencePaid header (new ++ past)
+zeroed_went header outside doing past old new hosts went paid =
+    goes_behind (IsAbsencePaid header) past old new went.more went.is (absence_paid header went.more (old ++ past) went.follows.stretch.inner paid)
+
+pub locked_went : (header : Header) (outside : Outside) (doing : Command) (past old new : List Event) (hosts : HostTable) → Went header outside doing past old hosts new → IsLockPaid header (old ++ past) → IsLockPaid header (new ++ past)
+locked_went header outside doing past old new hosts went paid =
+    goes_behind (IsLockPaid header) past old new went.more went.is (lock_paid header went.more (old ++ past) went.follows.stretch.inner paid)

@@ -1,11 +1,14 @@
 -- The kernels of all hosts stand for a history.
-use Rattle.std.specs.Prelude.{ℕ, ◌≡◌, ◌<◌, List, [], length, Some, slice_get}
+use Rattle.std.specs.Prelude.{ℕ, ◌≡◌, ◌<◌, Bool, false, List, [], length, Option, Some, None, slice_get}
 use Rattle.vm_model.specs.declared.event.Event.{Event}
 use Rattle.vm_model.specs.declared.script.Header.{Header}
 use Rattle.vm_model.specs.Tasks.{host_of}
+use Rattle.vm_legal.specs.Outside.{is_file_kind}
+use Rattle.vm_objects.specs.declared.row.ObjectRow.{ObjectRow}
+use Rattle.vm_abroad.specs.Home.{home_of}
 use Rattle.vm_abroad.specs.Sound.{Sound}
 use Rattle.vm_shadow.specs.declared.ids.Ids.{Ids}
-use Rattle.vm_kernel.specs.Matches.{IsPlain, Rests, first_ids}
+use Rattle.vm_kernel.specs.Matches.{IsRanged, Rests, first_ids}
 use Rattle.vm_kernel.specs.Serving.{HasQueue}
 use Rattle.vm_kernel.specs.declared.parts.Parts.{Parts}
 
@@ -14,13 +17,19 @@ pub record HostTable : Type 0 where
   pub kernels : List Parts
   pub ids : Ids
 
+-- the object is known, and it is a file
+abbrev pub knows_file : Option ObjectRow → Bool
+knows_file None = false
+knows_file (Some known) = is_file_kind known.kind
+
 -- there is one for each host of the header, which stands for the history
 pub record AllRest (header : Header) (hosts : HostTable) (past : List Event) : Type 0 where
-  pub plain : IsPlain header
+  pub ranged : IsRanged header
   pub count : length hosts.kernels ≡ length header.frames.items
   pub rests : (h : ℕ) (k : Parts) → slice_get hosts.kernels h ≡ Some k → Rests header h k hosts.ids past
   pub sound : Sound header past
   pub tasks : (task h : ℕ) → host_of task past ≡ Some h → h < length header.frames.items
+  pub homes : (r h : ℕ) → home_of r past ≡ Some h → h < length header.frames.items
 
 -- their frame queues go no further
 abbrev pub AllQueued : Header → HostTable → List Event → Type 0

@@ -79,6 +79,7 @@ pub record PagerStep (header : Header) (outside : Outside) (doing : Command) (ho
   pub gives : gives_frame m ≡ washed
   pub out : washed ≡ true → 0 < returns_out host.0 past
   pub nobodys : EachOf IsNobodys told
+  pub inner : AllInner told
   pub licensed : AllLicensed header outside doing front past
 
 -- what is told of a step that goes on behind a taking: the history in front of it, and what of the step stands

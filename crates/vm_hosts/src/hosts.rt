@@ -1,25 +1,28 @@
 // The kernels of all hosts.
-ghost use Rattle.std.specs.Prelude.{◌≡◌, ◌<◌, ◌∷◌, ◌++◌, [], length, true, false, None, Some, IfOk, OnOk, MatchOption, is_some, option_map};
+ghost use Rattle.std.specs.Prelude.{◌≡◌, ◌<◌, ◌∷◌, ◌++◌, [], length, true, false, None, Some, IfOk, OnOk, IsSome, MatchOption, is_none, is_some, option_map};
 ghost use Rattle.vm_base.specs.declared.code.Code.TheVariants as code;
 ghost use Rattle.vm_base.specs.declared.ids.HostId.{HostId};
 ghost use Rattle.vm_model.specs.declared.event.Event.TheVariants as event;
 ghost use Rattle.vm_model.specs.declared.message.Channel.TheVariants as channels;
+ghost use Rattle.vm_model.specs.Controls.{live_control};
 ghost use Rattle.vm_model.specs.Ranges.{InRange};
 ghost use Rattle.vm_model.specs.Tasks.{host_of};
 ghost use Rattle.vm_model.specs.Waiting.{waiting};
 ghost use Rattle.vm_legal.specs.Licences.{Licensed};
-ghost use Rattle.vm_legal.specs.Refusal.{refusal};
+ghost use Rattle.vm_legal.specs.Follows.{head};
+ghost use Rattle.vm_legal.specs.Refusal.{is_elsewhere, refusal};
 ghost use Rattle.vm_kernel.specs.Begun.{IsLined, targets_here};
 ghost use Rattle.vm_kernel.specs.Built.{kernel_runs};
-ghost use Rattle.vm_kernel.specs.Matches.{IsPlain};
-ghost use Rattle.vm_kernel.specs.Taking.{EndsAll, IsErrorPaid, IsTempAnswer};
-ghost use Rattle.vm_kernel.specs.Refusing.{takes_name};
-ghost use Rattle.vm_hosts.specs.Hosts.{AllQueued, AllRest, AreNew};
+ghost use Rattle.vm_kernel.specs.Matches.{IsRanged};
+ghost use Rattle.vm_kernel.specs.Taking.{EndsAll, IsAbsencePaid, IsErrorPaid, IsLockPaid, IsPlainWord};
+ghost use Rattle.vm_kernel.specs.Refusing.{maps_elsewhere, takes_name};
+ghost use Rattle.vm_hosts.specs.Hosts.{AllQueued, AllRest, AreNew, knows_file};
+ghost use Rattle.vm_objects.specs.Objects.{object_at};
 ghost use Rattle.vm_hosts.specs.Steps.{ActsOn, Began, Going, HostsPart, PagerStep, Step, Went};
 
 use std::alloc::Global;
 use std::marker::Model;
-use vm_base::{Code, HostId, NoMemory, ObjectId, TaskId};
+use vm_base::{Code, HostId, NoMemory, ObjectId, ObjectKind, TaskId};
 use vm_kernel::Kernel;
 use vm_model::{Command, Events, Header, Message};
 use vm_shadow::Ids;
@@ -46,7 +49,7 @@ impl Model for Hosts {
 impl Hosts {
     /// The kernels before anything has happened; all frames are taken now.
     pub fn new(alloc: Global, header: &Header) -> Result<Hosts, NoMemory>
-        requires plain { IsPlain header.now }
+        requires ranged { IsRanged header.now }
         ensures rests { IfOk result (λ hosts. AllRest header.now hosts []) }
         ensures queues { IfOk result (λ hosts. AllQueued header.now hosts []) }
     {
@@ -72,6 +75,7 @@ impl Hosts {
         requires range { InRange given.header command.now }
         requires built { kernel_runs command.now ≡ true }
         requires accepted { refusal given.header given.past command.now ≡ None }
+        requires head { IsSome (head given.header given.past command.now) }
         requires begins { IsLined given.past }
         ensures began { IfOk result (λ events. Began given.header given.outside command.now given.past self.new events.items) }
     {
@@ -83,8 +87,8 @@ impl Hosts {
         Ok(log)
     }
 
-    /// A host takes an answer of a pager to a control of an object; gives what happened behind the taking,
-    /// up to the end of its step.
+    /// A host takes what a pager says to a control of an object; gives what happened behind the taking, up
+    /// to the end of its step.
     pub fn take(
         &mut self,
         host: HostId,
@@ -96,10 +100,12 @@ impl Hosts {
         requires rests { AllRest given.header self.old given.past }
         requires queues { AllQueued given.header self.old given.past }
         requires host { host.0 < length given.header.frames.items }
-        requires answer { IsTempAnswer given.header.size message.now }
+        requires word { IsPlainWord given.header.size message.now }
         requires licensed { Licensed given.header given.outside given.command (event.Taken (channels.Down host object control) message.now) given.past }
         ensures passed { IfOk result (λ events. HostsPart given.header given.outside given.command (event.Taken (channels.Down host object control) message.now ∷ given.past) self.new events.items) }
         ensures failed { IfOk result (λ events. IsErrorPaid given.header (events.items ++ event.Taken (channels.Down host object control) message.now ∷ given.past)) }
+        ensures zeroed { IfOk result (λ events. IsAbsencePaid given.header (events.items ++ event.Taken (channels.Down host object control) message.now ∷ given.past)) }
+        ensures locked { IfOk result (λ events. IsLockPaid given.header (events.items ++ event.Taken (channels.Down host object control) message.now ∷ given.past)) }
         ensures ended { IfOk result (λ events. EndsAll given.header (events.items ++ event.Taken (channels.Down host object control) message.now ∷ given.past)) }
     {
         let log = self.hear(host, object, control, message)?;
@@ -119,18 +125,7 @@ impl Hosts {
         Ok(log)
     }
 
-    /// A step of no host ends: gives what happened.
-    pub fn pass(&mut self) -> Result<Events, NoMemory>
-        ghost given: { Step }
-        requires rests { AllRest given.header self.old given.past }
-        ensures passed { IfOk result (λ events. HostsPart given.header given.outside given.command given.past self.new events.items) }
-    {
-        let mut log = Events::new(self.alloc);
-        self.serve(&mut log)?;
-        Ok(log)
-    }
-
-    // A host takes an answer, which stands in front.
+    // A host takes what a pager says, which stands in front.
     fn hear(
         &mut self,
         host: HostId,
@@ -143,10 +138,12 @@ impl Hosts {
         requires queues { AllQueued given.header self.old given.past }
         requires host { host.0 < length given.header.frames.items }
         requires front { given.front ≡ event.Taken (channels.Down host object control) message.now ∷ [] }
-        requires answer { IsTempAnswer given.header.size message.now }
+        requires word { IsPlainWord given.header.size message.now }
         requires licensed { Licensed given.header given.outside given.command (event.Taken (channels.Down host object control) message.now) given.past }
         ensures passed { IfOk result (λ events. HostsPart given.header given.outside given.command (given.front ++ given.past) self.new events.items) }
         ensures failed { IfOk result (λ events. IsErrorPaid given.header (events.items ++ (given.front ++ given.past))) }
+        ensures zeroed { IfOk result (λ events. IsAbsencePaid given.header (events.items ++ (given.front ++ given.past))) }
+        ensures locked { IfOk result (λ events. IsLockPaid given.header (events.items ++ (given.front ++ given.past))) }
         ensures ended { IfOk result (λ events. EndsAll given.header (events.items ++ (given.front ++ given.past))) }
     {
         let mut log = self.kernels[host.0 as usize].take(object, control, message, &mut self.ids)?;
@@ -170,8 +167,8 @@ impl Hosts {
         }
     }
 
-    // Every host serves its frame queue.
-    fn serve(&mut self, log: &mut Events) -> Result<(), NoMemory>
+    /// A step ends: every host serves its frame queue, and what happened is added to the step's events.
+    pub fn serve(&mut self, log: &mut Events) -> Result<(), NoMemory>
         ghost given: { Step }
         requires rests { AllRest given.header self.old (log.old.items ++ given.past) }
         ensures went { OnOk result (Went given.header given.outside given.command given.past log.old.items self.new log.new.items) }
@@ -200,7 +197,64 @@ impl Hosts {
         if let Some(code) = self.pair_refusal(host, command) {
             return Some(code);
         }
-        self.kernels[host.0 as usize].refusal(command, &self.ids)
+        let elsewhere = self.maps_elsewhere(host, command);
+        self.kernels[host.0 as usize].refusal(command, &self.ids, elsewhere)
+    }
+
+    /// Whether a command that isn't refused copies from an entry on a declared object, which isn't built.
+    pub fn copies_declared(&self, command: &Command) -> bool
+        ghost given: { Step }
+        requires rests { AllRest given.header self.now given.past }
+        requires range { InRange given.header command.now }
+        requires built { kernel_runs command.now ≡ true }
+        requires accepted { refusal given.header given.past command.now ≡ None }
+        ensures { result ≡ is_none (head given.header given.past command.now) }
+    {
+        let Some(host) = self.host_for(command) else {
+            unreachable!()
+        };
+        self.kernels[host.0 as usize].copies_declared(command)
+    }
+
+    /// Whether a control of an object lives on a host.
+    pub fn has_control(&self, host: HostId, object: ObjectId) -> bool
+        ghost given: { Step }
+        requires rests { AllRest given.header self.now given.past }
+        requires known { host.0 < length given.header.frames.items }
+        ensures { result ≡ is_some (live_control host.0 object.0 given.past) }
+    {
+        match self.kernels[host.0 as usize].object(object) {
+            Some(known) => known.live,
+            None => false,
+        }
+    }
+
+    // Whether a command of a host maps a file that belongs to another one: a file is known on its own host
+    // alone.
+    fn maps_elsewhere(&self, host: HostId, command: &Command) -> bool
+        ghost given: { Step }
+        requires rests { AllRest given.header self.now given.past }
+        requires acts { ActsOn given.header host.0 command.now given.past }
+        ensures { result ≡ maps_elsewhere given.header host.0 command.now given.past }
+    {
+        match command {
+            Command::Map { object, .. } => self.is_elsewhere(host, *object),
+            _ => false,
+        }
+    }
+
+    // Whether an object is a file that another host knows.
+    fn is_elsewhere(&self, host: HostId, object: ObjectId) -> bool
+        ghost given: { Step }
+        requires rests { AllRest given.header self.now given.past }
+        ensures { result ≡ is_elsewhere given.header object.0 (Some host.0) given.past }
+    {
+        'search: for other in 0..self.kernels.len() {
+            if other != host.0 as usize && knows_file(&self.kernels[other], object) {
+                return true;
+            }
+        }
+        false
     }
 
     // Why a copy from a task of the host is refused before its kernel judges it: its target doesn't live, an
@@ -257,6 +311,7 @@ impl Hosts {
             | Command::Inherit { task, .. }
             | Command::Load { task, .. }
             | Command::Store { task, .. } => self.home(*task),
+            Command::Map { task, .. } => self.home(*task),
             Command::Copy { task, .. } => self.home(*task),
             _ => None,
         }
@@ -290,9 +345,19 @@ impl Hosts {
     }
 }
 
+// Whether a host knows an object that is a file.
+fn knows_file(kernel: &Kernel, object: ObjectId) -> bool
+    ensures { result ≡ knows_file (object_at kernel.now.memory.objects object.0) }
+{
+    match kernel.object(object) {
+        Some(known) => known.kind == ObjectKind::File,
+        None => false,
+    }
+}
+
 // The kernels of the header's hosts.
 fn make_kernels(alloc: Global, header: &Header) -> Result<Vec<Kernel>, NoMemory>
-    requires plain { IsPlain header.now }
+    requires ranged { IsRanged header.now }
     ensures made { IfOk result (λ kernels. AreNew header.now (length header.now.frames.items) kernels.items) }
 {
     let mut kernels = Vec::new(alloc);

@@ -1,5 +1,5 @@
 use Rattle.vm_hosts.proofs.Common.{AreNew, arith, inl, length, subst, sym, ◌+◌, ◌≡◌}
-use Rattle.vm_hosts.proofs.Newest.{new_more, none_new, ranged_of}
+use Rattle.vm_hosts.proofs.Newest.{new_more, none_new}
 use Rattle.vm_hosts.proofs.hosts.make_kernels.Goals as goal
 
 pub hosts-init : goal.hosts-init
@@ -9,7 +9,7 @@ pub new-requires : goal.new-requires
 new-requires c =
     let count = c.len-host-end.ensures in
     let test = c.hosts-test.true in
-    record { ranged = ranged_of c.args.header.now c.requires.plain; host = omega (arith, count, test) }
+    record { ranged = c.requires.ranged; host = omega (arith, count, test) }
 
 pub hosts-preserved : goal.hosts-preserved
 hosts-preserved c =

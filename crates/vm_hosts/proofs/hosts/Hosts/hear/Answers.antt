@@ -2,7 +2,7 @@ use Rattle.vm_hosts.proofs.Common.{AllQueued, AllRest, Down, HasQueue, HostTable
 use Rattle.vm_model.specs.declared.event.Event.TheVariants as event
 use Rattle.vm_kernel.specs.Begun as begun
 use Rattle.vm_hosts.proofs.Tables.{found}
-use Rattle.vm_hosts.proofs.Taking.{ends_went, paid_went, passed_on, taken_follows, taken_rests}
+use Rattle.vm_hosts.proofs.Taking.{ends_went, locked_went, paid_went, passed_on, taken_follows, taken_rests, zeroed_went}
 use Rattle.vm_hosts.proofs.hosts.Hosts.hear.Goals as goal
 
 pub take-requires : goal.take-requires
@@ -36,6 +36,14 @@ returns-clause-passed g c =
 pub returns-clause-failed : goal.returns-clause-failed
 returns-clause-failed g c =
     paid_went g.given.header g.given.outside g.given.command (g.given.front ++ g.given.past) c.in_ok-log.log.items c.serve.new.log.items c.serve.new.self c.in_ok-serve.ensures.went c.in_ok-log.ensures.failed
+
+pub returns-clause-zeroed : goal.returns-clause-zeroed
+returns-clause-zeroed g c =
+    zeroed_went g.given.header g.given.outside g.given.command (g.given.front ++ g.given.past) c.in_ok-log.log.items c.serve.new.log.items c.serve.new.self c.in_ok-serve.ensures.went c.in_ok-log.ensures.zeroed
+
+pub returns-clause-locked : goal.returns-clause-locked
+returns-clause-locked g c =
+    locked_went g.given.header g.given.outside g.given.command (g.given.front ++ g.given.past) c.in_ok-log.log.items c.serve.new.log.items c.serve.new.self c.in_ok-serve.ensures.went c.in_ok-log.ensures.locked
 
 pub returns-clause-ended : goal.returns-clause-ended
 returns-clause-ended g c =

@@ -11,3 +11,6 @@ ghost-refusal g a = record { header = g.given.header; host = a.self.now.host.0; 
 
 abbrev pub ghost-pair_refusal : goal.ghost-pair_refusal
 ghost-pair_refusal g a = g.given
+
+abbrev pub ghost-maps_elsewhere : goal.ghost-maps_elsewhere
+ghost-maps_elsewhere g a = g.given
