@@ -1,5 +1,5 @@
 -- What the pager of one host does leaves those of the others.
-use Rattle.vm_system.proofs.Common.{Bool, Content, Down, EachOf, Event, Header, Held, IsApart, IsAreaTold, IsOrderly, IsOther, IsSome, LeavesAreas, List, Listed, Message, None, ObjectId, Ok, Option, PageNo, PagerAnswer, PagerStands, Put, PutEffects, PutTold, RequestAnswer, SlotTable, SlotsFit, Some, Told, Up, [], ap, area_name, arith, became, content_of, false, false≢true, held_at, held_slot, object_home, if◌then◌else◌, inl, inr, is_heard_elsewhere, last_return, length, nat_tests, not, others, others_carry, refl, same_Some, set, slice_get, slot_in_table, subst, suc, sym, told_of, true, zero, ℕ, ◌++◌, ◌<◌, ◌∙◌, ◌∷◌, ◌≡◌, ◌⊎◌}
+use Rattle.vm_system.proofs.Common.{Bool, Content, Down, EachOf, Event, Header, Held, IsApart, IsAreaTold, IsOrderly, IsOther, IsSome, LeavesAreas, List, Listed, Message, None, ObjectId, Ok, Option, PageNo, PagerAnswer, PagerStands, Put, PutEffects, PutTold, RequestAnswer, SlotTable, SlotsFit, Some, Told, Up, [], ap, area_name, arith, became, content_of, false, false≢true, held_at, held_slot, object_home, if◌then◌else◌, inl, inr, is_heard_elsewhere, last_return, length, named, nat_tests, not, others, others_carry, refl, same_Some, set, slice_get, slot_in_table, subst, suc, sym, told_of, true, zero, ℕ, ◌++◌, ◌<◌, ◌∙◌, ◌∷◌, ◌≡◌, ◌⊎◌}
 use Rattle.std.proofs.Common.{◌≢◌, ◌==◌, ◌&&◌, ◌||◌}
 use Rattle.pg_slots.specs.declared.answers.Put.TheVariants as put
 use Rattle.pg_slots.specs.declared.slot_row.Held.TheVariants as held
@@ -32,10 +32,10 @@ unheard h g o p (event.Taken (Up at object) m ∷ past) other is =
 unheard h g o p (e ∷ past) other is = unheard h g o p past other is
 
 pub apart_of : (header : Header) (past : List Event) → IsOrderly header past → (h : ℕ) → IsApart header h past
-apart_of header past orderly h o p named away = by (object_home o past) refl
+apart_of header past orderly h o p high away = by (object_home o past) refl
   where
     mine : (object_home o past ≡ None) ⊎ (object_home o past ≡ Some h) → last_return h o p past ≡ None
-    mine home = absurd (false≢true (sym ((orderly.home h o).own home) ∙ away))
+    mine home = absurd (false≢true (sym ((orderly.home h o).own high home) ∙ away))
 
     by : (x : Option ℕ) → object_home o past ≡ x → last_return h o p past ≡ None
     by None is = mine (inl is)
@@ -43,7 +43,7 @@ apart_of header past orderly h o p named away = by (object_home o past) refl
       where
         at : (b : Bool) → (h == g) ≡ b → last_return h o p past ≡ None
         at true same = let equal : g ≡ h = grind (arith, nat_tests, same) in mine (inr (is ∙ ap (λ (z : ℕ). Some z) equal))
-        at false same = let other : h ≢ g = grind (arith, nat_tests, same) in unheard h g o p past other ((orderly.home g o).own (inr is))
+        at false same = let other : h ≢ g = grind (arith, nat_tests, same) in unheard h g o p past other ((orderly.home g o).own high (inr is))
 
 -- what a pager answers is about the object of the message
 
@@ -121,6 +121,27 @@ others_fit header g pager object areas (e ∷ events) past about away apart told
     let over = others_carry header g pager e (events ++ past) areas other (apart_all header g object (e ∷ events) past about apart) in
     over.fits told (others_fit header g pager object areas events past about.1 away apart told fits)
 
+-- nor has any default pager one in what is about a declared object
+
+declared_other : (header : Header) (g : ℕ) (object : ObjectId) (e : Event) (past : List Event) → object.0 < named header → IsAbout object e → IsOther header g e past
+declared_other header g object (event.Sent (Down host o control) m) past low about = tt
+declared_other header g object (event.Sent (Up host o) m) past low about = absurd about
+declared_other header g object (event.DeviceFailed who way o page) past low about = inl (subst (λ (z : ObjectId). z.0 < named header) (sym about) low)
+declared_other header g object (event.NoSlot o page) past low about = inl (subst (λ (z : ObjectId). z.0 < named header) (sym about) low)
+declared_other header g object other past low about = absurd about
+
+pub declared_stand : (header : Header) (g : ℕ) (pager : SlotTable) (object : ObjectId) (events past : List Event) → object.0 < named header → EachOf (IsAbout object) events → PagerStands header g pager past → PagerStands header g pager (events ++ past)
+declared_stand header g pager object [] past low about stands = stands
+declared_stand header g pager object (e ∷ events) past low about stands =
+    others header g pager e (events ++ past) (declared_other header g object e (events ++ past) low about.0) (declared_stand header g pager object events past low about.1 stands)
+
+pub declared_fit : (header : Header) (g : ℕ) (pager : SlotTable) (object : ObjectId) (areas : List ℕ → Told) (events past : List Event) → object.0 < named header → EachOf (IsAbout object) events → IsApart header g past → IsAreaTold areas pager
+    → SlotsFit areas pager (content_of header g past) → SlotsFit areas pager (content_of header g (events ++ past))
+declared_fit header g pager object areas [] past low about apart told fits = fits
+declared_fit header g pager object areas (e ∷ events) past low about apart told fits =
+    let over = others_carry header g pager e (events ++ past) areas (declared_other header g object e (events ++ past) low about.0) (apart_all header g object (e ∷ events) past about apart) in
+    over.fits told (declared_fit header g pager object areas events past low about.1 apart told fits)
+
 -- and their areas stay
 
 pub other_area : (h g : ℕ) → h ≢ g → area_name h ≢ area_name g
@@ -164,7 +185,7 @@ fits_still pager content before after stays told fits =
 
 -- one pager of a list is replaced
 
-pub set_cases : (pagers : List SlotTable) (h g : ℕ) (new pager : SlotTable) → h < length pagers → slice_get (set pagers h new) g ≡ Some pager → ((g ≡ h) × (new ≡ pager)) ⊎ ((g ≢ h) × (slice_get pagers g ≡ Some pager))
+pub set_cases : {A : Type 0} (pagers : List A) (h g : ℕ) (new pager : A) → h < length pagers → slice_get (set pagers h new) g ≡ Some pager → ((g ≡ h) × (new ≡ pager)) ⊎ ((g ≢ h) × (slice_get pagers g ≡ Some pager))
 set_cases [] h g new pager within is = absurd (omega arith)
 set_cases (x ∷ pagers) zero zero new pager within is = inl (refl, same_Some new pager is)
 set_cases (x ∷ pagers) zero (suc g) new pager within is = inr (λ same. omega arith, is)

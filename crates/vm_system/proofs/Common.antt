@@ -1,4 +1,19 @@
 -- All that the proofs of this crate name from below.
+pub use Rattle.pg_default.proofs.Carrying.{carries}
+pub use Rattle.pg_default.proofs.Causes.{causes}
+pub use Rattle.pg_default.proofs.Debts.{paid}
+pub use Rattle.pg_default.proofs.Others.{empty, others, others_carry}
+pub use Rattle.pg_default.proofs.Standing.{stands, start}
+pub use Rattle.pg_default.specs.Answers.{AnswerHasCause, IsToPager, LeavesAreas, PagerAnswer, RequestAnswer, ReturnsWhole, SuppliesStored, TellsFault, after_message, became, device_failed, error, sent_to, supply, told_of}
+pub use Rattle.pg_default.specs.Stands.{IsApart, IsOther, PagerServes, PagerStands, content_of, is_ended, is_heard_elsewhere, taking}
+pub use Rattle.pg_file.specs.Answers.{CleanEvents, FileAnswer, LeavesFile, TellsPage, clean_request}
+pub use Rattle.pg_file.specs.Files.{FileTable, has_lost}
+pub use Rattle.pg_file.specs.Stands.{AnswersKept, CarriesFile, FileKept, IsKnownAs, IsStartTold, name_of}
+pub use Rattle.pg_file.specs.declared.pager.KnownControl.{KnownControl}
+pub use Rattle.pg_slots.specs.Contents.{CarriesContent, Content, IsAreaTold, PutTold, SlotsFit, area_name}
+pub use Rattle.pg_slots.specs.Slots.{KeepsShape, PutEffects, SlotTable, held_at, held_slot, slot_in_table}
+pub use Rattle.pg_slots.specs.declared.answers.Put.{Put}
+pub use Rattle.pg_slots.specs.declared.slot_row.Held.{Held}
 pub use Rattle.std.proofs.Common.{Bool, Err, IsErrOf, List, MatchOption, None, Ok, Option, Some, [], ap, append_assoc, arith, cond, false, if◌then◌else◌, inl, inr, length, length-append, nat_le, not, position, refl, rules, subst, suc, sym, take, true, zero, ℕ, ◌++◌, ◌+◌, ◌<◌, ◌∙◌, ◌∷◌, ◌≡◌, ◌≤◌, ◌⊎◌}
 pub use Rattle.std.proofs.Math.ListN.{length-set, set}
 pub use Rattle.std.proofs.lemmas.Bool.{false≢true, or_left}
@@ -7,20 +22,9 @@ pub use Rattle.std.proofs.lemmas.List.{append-nil}
 pub use Rattle.std.proofs.lemmas.Option.{none-some, same_Some, slice_get-get_or, slice_get_within}
 pub use Rattle.std.proofs.lemmas.Result.{on_err_weaker, on_ok_weaker}
 pub use Rattle.std.specs.List.{AllByRecursion, list_any, position_or_len}
-pub use Rattle.std.specs.Prelude.{IfNone, IfSome, IsSome, OnErr, OnOk, Result, get_or, is_none, is_some, nat_lt, option_map, reverse, slice_get, ◌&&◌, ◌/◌, ◌==◌, ◌||◌, ◌≢◌}
-pub use Rattle.pg_default.proofs.Carrying.{carries}
-pub use Rattle.pg_default.proofs.Causes.{causes}
-pub use Rattle.pg_default.proofs.Debts.{paid}
-pub use Rattle.pg_default.proofs.Others.{empty, others, others_carry}
-pub use Rattle.pg_default.proofs.Standing.{stands, start}
-pub use Rattle.pg_default.specs.Answers.{AnswerHasCause, IsToPager, LeavesAreas, PagerAnswer, RequestAnswer, ReturnsWhole, SuppliesStored, TellsFault, after_message, became, device_failed, error, sent_to, supply, told_of}
-pub use Rattle.pg_default.specs.Stands.{IsApart, IsOther, PagerServes, PagerStands, content_of, is_ended, is_heard_elsewhere, taking}
-pub use Rattle.pg_slots.specs.Contents.{CarriesContent, Content, IsAreaTold, PutTold, SlotsFit, area_name}
-pub use Rattle.pg_slots.specs.Slots.{KeepsShape, PutEffects, SlotTable, held_at, held_slot, slot_in_table}
-pub use Rattle.pg_slots.specs.declared.answers.Put.{Put}
-pub use Rattle.pg_slots.specs.declared.slot_row.Held.{Held}
-pub use Rattle.vm_abroad.proofs.Home.{object_stays}
-pub use Rattle.vm_abroad.specs.Home.{object_home}
+pub use Rattle.std.specs.Prelude.{IfNone, IfSome, IsSome, OnErr, OnOk, Result, get_or, is_none, is_some, nat_lt, option_map, reverse, slice_get, ◌&&◌, ◌/◌, ◌==◌, ◌||◌, ◌≢◌, IfOk}
+pub use Rattle.vm_abroad.proofs.Home.{home_stays, homes_next, homes_start, homes_stay, object_stays}
+pub use Rattle.vm_abroad.specs.Home.{HaveHomes, home_of, object_home}
 pub use Rattle.vm_base.specs.Buffers.{BufferStore}
 pub use Rattle.vm_base.specs.Entries.{entry_at, is_range, meets_range, most_entries}
 pub use Rattle.vm_base.specs.Listing.{Listed}
@@ -31,16 +35,16 @@ pub use Rattle.vm_base.specs.declared.ids.HostId.{HostId}
 pub use Rattle.vm_base.specs.declared.ids.ObjectId.{ObjectId}
 pub use Rattle.vm_base.specs.declared.ids.PageNo.{PageNo}
 pub use Rattle.vm_flat.proofs.Loads.{answers}
-pub use Rattle.vm_hosts.proofs.Nobodys.{all_lined, all_refused, queued_lined, queued_refused}
+pub use Rattle.vm_hosts.proofs.Nobodys.{MakesNoControl, all_lined, all_nobodys, all_refused, queued_lined, queued_refused}
 pub use Rattle.vm_hosts.proofs.Stretches.{stretch_none}
 pub use Rattle.vm_hosts.proofs.Tables.{all_suffice, common_all}
 pub use Rattle.vm_hosts.specs.Hosts.{AllQueued, AllRest, HostTable}
-pub use Rattle.vm_hosts.specs.Steps.{Began, Going, HostsPart, Step, Stretch}
+pub use Rattle.vm_hosts.specs.Steps.{Began, Going, HostsPart, Step, Stretch, Went}
 pub use Rattle.vm_kernel.proofs.Growing.{paid_of}
 pub use Rattle.vm_kernel.specs.Abroad.{IsNobodys}
 pub use Rattle.vm_kernel.specs.Begun.{CreatesHere, IsLined, KernelSays, SomeKernelSays}
-pub use Rattle.vm_kernel.specs.Matches.{IsPlain, host_id}
-pub use Rattle.vm_kernel.specs.Taking.{EndsAll, IsErrorPaid, IsTempAnswer}
+pub use Rattle.vm_kernel.specs.Matches.{IsRanged, host_id}
+pub use Rattle.vm_kernel.specs.Taking.{EndsAll, IsAbsencePaid, IsErrorPaid, IsLockPaid, IsPlainWord}
 pub use Rattle.vm_legal.proofs.Groups.{cut_of, open_of, so_far}
 pub use Rattle.vm_legal.proofs.Inside.{before_more, taken_more, takings_more}
 pub use Rattle.vm_legal.proofs.Locks.{no_request}
@@ -49,13 +53,13 @@ pub use Rattle.vm_legal.proofs.Stretched.{each_both, each_whole, inner_both, lic
 pub use Rattle.vm_legal.specs.Accesses.{Comes, Copies, Elsewhere, HasPlace, Nowhere, Raises, Waits, WaitsUnlocked, WantsFrame, page_of}
 pub use Rattle.vm_legal.specs.Bytes.{CopiesCurrent, FlatBytes, OwnBytes}
 pub use Rattle.vm_legal.specs.Debts.{IsPaid}
-pub use Rattle.vm_legal.specs.Follows.{Follows, FollowsSoFar, IsConsequence, IsDone, IsDoneSoFar, IsGroup, IsRun, IsWholeGroup, IsWholeSoFar, head, take_head}
+pub use Rattle.vm_legal.specs.Follows.{Follows, FollowsSoFar, IsConsequence, IsDone, IsDoneSoFar, IsGroup, IsRun, IsWholeGroup, IsWholeSoFar, clean_head, head, take_head}
 pub use Rattle.vm_legal.specs.Frames.{FramesSuffice, Gives, Suffice, change_where, frames_after, frames_held, frames_used, returns_out, taken_down_change, taken_up_change}
 pub use Rattle.vm_legal.specs.Homes.{gives_frame}
 pub use Rattle.vm_legal.specs.Legal.{Holds, IsAtRest, LegalFor}
-pub use Rattle.vm_legal.specs.Licences.{AllLicensed, HasCause, Licensed, MaySendUp, MayTake, ReturnsOn, created, lock_taken, up}
-pub use Rattle.vm_legal.specs.Outside.{Outside}
-pub use Rattle.vm_legal.specs.Pagers.{last_return}
+pub use Rattle.vm_legal.specs.Licences.{AllLicensed, HasCause, Licensed, MaySendUp, MayTake, ReturnsOn, created, lock_taken, tells, up}
+pub use Rattle.vm_legal.specs.Outside.{Outside, is_file}
+pub use Rattle.vm_legal.specs.Pagers.{Known, known_after, known_below, known_control, last_return, or_known}
 pub use Rattle.vm_legal.specs.Prompt.{AReady, AnAnswer, AnUnlock, Awaits, HostIsFull, IsExhausted, IsSource, NoneInVain, Prompt, WaitsForPager}
 pub use Rattle.vm_legal.specs.Refusal.{acting, code_where, copy_refusal, has_copy_mark, is_copy_full, is_elsewhere, is_empty, is_fork_full, is_full, refusal}
 pub use Rattle.vm_legal.specs.Steps.{Letter, before_step, taken_letter, takings}
@@ -67,7 +71,7 @@ pub use Rattle.vm_model.specs.Copies.{HasPageOf}
 pub use Rattle.vm_model.specs.Limits.{most_events}
 pub use Rattle.vm_model.specs.Local.{local}
 pub use Rattle.vm_model.specs.Moments.{BeforeSteps, EachEvent, EachMoment, before_last_line}
-pub use Rattle.vm_model.specs.Named.{named}
+pub use Rattle.vm_model.specs.Named.{declared_pages, named}
 pub use Rattle.vm_model.specs.Regions.{marked_below, marked_regions, next_object, next_region, region_of}
 pub use Rattle.vm_model.specs.Server.{first}
 pub use Rattle.vm_model.specs.Side.{rest}
@@ -76,6 +80,7 @@ pub use Rattle.vm_model.specs.Waiting.{Access, is_store, waiting}
 pub use Rattle.vm_model.specs.contracts.message.ChannelPartialEq.TheImpl.{eq-value}
 pub use Rattle.vm_model.specs.declared.command.Command.{Command}
 pub use Rattle.vm_model.specs.declared.command.Numbered.{Numbered}
+pub use Rattle.vm_model.specs.declared.event.Device.{Device}
 pub use Rattle.vm_model.specs.declared.event.Event.{Event}
 pub use Rattle.vm_model.specs.declared.event.Way.TheVariants.{Read, Write}
 pub use Rattle.vm_model.specs.declared.message.Channel.{Channel}
@@ -88,15 +93,17 @@ pub use Rattle.vm_outside.specs.Causes.{CountRises, sum_count}
 pub use Rattle.vm_ports.specs.Ports.{PortTable}
 pub use Rattle.vm_quiet.proofs.Letters.{first_is, is_out, never, outs, outs_sent, outs_taken, queue_is, same_channel, some_out}
 pub use Rattle.vm_quiet.specs.Letters.{messages_on}
+pub use Rattle.vm_quiet.specs.Places.{AllPaged}
 pub use Rattle.vm_system.specs.Channels.{ChannelTable, channel_number}
-pub use Rattle.vm_system.specs.Making.{Makes, Spares}
-pub use Rattle.vm_system.specs.Orderly.{AllLetters, Ending, EndsLast, HasMade, IsHome, IsHostLetter, IsOrderly, IsWordUp, NoEnd, is_end, is_washed, washed_in}
+pub use Rattle.vm_system.specs.Keeping.{FilesAreTold, FilesCarry, MayHave}
+pub use Rattle.vm_system.specs.Making.{Makes, Spares, SparesFiles, SparesPaging}
+pub use Rattle.vm_system.specs.Orderly.{AllLetters, Ending, EndsLast, HasMade, IsHome, IsHostLetter, IsOrderly, IsWordUp, NoEnd, home_for, is_end, is_washed, washed_in}
 pub use Rattle.vm_system.specs.Posts.{AreSame, CanSend, CanTell, CanTellAll, HasRoom, Posts, SameHosts}
 pub use Rattle.vm_system.specs.Refusing.{channel_code, code_at}
-pub use Rattle.vm_system.specs.Sends.{AreFresh, Delivered, made_by}
+pub use Rattle.vm_system.specs.Sends.{AreFresh, Delivered, made_by, opened}
 pub use Rattle.vm_system.specs.Settling.{DevicesCounted, StaysOpen}
-pub use Rattle.vm_system.specs.Stands.{Agrees, AllServe, AllTold, AreEmpty, AreNumbered, PagingIsKept, SystemStands}
-pub use Rattle.vm_system.specs.Steps.{DevicesHaveCause, EndsCut, GrowsWithinLimit, HasMore, IsBelowLimit, IsMemoryStop, KeepsLegal, KeepsOpen, LeavesFiles, LeavesPaging, LegalCut, LegalOpen, MayBegin, MayCut, MayCutOpen, arms_paging, devices, is_idle, lined, settles, takes_up, took_up}
+pub use Rattle.vm_system.specs.Stands.{Agrees, AllFilesServe, AllServe, AllTold, AreEmpty, AreNamedApart, AreNumbered, FilesAreKept, IsOfFiles, PagingIsKept, SystemStands}
+pub use Rattle.vm_system.specs.Steps.{DevicesHaveCause, EndsCut, GrowsWithinLimit, HasMore, IsBelowLimit, IsMemoryStop, KeepsLegal, KeepsOpen, LeavesBacking, LegalCut, LegalOpen, MayBegin, MayCut, MayCutOpen, arms, device_of, devices, is_device, is_idle, lined, settles, takes_any, takes_up, took_any, took_up}
 pub use Rattle.vm_system.specs.Takings.{Followed, MayBeCut, MayTakeFrom, PagerHasAnswered, TakesStep, Took}
 pub use Rattle.vm_system.specs.declared.state.State.{State}
 pub use Rattle.vm_system.specs.declared.stop.SystemStop.{SystemStop}

@@ -1,10 +1,17 @@
 -- What the kernels say leaves the pagers and what was stored.
-use Rattle.vm_system.proofs.Common.{Agrees, AllInner, AllServe, AllTold, Bool, CanTellAll, Command, Content, EachIn, Event, Followed, Going, Header, HostId, HostTable, HostsPart, IsOrderly, List, Outside, PagerHasAnswered, PagingIsKept, Posts, SameHosts, SlotTable, SlotsFit, Some, SomeKernelSays, Spares, State, Stretch, Told, ap, content_of, devices, refl, slice_get, subst, sym, true, ℕ, ◌++◌, ◌∙◌, ◌≡◌}
-use Rattle.vm_system.proofs.Agreeing.{content_stays, devices_said, serve_said}
+use Rattle.vm_system.proofs.Common.{Agrees, AllFilesServe, AllInner, AllServe, AllTold, Bool, CanTellAll, Command, Content, EachIn, Event, FilesAreKept, FilesCarry, Followed, Going, Header, HostId, HostTable, HostsPart, IsOrderly, List, Outside, PagerHasAnswered, PagingIsKept, Posts, SameHosts, SlotTable, SlotsFit, Some, SomeKernelSays, Spares, SparesFiles, SparesPaging, State, Stretch, Told, ap, content_of, declared_pages, devices, named, refl, slice_get, subst, sym, true, ℕ, ◌++◌, ◌<◌, ◌∙◌, ◌≡◌}
+use Rattle.vm_model.specs.declared.event.Device.TheVariants.{Files, Paging}
+use Rattle.vm_system.proofs.Agreeing.{carry_spared, content_stays, devices_said, files_spared, serve_said, spared_said}
 use Rattle.vm_system.proofs.Sayings.{can_say, orderly_said}
 
 pub same_pagers : (old new : State) → SameHosts old new → new.pagers.items ≡ old.pagers.items
 same_pagers old new same = rw same.pagers refl
+
+pub same_files : (old new : State) → SameHosts old new → new.files.items ≡ old.files.items
+same_files old new same = rw same.files refl
+
+pub same_pages : (old new : State) → SameHosts old new → new.pages.items ≡ old.pages.items
+same_pages old new same = rw same.pages refl
 
 -- slots and areas of each pager fit what the history has stored
 abbrev pub AllFit : Header → (List ℕ → Told) → List SlotTable → List Event → Type 0
@@ -34,12 +41,52 @@ kept_behind header outside areas old new events past serve front said inner page
     kept_at header outside areas new old.pagers.items (events ++ past) pagers items (serve_said header old.pagers.items events past said inner serve) kept.told
     (λ on. fit_same header areas old.pagers.items old.history.items (events ++ past) (λ h. content_stays header h events past said inner ∙ front h) (kept.fits on))
 
+-- what the files' pagers were told is kept, where they stand for what is told now
+pub filed_spares : (header : Header) (outside : Outside) (old new : State) → AllFilesServe header new.files.items new.history.items
+    → ((start areas : List ℕ → Told) → FilesCarry header start areas old.history.items → FilesCarry header start areas new.history.items) → devices Files new.history.items ≡ devices Files old.history.items → SparesFiles header outside old new
+filed_spares header outside old new serve carried same = record {
+  kept = λ areas kept. record { files = serve; start = kept.start; told = kept.told; kept = carried kept.start areas kept.kept };
+  carried = carried;
+  devices = same;
+}
+
+-- files' pagers and history are as they were
+pub filed_same : (header : Header) (outside : Outside) (areas : List ℕ → Told) (old new : State) → new.files.items ≡ old.files.items → new.history.items ≡ old.history.items → FilesAreKept header outside areas old → FilesAreKept header outside areas new
+filed_same header outside areas old new files items kept = record { files = rw (files, items) kept.files; start = kept.start; told = kept.told; kept = rw items kept.kept }
+
+-- nothing was told, and the pagers are as they were
+
+pub same_paging : (header : Header) (outside : Outside) (old new : State) → new.pagers.items ≡ old.pagers.items → new.history.items ≡ old.history.items → SparesPaging header outside old new
+same_paging header outside old new pagers items = record { kept = λ areas kept. kept_same header outside areas old new pagers items kept; devices = ap (devices Paging) items }
+
+pub same_filing : (header : Header) (outside : Outside) (old new : State) → new.files.items ≡ old.files.items → new.history.items ≡ old.history.items → SparesFiles header outside old new
+same_filing header outside old new files items = record {
+  kept = λ areas kept. filed_same header outside areas old new files items kept;
+  carried = λ start areas carry. rw items carry;
+  devices = ap (devices Files) items;
+}
+
+pub same_all : (header : Header) (outside : Outside) (old new : State) → new.pagers.items ≡ old.pagers.items → new.files.items ≡ old.files.items → new.history.items ≡ old.history.items → Spares header outside old new
+same_all header outside old new pagers files items = record { paging = same_paging header outside old new pagers items; files = same_filing header outside old new files items }
+
+-- one part of a step behind another
+
+pub both_paging : (header : Header) (outside : Outside) (old mid new : State) → SparesPaging header outside old mid → SparesPaging header outside mid new → SparesPaging header outside old new
+both_paging header outside old mid new one two = record { kept = λ areas kept. two.kept areas (one.kept areas kept); devices = two.devices ∙ one.devices }
+
+pub both_filing : (header : Header) (outside : Outside) (old mid new : State) → SparesFiles header outside old mid → SparesFiles header outside mid new → SparesFiles header outside old new
+both_filing header outside old mid new one two =
+    record { kept = λ areas kept. two.kept areas (one.kept areas kept); carried = λ start areas carry. two.carried start areas (one.carried start areas carry); devices = two.devices ∙ one.devices }
+
 -- what agrees with the history does so behind what kernels said
-pub agrees_said : (header : Header) (outside : Outside) (doing : Command) (past events : List Event) (s : State) → IsOrderly header (events ++ past) → AllServe header s.pagers.items past
-    → Stretch header outside doing past events → s.size ≡ header.size → s.history.items ≡ events ++ past → Posts s s.history.items → Agrees header outside s
-agrees_said header outside doing past events s orderly serve stretch size items posts = record {
+pub agrees_said : (header : Header) (outside : Outside) (doing : Command) (past events : List Event) (s : State) → IsOrderly header (events ++ past) → AllServe header s.pagers.items past → AllFilesServe header s.files.items past
+    → ((object : ℕ) → object < named header → slice_get s.pages.items object ≡ Some (declared_pages header object)) → Stretch header outside doing past events → s.size ≡ header.size → s.history.items ≡ events ++ past → Posts s s.history.items
+    → Agrees header outside s
+agrees_said header outside doing past events s orderly serve files pages stretch size items posts = record {
   size = size;
+  pages = pages;
   pagers = rw items (serve_said header s.pagers.items events past stretch.said stretch.inner serve);
+  files = rw items (files_spared header s.files.items events past (spared_said header events past stretch.said) files);
   posts = posts;
   orderly = rw items orderly;
 }
@@ -51,25 +98,27 @@ can_follow given host washed old hosts events answered passed =
     let past = given.front ++ given.past in
     let stretch = passed.follows.stretch in
     let orderly : IsOrderly given.header past = subst (λ (z : List Event). IsOrderly given.header z) answered.is answered.agrees.orderly in
-    rw (answered.agrees.size, answered.is) (can_say given.header given.outside given.command past events answered.rests.plain orderly stretch.licensed stretch.said stretch.inner)
+    rw (answered.agrees.size, answered.is) (can_say given.header given.outside given.command past events answered.built.paged orderly stretch.licensed stretch.said stretch.inner)
 
 -- and is told
 pub followed : (given : Going) (host : HostId) (washed : Bool) (old new : State) (events : List Event) → PagerHasAnswered given host washed old
-    → HostsPart given.header given.outside given.command (given.front ++ given.past) new.hosts events → new.size ≡ old.size → new.pagers.items ≡ old.pagers.items → new.history.items ≡ events ++ old.history.items → Posts new new.history.items
-    → Followed given new
-followed given host washed old new events answered passed size pagers items posts =
+    → HostsPart given.header given.outside given.command (given.front ++ given.past) new.hosts events → new.size ≡ old.size → new.pagers.items ≡ old.pagers.items → new.files.items ≡ old.files.items → new.pages.items ≡ old.pages.items
+    → new.history.items ≡ events ++ old.history.items → Posts new new.history.items → Followed given new
+followed given host washed old new events answered passed size pagers files pages items posts =
     let past = given.front ++ given.past in
     let header = given.header in
     let stretch = passed.follows.stretch in
     let now : new.history.items ≡ events ++ past = items ∙ ap (λ (z : List Event). events ++ z) answered.is in
     let orderly : IsOrderly header past = subst (λ (z : List Event). IsOrderly header z) answered.is answered.agrees.orderly in
     let serve : AllServe header new.pagers.items past = rw pagers (subst (λ (z : List Event). AllServe header old.pagers.items z) answered.is answered.agrees.pagers) in
+    let filed : AllFilesServe header new.files.items past = rw files (subst (λ (z : List Event). AllFilesServe header old.files.items z) answered.is answered.agrees.files) in
     record {
       stands = record {
+        built = answered.built;
         rests = rw now passed.ended.rests;
         queues = rw now passed.ended.queues;
         agrees = agrees_said header given.outside given.command past events new
-            (orderly_said header given.outside given.command past events answered.rests.plain orderly stretch.licensed stretch.said stretch.inner) serve stretch (size ∙ answered.agrees.size) now posts;
+            (orderly_said header given.outside given.command past events answered.built.paged orderly stretch.licensed stretch.said stretch.inner) serve filed (rw pages answered.agrees.pages) stretch (size ∙ answered.agrees.size) now posts;
       };
       more = events;
       is = now;
@@ -79,11 +128,17 @@ followed given host washed old new events answered passed size pagers items post
 
 -- and leaves what was stored
 pub kept_followed : (given : Going) (host : HostId) (washed : Bool) (old new : State) (hosts : HostTable) (events : List Event) → PagerHasAnswered given host washed old
-    → HostsPart given.header given.outside given.command (given.front ++ given.past) hosts events → new.pagers.items ≡ old.pagers.items → new.history.items ≡ events ++ old.history.items → Spares given.header given.outside old new
-kept_followed given host washed old new hosts events answered passed pagers items =
+    → HostsPart given.header given.outside given.command (given.front ++ given.past) hosts events → new.pagers.items ≡ old.pagers.items → new.files.items ≡ old.files.items → new.history.items ≡ events ++ old.history.items
+    → Spares given.header given.outside old new
+kept_followed given host washed old new hosts events answered passed pagers files items =
+    let header = given.header in
     let stretch = passed.follows.stretch in
-    let said : EachIn (SomeKernelSays given.header) events old.history.items = rw answered.is stretch.said in
+    let said : EachIn (SomeKernelSays header) events old.history.items = rw answered.is stretch.said in
     record {
-      kept = λ areas kept. kept_behind given.header given.outside areas old new events old.history.items kept.pagers (λ h. refl) said stretch.inner pagers items kept;
-      devices = ap devices items ∙ devices_said given.header events old.history.items said;
+      paging = record {
+        kept = λ areas kept. kept_behind header given.outside areas old new events old.history.items kept.pagers (λ h. refl) said stretch.inner pagers items kept;
+        devices = ap (devices Paging) items ∙ devices_said Paging header events old.history.items said;
+      };
+      files = filed_spares header given.outside old new (rw (files, items) (files_spared header old.files.items events old.history.items (spared_said header events old.history.items said) answered.agrees.files))
+          (λ start areas carry. rw items (carry_spared header start areas events old.history.items (spared_said header events old.history.items said) carry)) (ap (devices Files) items ∙ devices_said Files header events old.history.items said);
     }

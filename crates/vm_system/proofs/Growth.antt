@@ -1,5 +1,5 @@
 -- A step makes the history longer, and begins where it may.
-use Rattle.vm_system.proofs.Common.{AllInner, Event, GrowsWithinLimit, IsBelowLimit, IsInner, List, MayBeCut, MayBegin, None, Option, Some, Step, TakesStep, [], ap, append_assoc, arith, before_last_line, before_more, before_step, devices, inl, inr, length, length-append, lined, most_events, refl, steps_whole, subst, sym, takings, takings_more, ℕ, ◌++◌, ◌+◌, ◌<◌, ◌∙◌, ◌∷◌, ◌≡◌, ◌≤◌}
+use Rattle.vm_system.proofs.Common.{AllInner, Bool, Device, Event, GrowsWithinLimit, IsBelowLimit, IsInner, List, MayBeCut, MayBegin, None, Option, Some, Step, TakesStep, [], ap, append_assoc, arith, before_last_line, before_more, before_step, devices, false, if◌then◌else◌, inl, inr, is_device, length, length-append, lined, most_events, refl, steps_whole, subst, sym, takings, takings_more, true, ℕ, ◌++◌, ◌+◌, ◌<◌, ◌∙◌, ◌∷◌, ◌≡◌, ◌≤◌}
 use Rattle.vm_model.specs.declared.event.Event.TheVariants as event
 
 -- what stands in front of a line, or of a step, is the same behind events inside it
@@ -89,10 +89,14 @@ grew_more first old new one two below = record {
 
 -- it tells of no fewer failures
 
-devices_behind : (more old : List Event) → devices old ≤ devices (more ++ old)
-devices_behind [] old = omega arith
-devices_behind (event.DeviceFailed who way object page ∷ more) old = let rest = devices_behind more old in omega arith
-devices_behind (e ∷ more) old = devices_behind more old
+devices_behind : (who : Device) (more old : List Event) → devices who old ≤ devices who (more ++ old)
+devices_behind who [] old = omega arith
+devices_behind who (event.DeviceFailed by way object page ∷ more) old = one (is_device who by) (devices_behind who more old)
+  where
+    one : (b : Bool) → devices who old ≤ devices who (more ++ old) → devices who old ≤ (if b then devices who (more ++ old) + 1 else devices who (more ++ old))
+    one true rest = omega (arith, rest)
+    one false rest = rest
+devices_behind who (e ∷ more) old = devices_behind who more old
 
-pub devices_grow : (old new : List Event) → GrowsWithinLimit old new → devices old ≤ devices new
-devices_grow old new grew = subst (λ z. devices old ≤ devices z) (sym grew.is) (devices_behind grew.more old)
+pub devices_grow : (who : Device) (old new : List Event) → GrowsWithinLimit old new → devices who old ≤ devices who new
+devices_grow who old new grew = subst (λ z. devices who old ≤ devices who z) (sym grew.is) (devices_behind who grew.more old)

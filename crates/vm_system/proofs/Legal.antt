@@ -3,12 +3,12 @@ use Rattle.std.proofs.Common.{zero, suc, length, refl, ap, ℕ, Some, None, Opti
 use Rattle.vm_base.specs.declared.ids.ObjectId.{ObjectId}
 use Rattle.vm_base.specs.declared.ids.TaskId.{TaskId}
 use Rattle.vm_legal.specs.Follows.{clean_head, map_head}
-use Rattle.vm_legal.specs.Pagers.{known_below, known_control, or_known}
-use Rattle.vm_system.proofs.Common.{AllInner, Began, Bool, Code, Command, EachEvent, EachIn, Entry, Event, FlatBytes, FollowsSoFar, FramesSuffice, Header, Holds, HostTable, HostsPart, IfNone, IsAtRest, IsDone, IsDoneSoFar, IsGroup, IsPaid, IsPlain, IsRun, IsWholeGroup, IsWholeSoFar, KeepsLegal, List, MomentsIn, None, Numbered, Option, Outside, OwnBytes, Prompt, Some, [], acting, answers, ap, code_where, copies, copies_from, copy_refusal, each_whole, entries_of, entry_at, false, has_copy_mark, head, host_of, if◌then◌else◌, inl, is_copied, is_copy_full, is_elsewhere, is_fork_full, is_full, is_idle, is_none, is_range, is_some, length, marked_below, marked_regions, meets_range, moment_last, moments_whole, most_entries, nat_le, new_marks, next_object, next_region, not, refl, refusal, region_of, settles, so_far, steps_whole, suc, sym, takings_more, true, waiting, zero, ℕ, ◌++◌, ◌+◌, ◌/◌, ◌∙◌, ◌∷◌, ◌≡◌}
-use Rattle.std.proofs.Common.{◌||◌, ◌&&◌, nat_lt, append-nil}
+use Rattle.vm_system.proofs.Common.{AllInner, AllLicensed, AllPaged, Began, Bool, Code, Command, EachEvent, EachIn, Entry, Event, FlatBytes, FollowsSoFar, FramesSuffice, Header, Holds, HostTable, IfNone, IsAtRest, IsDone, IsDoneSoFar, IsGroup, IsPaid, IsRun, IsWholeGroup, IsWholeSoFar, KeepsLegal, List, MomentsIn, None, Numbered, Option, Outside, OwnBytes, Prompt, Some, Went, [], acting, answers, ap, code_where, copies, copies_from, copy_refusal, each_both, each_whole, entries_of, entry_at, false, has_copy_mark, head, host_of, if◌then◌else◌, inl, inner_both, is_copied, is_copy_full, is_elsewhere, is_fork_full, is_full, is_idle, is_none, is_range, is_some, length, licensed_both, marked_below, marked_regions, meets_range, moment_last, moments_both, moments_whole, most_entries, nat_le, new_marks, next_object, next_region, not, refl, refusal, region_of, reverse, settles, so_far, steps_whole, subst, suc, sym, takings_more, true, waiting, zero, ℕ, ◌++◌, ◌+◌, ◌/◌, ◌∙◌, ◌∷◌, ◌≡◌}
+use Rattle.std.proofs.Common.{◌||◌, ◌&&◌, nat_lt}
 use Rattle.vm_base.specs.declared.code.Code.TheVariants as code
 use Rattle.vm_model.specs.declared.event.Event.TheVariants as event
 use Rattle.vm_model.specs.declared.command.Command.TheVariants as command
+use Rattle.vm_system.proofs.Cleaning.{IsAsked, known_line}
 use Rattle.vm_system.proofs.Silent.{all_returned, paid_inner, prompt_code, prompt_line}
 use Rattle.vm_system.proofs.Unfilled.{all_current}
 
@@ -68,11 +68,6 @@ refusal_line header line h (command.Unwire host count) = refl
 refusal_line header line h (command.Take channel) = refl
 refusal_line header line h other = refl
 
--- the pager of an object knows the control that it knew
-known_line : (n o line : ℕ) (h : List Event) → known_below n o (event.Line line ∷ h) ≡ known_below n o h
-known_line zero o line h = refl
-known_line (suc n) o line h = ap (λ z. or_known z n (known_control n o h)) (known_line n o line h)
-
 map_line : (header : Header) (task : TaskId) (address bytes : ℕ) (object : ObjectId) (offset line : ℕ) (h : List Event) (x : Option ℕ) → map_head header task address bytes object offset (event.Line line ∷ h) x ≡ map_head header task address bytes object offset h x
 map_line header task address bytes object offset line h None = refl
 map_line header task address bytes object offset line h (Some host) = refl
@@ -101,8 +96,8 @@ head_line header line h other = refl
 -- events inside a step take nothing
 
 -- where each load answers from its own host's page it answers the flat map's bytes
-pub flat_of : (header : Header) (outside : Outside) (run : List Numbered) (h : List Event) → IsPlain header → FollowsSoFar header outside run h → EachEvent (OwnBytes header) h → EachEvent (FlatBytes header outside) h
-flat_of header outside run h plain follows own = let causes = so_far header outside run h follows in answers header outside h causes own (all_current header outside h plain causes)
+pub flat_of : (header : Header) (outside : Outside) (run : List Numbered) (h : List Event) → AllPaged header → FollowsSoFar header outside run h → EachEvent (OwnBytes header) h → EachEvent (FlatBytes header outside) h
+flat_of header outside run h paged follows own = let causes = so_far header outside run h follows in answers header outside h causes own (all_current header outside h paged causes)
 
 -- a command that is no settle is whole so far, where it is whole
 so_far_of : (header : Header) (c : Numbered) (h events : List Event) → (settles c.command ≡ None → IsWholeGroup header h c events) → IsWholeSoFar header h c events
@@ -122,16 +117,16 @@ pub record IsStep (header : Header) (outside : Outside) (c : Numbered) (h events
   pub inner : AllInner events
   pub rests : IsAtRest header h → IsAtRest header (events ++ event.Line c.line ∷ h)
 
-pub legal_step : (header : Header) (outside : Outside) (c : Numbered) (h events : List Event) → IsPlain header → IsStep header outside c h events
+pub legal_step : (header : Header) (outside : Outside) (c : Numbered) (h events : List Event) → AllPaged header → IsStep header outside c h events
     → KeepsLegal header outside c h (events ++ event.Line c.line ∷ h)
-legal_step header outside c h events plain step run legal =
+legal_step header outside c h events paged step run legal =
     let past = event.Line c.line ∷ h in
     let now = moment_last (FramesSuffice header) h legal.holds.frames in
     let follows : FollowsSoFar header outside (c ∷ run) (events ++ past) = (h, events, refl, step.made, so_far_of header c h events step.whole, legal.follows) in
     let own : EachEvent (OwnBytes header) (events ++ past) = each_whole (OwnBytes header) events past step.own_bytes (tt, legal.holds.own_bytes) in
     let holds : Holds header outside (events ++ past) = record {
       own_bytes = own;
-      flat_bytes = flat_of header outside (c ∷ run) (events ++ past) plain follows own;
+      flat_bytes = flat_of header outside (c ∷ run) (events ++ past) paged follows own;
       frames = moments_whole (FramesSuffice header) events past (step.frames now) (now, legal.holds.frames);
       prompt = steps_whole (Prompt header) events past step.inner (legal.rests.prompt, legal.holds.prompt);
       paid = steps_whole (IsPaid header) events past step.inner (legal.rests.paid, legal.holds.paid);
@@ -144,9 +139,9 @@ legal_step header outside c h events plain step run legal =
     }
 
 -- a refused command adds its line and its code
-pub legal_refused : (header : Header) (outside : Outside) (c : Numbered) (why : Code) (h : List Event) → IsPlain header
+pub legal_refused : (header : Header) (outside : Outside) (c : Numbered) (why : Code) (h : List Event) → AllPaged header
     → refusal header h c.command ≡ Some why → KeepsLegal header outside c h (event.Refused why ∷ event.Line c.line ∷ h)
-legal_refused header outside c why h plain refused = legal_step header outside c h (event.Refused why ∷ []) plain (record {
+legal_refused header outside c why h paged refused = legal_step header outside c h (event.Refused why ∷ []) paged (record {
   made = rw refused refl;
   whole = λ none. rw refused tt;
   own_bytes = (tt, tt);
@@ -159,14 +154,14 @@ legal_refused header outside c why h plain refused = legal_step header outside c
 })
 
 -- a command's head, and what follows from it
-pub legal_began : (header : Header) (outside : Outside) (c : Numbered) (h events : List Event) (hosts : HostTable) → IsPlain header
+pub legal_began : (header : Header) (outside : Outside) (c : Numbered) (h events : List Event) (hosts : HostTable) → AllPaged header
     → refusal header h c.command ≡ None → Began header outside c.command (event.Line c.line ∷ h) hosts events → KeepsLegal header outside c h (events ++ event.Line c.line ∷ h)
-legal_began header outside c h events hosts plain fine began =
+legal_began header outside c h events hosts paged fine began =
     let heads = began.heads in
     let stretch = heads.stretch in
     let is : head header h c.command ≡ Some heads.first = sym (head_line header c.line h c.command) ∙ heads.head in
     let made : IsRun header outside h c heads.first events = record { more = heads.more; is = heads.is; follows = heads.follows; licensed = stretch.licensed } in
-    legal_step header outside c h events plain (record {
+    legal_step header outside c h events paged (record {
       made = rw (fine, is) made;
       whole = λ none. rw fine began.done;
       own_bytes = stretch.own_bytes;
@@ -175,43 +170,41 @@ legal_began header outside c h events hosts plain fine began =
       rests = λ rests. record { prompt = began.ended.prompt; paid = began.paid };
     })
 
-idle_fine : (header : Header) (h : List Event) (doing : Command) → is_idle doing ≡ true → refusal header h doing ≡ None
-idle_fine header h (command.FailFiles count) is = refl
-idle_fine header h (command.FailPaging count) is = refl
-idle_fine header h other is = absurd (let bad : false ≡ true = is in cc)
-
-idle_head : (header : Header) (h : List Event) (doing : Command) → is_idle doing ≡ true → head header h doing ≡ Some []
-idle_head header h (command.FailFiles count) is = refl
-idle_head header h (command.FailPaging count) is = refl
-idle_head header h other is = absurd (let bad : false ≡ true = is in cc)
-
 idle_done : (header : Header) (group past : List Event) (doing : Command) → is_idle doing ≡ true → IsDone header doing group past
 idle_done header group past (command.FailFiles count) is = tt
 idle_done header group past (command.FailPaging count) is = tt
+idle_done header group past (command.Clean object page count flush) is = tt
 idle_done header group past other is = absurd (let bad : false ≡ true = is in cc)
 
--- a command that is no host's: what they do at the step's end
-pub legal_passed : (header : Header) (outside : Outside) (c : Numbered) (h events : List Event) (hosts : HostTable) → IsPlain header
-    → is_idle c.command ≡ true → HostsPart header outside c.command (event.Line c.line ∷ h) hosts events → KeepsLegal header outside c h (events ++ event.Line c.line ∷ h)
-legal_passed header outside c h events hosts plain idle passed =
+-- a command that is no host's: what is asked for it, and what the hosts do behind that
+pub legal_passed : (header : Header) (outside : Outside) (c : Numbered) (h asked events : List Event) (hosts : HostTable) → AllPaged header
+    → is_idle c.command ≡ true → refusal header h c.command ≡ None → head header h c.command ≡ Some asked → IsAsked header outside c.command (event.Line c.line ∷ h) asked
+    → Went header outside c.command (event.Line c.line ∷ h) asked hosts events → KeepsLegal header outside c h (events ++ event.Line c.line ∷ h)
+legal_passed header outside c h asked events hosts paged idle fine is says went =
     let past = event.Line c.line ∷ h in
-    let stretch = passed.follows.stretch in
-    let fine = idle_fine header h c.command idle in
-    let is = idle_head header h c.command idle in
-    let made : IsRun header outside h c [] events = record { more = events; is = sym (append-nil events); follows = passed.follows.follows; licensed = stretch.licensed } in
-    legal_step header outside c h events plain (record {
+    let more = went.more in
+    let stretch = went.follows.stretch in
+    let both : events ≡ more ++ reverse asked = went.is ∙ ap (λ z. more ++ z) (sym says.back) in
+    let inner : AllInner events = subst AllInner (sym went.is) (inner_both more asked stretch.inner says.inner) in
+    let made : IsRun header outside h c asked events = record {
+      more = more;
+      is = both;
+      follows = went.follows.follows;
+      licensed = subst (λ (z : List Event). AllLicensed header outside c.command z past) (sym went.is) (licensed_both header outside c.command more asked past stretch.licensed says.licensed);
+    } in
+    legal_step header outside c h events paged (record {
       made = rw (fine, is) made;
       whole = λ none. rw fine (idle_done header events past c.command idle);
-      own_bytes = stretch.own_bytes;
-      frames = λ now. stretch.frames;
-      inner = stretch.inner;
-      rests = λ rests. record { prompt = passed.ended.prompt; paid = paid_inner header c.line h events stretch.inner (all_returned header hosts (events ++ past) passed.ended.rests) };
+      own_bytes = subst (λ (z : List Event). EachIn (OwnBytes header) z past) (sym went.is) (each_both (OwnBytes header) more asked past stretch.own_bytes says.own_bytes);
+      frames = λ now. subst (λ (z : List Event). MomentsIn (FramesSuffice header) z past) (sym went.is) (moments_both (FramesSuffice header) more asked past stretch.frames (says.frames now));
+      inner = inner;
+      rests = λ rests. record { prompt = went.ended.prompt; paid = paid_inner header c.line h events inner (all_returned header hosts (events ++ past) went.ended.rests) };
     })
 
 -- a settle begins with its line
-pub legal_settle : (header : Header) (outside : Outside) (line count : ℕ) (h : List Event) → IsPlain header
+pub legal_settle : (header : Header) (outside : Outside) (line count : ℕ) (h : List Event) → AllPaged header
     → KeepsLegal header outside (record { line = line; command = command.Settle count }) h (event.Line line ∷ h)
-legal_settle header outside line count h plain = legal_step header outside (record { line = line; command = command.Settle count }) h [] plain (record {
+legal_settle header outside line count h paged = legal_step header outside (record { line = line; command = command.Settle count }) h [] paged (record {
   made = record { more = []; is = refl; follows = tt; licensed = tt };
   whole = λ none. absurd (let bad : Some count ≡ None = none in cc);
   own_bytes = tt;

@@ -1,11 +1,11 @@
 -- The letters on their way under events that begin a step, and the first of a channel.
-use Rattle.vm_system.proofs.Common.{AllLetters, Bool, Channel, Down, Ending, Event, Header, HostId, IsHostLetter, IsOrderly, IsTempAnswer, IsWordUp, Letter, List, Message, None, ObjectId, Some, Up, [], false, first, first_is, gives_frame, object_home, host_id, if◌then◌else◌, inr, is_channel, is_ended, is_heard_elsewhere, is_made, live_control, lock_taken, messages_on, never, queue, queue_is, refl, rest, returns_out, same_channel, subst, sym, true, undelivered, up, without_first, ℕ, ◌&&◌, ◌++◌, ◌==◌, ◌∷◌, ◌≡◌, ◌≢◌}
+use Rattle.vm_system.proofs.Common.{AllLetters, Bool, Channel, Down, Ending, Event, Header, HostId, IsHostLetter, IsOrderly, IsWordUp, Letter, List, Message, None, ObjectId, Some, Up, [], false, first, first_is, gives_frame, home_for, host_id, if◌then◌else◌, inr, is_channel, is_ended, is_heard_elsewhere, is_made, known_after, known_control, length, live_control, messages_on, named, never, queue, queue_is, refl, rest, returns_out, same_Some, same_channel, subst, sym, true, undelivered, up, without_first, ℕ, ◌&&◌, ◌++◌, ◌==◌, ◌∙◌, ◌∷◌, ◌≡◌, ◌≢◌, ◌≤◌}
 use Rattle.std.specs.Prelude.{◌<◌}
 use Rattle.vm_model.specs.declared.event.Event.TheVariants as event
 use Rattle.vm_model.specs.declared.message.Message.TheVariants as message
 use Rattle.vm_system.proofs.Endings.{ends_taken}
-use Rattle.vm_system.proofs.Homes.{elsewhere_taken, home_kept, home_taken}
-use Rattle.vm_system.proofs.Makings.{at_place, ended_is, is_open, made_taken, own}
+use Rattle.vm_system.proofs.Homes.{elsewhere_taken, home_kept, home_taken, home_temporary}
+use Rattle.vm_system.proofs.Makings.{at_place, ended_is, is_open, made_kept, made_none, made_taken, own}
 use Rattle.vm_system.proofs.Washings.{some_washed, washed_taken}
 
 -- the channels of one history are made in another
@@ -13,9 +13,12 @@ pub record Grew (old new : List Event) : Type 0 where
   pub kept : (c : Channel) → is_made c old ≡ true → is_made c new ≡ true
 
 word_stays : (size : ℕ) (old new : ℕ → Bool) (m : Message) → ((k : ℕ) → old k ≡ true → new k ≡ true) → IsWordUp size old m → IsWordUp size new m
+word_stays size old new (message.Init control bytes) kept word = kept control word
 word_stays size old new (message.Create control bytes) kept word = kept control word
 word_stays size old new (message.Request control page access) kept word = kept control word
 word_stays size old new (message.Return control page dirty keep bytes) kept word = word
+word_stays size old new (message.Unlock control page access) kept word = word
+word_stays size old new (message.Completed control page count) kept word = word
 word_stays size old new (message.Terminate control) kept word = word
 word_stays size old new m kept word = absurd word
 
@@ -58,28 +61,37 @@ pub letter_first : (header : Header) (channel : Channel) (m : Message) (past : L
 letter_first header channel m past orderly head = letter_among header past channel m (undelivered past) orderly.letters (first_is channel m past head)
 
 -- what is on the way up, by the channel's queue
-pub queued : (header : Header) (h o : ℕ) (past : List Event) → IsOrderly header past → Ending (live_control h o past) (is_ended h o past) (queue (up h o) past)
-queued header h o past orderly = subst (λ (q : List Message). Ending (live_control h o past) (is_ended h o past) q) (sym (queue_is (up h o) past)) (orderly.ending h o)
+pub queued : (header : Header) (h o : ℕ) (past : List Event) → IsOrderly header past → named header ≤ o → Ending (live_control h o past) (is_ended h o past) (queue (up h o) past)
+queued header h o past orderly temporary = subst (λ (q : List Message). Ending (live_control h o past) (is_ended h o past) q) (sym (queue_is (up h o) past)) (orderly.ending h o temporary)
 
 pub lettered : (h o : ℕ) (past : List Event) → Ending (live_control h o past) (is_ended h o past) (queue (up h o) past) → Ending (live_control h o past) (is_ended h o past) (messages_on (up h o) (undelivered past))
 lettered h o past ending = subst (λ (q : List Message). Ending (live_control h o past) (is_ended h o past) q) (queue_is (up h o) past) ending
 
-pub unended_first : (header : Header) (h : ℕ) (object : ObjectId) (m : Message) (past : List Event) → IsOrderly header past → first (queue (Up (host_id h) object) past) ≡ Some m → is_ended h object.0 past ≡ false
-unended_first header h object m past orderly head = one (is_ended h object.0 past) refl
+pub unended_first : (header : Header) (h : ℕ) (object : ObjectId) (m : Message) (past : List Event) → IsOrderly header past → named header ≤ object.0 → first (queue (Up (host_id h) object) past) ≡ Some m → is_ended h object.0 past ≡ false
+unended_first header h object m past orderly temporary head = one (is_ended h object.0 past) refl
   where
     empty : (q : List Message) → q ≡ [] → first q ≡ Some m → ⊥
     empty q none at = absurd (let bad : first {A = Message} [] ≡ Some m = subst (λ (x : List Message). first x ≡ Some m) none at in cc)
 
     one : (b : Bool) → is_ended h object.0 past ≡ b → is_ended h object.0 past ≡ false
-    one true is = absurd (empty (queue (Up (host_id h) object) past) ((queued header h object.0 past orderly).over is).0 head)
+    one true is = absurd (empty (queue (Up (host_id h) object) past) ((queued header h object.0 past orderly temporary).over is).0 head)
     one false is = is
 
--- a message is on the way up from the host of its object's region
-at_home : (header : Header) (host : HostId) (object : ObjectId) (m : Message) (past : List Event) → IsOrderly header past → first (queue (Up host object) past) ≡ Some m → object_home object.0 past ≡ Some host.0
+-- a message is on the way up from the host of its object
+at_home : (header : Header) (host : HostId) (object : ObjectId) (m : Message) (past : List Event) → IsOrderly header past → first (queue (Up host object) past) ≡ Some m → home_for header object.0 past ≡ Some host.0
 at_home header host object m past orderly head = (orderly.home host.0 object.0).made (is_open host.0 object.0 m past (orderly.made host.0 object.0) head)
 
-pub home_first : (header : Header) (h : ℕ) (object : ObjectId) (m : Message) (past : List Event) → IsOrderly header past → first (queue (Up (host_id h) object) past) ≡ Some m → is_heard_elsewhere h object.0 past ≡ false
-home_first header h object m past orderly head = (orderly.home h object.0).own (inr (at_home header (host_id h) object m past orderly head))
+pub home_first : (header : Header) (h : ℕ) (object : ObjectId) (m : Message) (past : List Event) → IsOrderly header past → named header ≤ object.0 → first (queue (Up (host_id h) object) past) ≡ Some m → is_heard_elsewhere h object.0 past ≡ false
+home_first header h object m past orderly temporary head =
+    (orderly.home h object.0).own temporary (inr (sym (home_temporary header object.0 past temporary) ∙ at_home header (host_id h) object m past orderly head))
+
+-- its pager knows no control of another host
+pub known_first : (header : Header) (h : ℕ) (object : ObjectId) (m : Message) (past : List Event) → IsOrderly header past → first (queue (Up (host_id h) object) past) ≡ Some m → (other : ℕ) → other ≢ h → known_control other object.0 past ≡ None
+known_first header h object m past orderly head other apart = by (is_made (up other object.0) past) refl
+  where
+    by : (b : Bool) → is_made (up other object.0) past ≡ b → known_control other object.0 past ≡ None
+    by true is = absurd (apart (same_Some other h (sym ((orderly.home other object.0).made is) ∙ at_home header (host_id h) object m past orderly head)))
+    by false is = (orderly.made other object.0).unknown is
 
 pub elsewhere_first : (header : Header) (h : ℕ) (object : ObjectId) (m : Message) (past : List Event) → IsOrderly header past → first (queue (Up (host_id h) object) past) ≡ Some m → (g : ℕ) → g ≢ h
     → is_heard_elsewhere g object.0 (event.Taken (Up (host_id h) object) m ∷ past) ≡ true
@@ -96,14 +108,11 @@ pub orderly_none : (header : Header) → IsOrderly header []
 orderly_none header = record {
   letters = tt;
   washed = λ h. refl;
-  home = λ h o. record { made = λ gone. never gone; own = λ home. refl };
-  ending = λ h o. record { living = λ control at. tt; last = tt; over = λ gone. never gone };
-  made = λ h o. record { live = λ control at. nothing control at; never = λ zero. (refl, λ control. refl); ended = λ gone zero. never gone; quiet = λ none. refl };
-  unlocked = refl;
+  home = λ h o. record { made = λ gone. never gone; own = λ temporary home. refl };
+  ending = λ h o temporary. record { living = λ control at. tt; last = tt; over = λ gone. never gone };
+  made = λ h o. made_none h o;
+  known = λ h o control at. absurd (let bad : None ≡ Some control = at in cc);
 }
-  where
-    nothing : {A : Type 0} (control : ℕ) → None ≡ Some control → A
-    nothing control e = absurd (let bad : None ≡ Some control = e in cc)
 
 -- the event is no message
 abbrev pub IsSilent : Event → Type 0
@@ -111,22 +120,16 @@ IsSilent (event.Sent channel m) = ⊥
 IsSilent (event.Taken channel m) = ⊥
 IsSilent other = Unit {0}
 
-unlocked_silent : (e : Event) (past : List Event) → IsSilent e → lock_taken past ≡ None → lock_taken (e ∷ past) ≡ None
-unlocked_silent (event.Sent channel m) past silent old = absurd silent
-unlocked_silent (event.Taken channel m) past silent old = absurd silent
-unlocked_silent (event.Line line) past silent old = refl
-unlocked_silent e past silent old = old
-
 pub orderly_silent : (header : Header) (e : Event) (past : List Event) → IsSilent e → IsOrderly header past → IsOrderly header (e ∷ past)
 orderly_silent header (event.Sent channel m) past silent old = absurd silent
 orderly_silent header (event.Taken channel m) past silent old = absurd silent
 orderly_silent header e past silent old = record {
   letters = letters_stay header past (e ∷ past) (record { kept = λ c is. is }) (undelivered past) old.letters;
   washed = old.washed;
-  home = λ h o. home_kept h o e past (old.home h o) (old.home h o).made refl;
+  home = λ h o. home_kept header h o e past (old.home h o) (old.home h o).made refl;
   ending = old.ending;
-  made = λ h o. let was = old.made h o in record { live = was.live; never = was.never; ended = was.ended; quiet = was.quiet };
-  unlocked = unlocked_silent e past silent old.unlocked;
+  made = λ h o. let was = old.made h o in record { live = was.live; never = was.never; ended = was.ended; quiet = was.quiet; unmade = was.unmade; unknown = was.unknown; known = was.known };
+  known = old.known;
 }
 
 pub orderly_line : (header : Header) (line : ℕ) (past : List Event) → IsOrderly header past → IsOrderly header (event.Line line ∷ past)
@@ -137,26 +140,31 @@ letters_taken : (header : Header) (channel : Channel) (m : Message) (past : List
 letters_taken header channel m past old =
     letters_without header (event.Taken channel m ∷ past) channel (undelivered past) (letters_stay header past (event.Taken channel m ∷ past) (record { kept = λ c is. is }) (undelivered past) old.letters)
 
+-- who knows a control has the message's host, where a pager just took a message, or knew one before
+known_taken : (header : Header) (host : HostId) (object : ObjectId) (m : Message) (past : List Event) (h o control : ℕ) → IsOrderly header past → host.0 < length header.frames.items
+    → known_control h o (event.Taken (Up host object) m ∷ past) ≡ Some control → h < length header.frames.items
+known_taken header host object m past h o control old here is = by (host.0 == h && object.0 == o) refl is
+  where
+    by : (b : Bool) → (host.0 == h && object.0 == o) ≡ b → (if b then known_after m (known_control h o past) else known_control h o past) ≡ Some control → h < length header.frames.items
+    by true at is = at_place (λ a n. a < length header.frames.items) host.0 object.0 h o at here
+    by false at is = old.known h o control is
+
 pub orderly_taken : (header : Header) (channel : Channel) (m : Message) (past : List Event) → IsOrderly header past → first (queue channel past) ≡ Some m → IsOrderly header (event.Taken channel m ∷ past)
 orderly_taken header (Up host object) m past old head = record {
   letters = letters_taken header (Up host object) m past old;
   washed = λ h. washed_taken h (Up host object) m past head (old.washed h);
-  home = λ h o. home_taken host object m past h o (old.home h o) (at_home header host object m past old head);
-  ending = λ h o. lettered h o (event.Taken (Up host object) m ∷ past)
+  home = λ h o. home_taken header host object m past h o (old.home h o) (at_home header host object m past old head);
+  ending = λ h o temporary. lettered h o (event.Taken (Up host object) m ∷ past)
       (subst (λ (x : Bool). Ending (live_control h o past) x (if host.0 == h && object.0 == o then rest (queue (up h o) past) else queue (up h o) past)) (sym (ended_is h o host object m past))
-      (ends_taken (host.0 == h && object.0 == o) (is_ended h o past) (live_control h o past) (queue (up h o) past) m (queued header h o past old) (λ is. at_place (λ a n. first (queue (up a n) past) ≡ Some m) host.0 object.0 h o is head)));
-  made = λ h o. made_taken host object m past h o (old.made h o) head;
-  unlocked = refl;
+      (ends_taken (host.0 == h && object.0 == o) (is_ended h o past) (live_control h o past) (queue (up h o) past) m (queued header h o past old temporary) (λ is. at_place (λ a n. first (queue (up a n) past) ≡ Some m) host.0 object.0 h o is head)));
+  made = λ h o. made_taken host object m header.size past h o (old.made h o) head (letter_first header (Up host object) m past old head).1;
+  known = λ h o control at. known_taken header host object m past h o control old (letter_first header (Up host object) m past old head).0 at;
 }
 orderly_taken header (Down host object control) m past old head = record {
   letters = letters_taken header (Down host object control) m past old;
   washed = λ h. washed_taken h (Down host object control) m past head (old.washed h);
-  home = λ h o. home_kept h o (event.Taken (Down host object control) m) past (old.home h o) (old.home h o).made refl;
-  ending = λ h o. lettered h o (event.Taken (Down host object control) m ∷ past) (queued header h o past old);
-  made = λ h o. let was = old.made h o in record { live = was.live; never = was.never; ended = was.ended; quiet = was.quiet };
-  unlocked = unlocked m (letter_first header (Down host object control) m past old head).1;
+  home = λ h o. home_kept header h o (event.Taken (Down host object control) m) past (old.home h o) (old.home h o).made refl;
+  ending = λ h o temporary. lettered h o (event.Taken (Down host object control) m ∷ past) (queued header h o past old temporary);
+  made = λ h o. made_kept (event.Taken (Down host object control) m) past h o tt (old.made h o);
+  known = old.known;
 }
-  where
-    unlocked : (n : Message) → IsTempAnswer header.size n → lock_taken (event.Taken (Down host object control) n ∷ past) ≡ None
-    unlocked (message.Lock page count returns flush lock reply) is = absurd is
-    unlocked n is = refl

@@ -3,8 +3,11 @@ pub mod Agreeing
 pub mod Answering
 pub mod Apart
 pub mod Beginning
+pub mod Cleaning
 pub mod Empty
 pub mod Endings
+pub mod Filed
+pub mod Filing
 pub mod Following
 pub mod Growth
 pub mod Homes
@@ -22,6 +25,7 @@ pub mod Silent
 pub mod Starting
 pub mod Taken
 pub mod TakenDown
+pub mod TakenFiled
 pub mod TakenFrom
 pub mod TakenUp
 pub mod Unfilled

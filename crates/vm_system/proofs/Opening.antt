@@ -1,15 +1,15 @@
 -- A history stays legal with one message more taken.
-use Rattle.vm_system.proofs.Common.{AllLicensed, AreSame, BeforeSteps, Channel, ChannelId, Command, EachEvent, EachMoment, EachOf, Event, FollowsSoFar, FramesSuffice, HasCause, HasMore, Header, Holds, IsConsequence, IsGroup, IsPaid, IsPlain, KeepsOpen, LegalOpen, Letter, List, MayBeCut, MayCutOpen, MayTakeFrom, Message, None, Numbered, Outside, OwnBytes, Prompt, Some, State, Step, SystemStands, TakesStep, Took, [], answers, ap, append_assoc, channel_number, channel_of_first, cut_of, each_whole, false, inl, inr, is_some, licensed_both, messages_on, moments_whole, of_both, oldest_channel, queue, queue_is, refl, so_far, steps_whole, subst, sym, takings, takings_more, true, undelivered, ℕ, ◌++◌, ◌∙◌, ◌∷◌, ◌≡◌}
+use Rattle.vm_system.proofs.Common.{AllLicensed, AllPaged, AreSame, BeforeSteps, Channel, ChannelId, Command, EachEvent, EachMoment, EachOf, Event, FollowsSoFar, FramesSuffice, HasCause, HasMore, Header, Holds, IsConsequence, IsGroup, IsPaid, KeepsOpen, LegalOpen, Letter, List, MayBeCut, MayCutOpen, MayTakeFrom, Message, None, Numbered, Outside, OwnBytes, Prompt, Some, State, Step, SystemStands, TakesStep, Took, [], answers, ap, append_assoc, channel_number, channel_of_first, cut_of, each_whole, false, inl, inr, is_some, licensed_both, messages_on, moments_whole, of_both, oldest_channel, queue, queue_is, refl, so_far, steps_whole, subst, sym, takings, takings_more, true, undelivered, ℕ, ◌++◌, ◌∙◌, ◌∷◌, ◌≡◌}
 use Rattle.vm_model.specs.declared.command.Command.TheVariants as command
 use Rattle.vm_model.specs.declared.event.Event.TheVariants as event
 use Rattle.vm_ports.specs.Ports.{oldest as oldest_on}
 use Rattle.vm_ports.specs.declared.letter.Letter.{Letter as Posted}
-use Rattle.vm_system.proofs.Taken.{is_itself}
+use Rattle.vm_system.proofs.Numbers.{is_same}
 use Rattle.vm_system.proofs.Unfilled.{all_current}
 
 -- what holds in front of a taking
 pub record HoldsUpTo (header : Header) (outside : Outside) (past : List Event) : Type 0 where
-  pub plain : IsPlain header
+  pub paged : AllPaged header
   pub own_bytes : EachEvent (OwnBytes header) past
   pub frames : EachMoment (FramesSuffice header) past
   pub prompts : BeforeSteps (Prompt header) past
@@ -31,7 +31,7 @@ holds_taken given new step caused front =
     let own : EachEvent (OwnBytes header) new = rw is (each_whole (OwnBytes header) stretch past step.own_bytes front.own_bytes) in
     record {
       own_bytes = own;
-      flat_bytes = answers header outside new caused own (all_current header outside new front.plain caused);
+      flat_bytes = answers header outside new caused own (all_current header outside new front.paged caused);
       frames = rw is (moments_whole (FramesSuffice header) stretch past step.frames front.frames);
       prompt = rw step.is (steps_whole (Prompt header) step.more (event.Taken step.channel step.m ∷ past) step.inner (front.prompt, front.prompts));
       paid = rw step.is (steps_whole (IsPaid header) step.more (event.Taken step.channel step.m ∷ past) step.inner (front.paid, front.payments));
@@ -59,7 +59,7 @@ settled_more header outside count line run old new stretch is follows licensed (
 -- what holds of an open history that has a kernel
 pub up_to_open : (header : Header) (outside : Outside) (run : List Numbered) (s : State) → SystemStands header outside s → LegalOpen header outside run s.history.items → HoldsUpTo header outside s.history.items
 up_to_open header outside run s stands legal = record {
-  plain = stands.rests.plain;
+  paged = stands.built.paged;
   own_bytes = legal.holds.own_bytes;
   frames = legal.holds.frames;
   prompts = legal.holds.prompt;
@@ -117,7 +117,7 @@ foremost made (p ∷ posted) (letter ∷ letters) number same is =
     record { letter = letter; more = letters; is = refl; at = same.0 ∙ ap (λ (z : ChannelId). Some z.0) one }
 
 first_on : (letter : Letter) (letters : List Letter) → messages_on letter.channel (letter ∷ letters) ≡ letter.message ∷ messages_on letter.channel letters
-first_on letter letters = rw (is_itself letter.channel) refl
+first_on letter letters = rw (is_same letter.channel) refl
 
 pub may_settle : (given : Step) (number : ChannelId) (s : State) → SystemStands given.header given.outside s → given.past ≡ s.history.items → HasMore given.command s.history.items → oldest_on s.ports.letters ≡ Some number
     → (channel : Channel) × MayTakeFrom given None number channel s

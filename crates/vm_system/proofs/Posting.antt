@@ -19,11 +19,11 @@ posts_line (Some line) s past posts = record { channels = posts.channels; count 
 pub posts_sent : (channel : Channel) (m : Message) (s t : State) (past : List Event) → CanSend channel m past → Posts s past → Delivered channel m s t → Posts t (event.Sent channel m ∷ past)
 posts_sent channel m s t past can posts sent = record {
   channels = λ c. ap (λ (all : List Channel). is_some (channel_number c all)) sent.made ∙ numbers_made c channel m past s.channels.made can (posts.channels c);
-  count = let more = length-append s.channels.made (made_by channel m) in ap length sent.made ∙ omega (arith, more, posts.count, sent.count);
+  count = let more = length-append s.channels.made (made_by s.channels.made channel m) in ap length sent.made ∙ omega (arith, more, posts.count, sent.count);
   letters =
-      let same = same_more s.channels.made (made_by channel m) s.ports.letters (undelivered past) posts.letters in
-      let is : channel_number channel (s.channels.made ++ made_by channel m) ≡ Some sent.number.0 = rw sent.made at sent.is in
-      rw (sent.made, sent.letters) (same_sent (s.channels.made ++ made_by channel m) s.ports.letters (undelivered past) channel sent.number m same is);
+      let same = same_more s.channels.made (made_by s.channels.made channel m) s.ports.letters (undelivered past) posts.letters in
+      let is : channel_number channel (s.channels.made ++ made_by s.channels.made channel m) ≡ Some sent.number.0 = rw sent.made at sent.is in
+      rw (sent.made, sent.letters) (same_sent (s.channels.made ++ made_by s.channels.made channel m) s.ports.letters (undelivered past) channel sent.number m same is);
   buffers = sent.size ∙ posts.buffers ∙ sym sent.hosts.size;
 }
 

@@ -1,5 +1,5 @@
 -- A settle goes on being legal with each message that it takes.
-use Rattle.vm_system.proofs.Common.{Bool, Command, CountRises, DevicesCounted, DevicesHaveCause, EndsCut, Err, Event, GrowsWithinLimit, Header, IsErrOf, KeepsOpen, LegalCut, LegalOpen, Letter, List, MayCutOpen, Numbered, Ok, Outside, StaysOpen, SystemStop, [], ap, arith, cut_of, devices, false, inl, inr, length, most_events, refl, subst, sym, undelivered, ℕ, ◌+◌, ◌<◌, ◌∙◌, ◌∷◌, ◌≡◌, ◌≢◌, ◌≤◌, ◌⊎◌}
+use Rattle.vm_system.proofs.Common.{Bool, Command, CountRises, Device, DevicesCounted, DevicesHaveCause, EndsCut, Err, Event, GrowsWithinLimit, Header, IsErrOf, KeepsOpen, LegalCut, LegalOpen, Letter, List, MayCutOpen, Numbered, Ok, Outside, StaysOpen, SystemStop, [], ap, arith, cut_of, devices, false, inl, inr, length, most_events, refl, subst, sym, undelivered, ℕ, ◌+◌, ◌<◌, ◌∙◌, ◌∷◌, ◌≡◌, ◌≢◌, ◌≤◌, ◌⊎◌}
 use Rattle.std.proofs.Common.{Result}
 use Rattle.vm_system.specs.declared.stop.SystemStop.TheVariants as stops
 use Rattle.vm_system.proofs.Growth.{devices_grow, grew_more}
@@ -44,11 +44,12 @@ counted before was now a b c first then few cause one = grind arith
 spared_more : (before was now a b c : ℕ) → a ≤ b → b ≤ c → (b ≡ a → was ≡ before) → (c ≡ b → now ≡ was) → c ≡ a → now ≡ before
 spared_more before was now a b c first then one two same = let same_b : b ≡ a = omega arith in let same_c : c ≡ b = omega arith in two same_c ∙ one same_b
 
-pub counted_more : (before was now : ℕ) (first old new : List Event) → GrowsWithinLimit first old → GrowsWithinLimit old new → DevicesCounted before was first old → DevicesHaveCause was now old new → DevicesCounted before now first new
-counted_more before was now first old new grew more one two = record {
+pub counted_more : (who : Device) (before was now : ℕ) (first old new : List Event) → GrowsWithinLimit first old → GrowsWithinLimit old new → DevicesCounted who before was first old → DevicesHaveCause who was now old new
+    → DevicesCounted who before now first new
+counted_more who before was now first old new grew more one two = record {
   later = omega (arith, one.later, two.later);
-  few = counted before was now (devices first) (devices old) (devices new) one.later two.later one.few two.cause two.few;
-  spared = spared_more before was now (devices first) (devices old) (devices new) (devices_grow first old grew) (devices_grow old new more) one.spared two.spared;
+  few = counted before was now (devices who first) (devices who old) (devices who new) one.later two.later one.few two.cause two.few;
+  spared = spared_more before was now (devices who first) (devices who old) (devices who new) (devices_grow who first old grew) (devices_grow who old new more) one.spared two.spared;
 }
 
 -- an error is the same, whatever else might have been answered

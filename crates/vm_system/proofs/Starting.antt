@@ -1,15 +1,22 @@
 -- A new system stands for the empty history.
-use Rattle.vm_system.proofs.Common.{AllQueued, AllRest, AllServe, AllTold, AreEmpty, AreNumbered, Content, Header, List, None, Outside, PagerStands, PagingIsKept, Posts, SlotTable, SlotsFit, Some, State, SystemStands, Told, [], ap, content_of, empty, inl, inr, length, length-append, refl, same_Some, slice_get, start, subst, suc, sym, true, zero, ℕ, ◌++◌, ◌+◌, ◌∙◌, ◌∷◌, ◌≡◌, ◌⊎◌}
+use Rattle.vm_system.proofs.Common.{AllFilesServe, AllQueued, AllRest, AllServe, AllTold, AreEmpty, AreNumbered, Content, FileTable, FilesAreKept, FilesAreTold, FilesCarry, Header, IsOfFiles, List, None, Outside, PagerStands, PagingIsKept, Posts, SlotTable, SlotsFit, Some, State, SystemStands, Told, [], ap, arith, content_of, declared_pages, empty, inl, inr, length, length-append, name_of, named, none-some, refl, reverse, same_Some, slice_get, start, subst, suc, sym, true, zero, ℕ, ◌++◌, ◌+◌, ◌<◌, ◌∙◌, ◌∷◌, ◌≡◌, ◌⊎◌}
+use Rattle.pg_file.proofs.Carrying.{empty as file_empty}
+use Rattle.pg_file.proofs.Standing.{start as file_start}
+use Rattle.pg_file.specs.Stands.{PagerStands as FileStands, new_table}
 use Rattle.pg_slots.specs.Contents.{Kept as Stored}
+use Rattle.vm_model.specs.declared.script.Declared.{Declared}
 use Rattle.vm_system.proofs.Letters.{orderly_none}
 
 -- a system to which nothing has happened
 pub record IsNew (header : Header) (s : State) : Type 0 where
+  pub built : IsOfFiles header
   pub size : s.size ≡ header.size
   pub rests : AllRest header s.hosts []
   pub queues : AllQueued header s.hosts []
   pub numbered : AreNumbered header s.pagers.items
   pub empty : AreEmpty header s.pagers.items
+  pub files : AllFilesServe header s.files.items []
+  pub pages : (object : ℕ) → object < named header → slice_get s.pages.items object ≡ Some (declared_pages header object)
   pub channels : s.ports.channels ≡ 0
   pub letters : s.ports.letters ≡ []
   pub made : s.channels.made ≡ []
@@ -29,11 +36,14 @@ new_serve header s new = record { numbered = new.numbered; stand = λ h pager at
 
 pub new_stands : (header : Header) (outside : Outside) (s : State) → IsNew header s → SystemStands header outside s
 new_stands header outside s new = record {
+  built = new.built;
   rests = rw new.history new.rests;
   queues = rw new.history new.queues;
   agrees = record {
     size = new.size;
+    pages = new.pages;
     pagers = rw new.history (new_serve header s new);
+    files = rw new.history new.files;
     posts = new_posts header s new;
     orderly = rw new.history (orderly_none header);
   };
@@ -55,6 +65,92 @@ new_kept header outside areas s new told =
       fits = λ on h pager at. rw new.history (subst (λ (z : Content). SlotsFit areas pager z) (sym (nothing h)) (empty_fits header h pager areas (new.empty h pager at)));
     }
 
+-- the files hold what they held
+pub carry_none : (header : Header) (areas : List ℕ → Told) → FilesCarry header areas areas []
+carry_none header areas = record {
+  kept = λ object was file at. (was, at, λ host may. file_empty header.size host object was);
+  others = λ name was apart at. at;
+}
+
+pub new_files_kept : (header : Header) (outside : Outside) (areas : List ℕ → Told) (s : State) → IsNew header s → FilesAreTold header outside areas → FilesAreKept header outside areas s
+new_files_kept header outside areas s new told = record {
+  files = rw new.history new.files;
+  start = areas;
+  told = told;
+  kept = rw new.history (carry_none header areas);
+}
+
+-- one more, at the end of a list
+last_cases : {A : Type 0} (xs : List A) (last x : A) (n : ℕ) → slice_get (xs ++ last ∷ []) n ≡ Some x → (slice_get xs n ≡ Some x) ⊎ ((length xs ≡ n) × (last ≡ x))
+last_cases [] last x zero is = inr (refl, same_Some last x is)
+last_cases [] last x (suc n) is = absurd (none-some x is)
+last_cases (y ∷ xs) last x zero is = inl is
+last_cases (y ∷ xs) last x (suc n) is = elim (last_cases xs last x n is) [ inl was ↦ inl was | inr end ↦ inr (ap (λ (k : ℕ). suc k) end.0, end.1) ]
+
+-- one of them is still there
+last_before : {A : Type 0} (xs : List A) (last x : A) (n : ℕ) → slice_get xs n ≡ Some x → slice_get (xs ++ last ∷ []) n ≡ Some x
+last_before [] last x n is = absurd (none-some x is)
+last_before (y ∷ xs) last x zero is = is
+last_before (y ∷ xs) last x (suc n) is = last_before xs last x n is
+
+last_there : {A : Type 0} (xs : List A) (last : A) → slice_get (xs ++ last ∷ []) (length xs) ≡ Some last
+last_there [] last = refl
+last_there (x ∷ xs) last = last_there xs last
+
+-- the pagers of the first objects were made, and nothing came to them
+pub record FilesAreMade (header : Header) (n : ℕ) (files : List FileTable) : Type 0 where
+  pub count : length files ≡ n
+  pub new : (object : ℕ) (pager : FileTable) → slice_get files object ≡ Some pager → pager ≡ new_table header object
+
+pub no_files : (header : Header) → FilesAreMade header 0 []
+no_files header = record { count = refl; new = λ object pager at. absurd (none-some pager at) }
+
+pub files_more : (header : Header) (n : ℕ) (files : List FileTable) (last : FileTable) → FilesAreMade header n files → last ≡ new_table header n → FilesAreMade header (n + 1) (files ++ last ∷ [])
+files_more header n files last was is = record {
+  count = length-append files (last ∷ []) ∙ ap (λ (z : ℕ). z + 1) was.count;
+  new = λ object pager at. elim (last_cases files last pager object at) [
+    | inl old ↦ was.new object pager old
+    | inr end ↦ subst (λ (z : ℕ). pager ≡ new_table header z) (sym was.count ∙ end.0) (sym end.1 ∙ is)
+  ];
+}
+
+pub files_serve : (header : Header) (files : List FileTable) → FilesAreMade header (named header) files → AllFilesServe header files []
+files_serve header files made = record {
+  count = made.count;
+  stand = λ object pager file at. subst (λ (z : FileTable). FileStands header object z []) (sym (made.new object pager at)) (file_start header object file);
+}
+
+-- the pages of the first objects are known
+pub record PagesAreMade (header : Header) (n : ℕ) (pages : List ℕ) : Type 0 where
+  pub count : length pages ≡ n
+  pub at : (object : ℕ) → object < n → slice_get pages object ≡ Some (declared_pages header object)
+
+pub no_pages : (header : Header) → PagesAreMade header 0 []
+no_pages header = record { count = refl; at = λ object below. absurd (omega (arith, below)) }
+
+pub pages_more : (header : Header) (n : ℕ) (pages : List ℕ) (last : ℕ) → PagesAreMade header n pages → last ≡ declared_pages header n → PagesAreMade header (n + 1) (pages ++ last ∷ [])
+pages_more header n pages last was is = record {
+  count = length-append pages (last ∷ []) ∙ ap (λ (z : ℕ). z + 1) was.count;
+  at = λ object below. by object (grind (arith, below));
+}
+  where
+    by : (object : ℕ) → (object < n) ⊎ (n ≡ object) → slice_get (pages ++ last ∷ []) object ≡ Some (declared_pages header object)
+    by object (inl less) = last_before pages last (declared_pages header object) object (was.at object less)
+    by object (inr end) =
+        subst (λ (z : ℕ). slice_get (pages ++ last ∷ []) z ≡ Some (declared_pages header z)) end
+        (subst (λ (z : ℕ). slice_get (pages ++ last ∷ []) z ≡ Some (declared_pages header n)) was.count (last_there pages last ∙ ap (λ (z : ℕ). Some z) is))
+
+-- the object with a number, and its pages
+pub pages_of : (header : Header) (n : ℕ) (object : Declared) → slice_get (reverse header.objects.items) n ≡ Some object → object.pages ≡ declared_pages header n
+pages_of header n object at = rw at refl
+
+name_is : (header : Header) (n : ℕ) (object : Declared) → slice_get (reverse header.objects.items) n ≡ Some object → object.name ≡ name_of header n
+name_is header n object at = rw at refl
+
+pub table_is : (header : Header) (n : ℕ) (object : Declared) (pager : FileTable) → slice_get (reverse header.objects.items) n ≡ Some object
+    → pager ≡ record { object = n; name = object.name; size = header.size; known = None; lost = [] } → pager ≡ new_table header n
+table_is header n object pager at is = subst (λ (z : List ℕ). pager ≡ record { object = n; name = z; size = header.size; known = None; lost = [] }) (name_is header n object at) is
+
 -- so many pagers were made, to which nothing was returned
 pub record AreMade (header : Header) (n : ℕ) (pagers : List SlotTable) : Type 0 where
   pub count : length pagers ≡ n
@@ -63,17 +159,10 @@ pub record AreMade (header : Header) (n : ℕ) (pagers : List SlotTable) : Type 
 pub none_made : (header : Header) → AreMade header 0 []
 none_made header = record { count = refl; empty = λ h pager at. absurd (let bad : None ≡ Some pager = at in cc) }
 
--- one more, at the end
-more_cases : (pagers : List SlotTable) (last pager : SlotTable) (h : ℕ) → slice_get (pagers ++ last ∷ []) h ≡ Some pager → (slice_get pagers h ≡ Some pager) ⊎ ((length pagers ≡ h) × (last ≡ pager))
-more_cases [] last pager zero is = inr (refl, same_Some last pager is)
-more_cases [] last pager (suc h) is = absurd (let bad : None ≡ Some pager = is in cc)
-more_cases (x ∷ pagers) last pager zero is = inl is
-more_cases (x ∷ pagers) last pager (suc h) is = elim (more_cases pagers last pager h is) [ inl was ↦ inl was | inr end ↦ inr (ap (λ (n : ℕ). suc n) end.0, end.1) ]
-
 pub made_more : (header : Header) (n : ℕ) (pagers : List SlotTable) (last : SlotTable) → AreMade header n pagers → last ≡ record { host = n; size = header.size; count = header.slots; rows = [] } → AreMade header (n + 1) (pagers ++ last ∷ [])
 made_more header n pagers last was is = record {
   count = length-append pagers (last ∷ []) ∙ ap (λ (z : ℕ). z + 1) was.count;
-  empty = λ h pager at. elim (more_cases pagers last pager h at) [
+  empty = λ h pager at. elim (last_cases pagers last pager h at) [
     | inl old ↦ was.empty h pager old
     | inr end ↦ subst (λ (z : ℕ). pager ≡ record { host = z; size = header.size; count = header.slots; rows = [] }) (sym was.count ∙ end.0) (sym end.1 ∙ is)
   ];

@@ -1,11 +1,11 @@
 -- A message is taken: what stands in front of that, and its cause.
-use Rattle.vm_system.proofs.Common.{AllInner, AllLicensed, AllQueued, AllRest, AllServe, AreSame, Bool, Channel, ChannelId, Command, Down, EachIn, EachOf, Event, FramesSuffice, Gives, Header, HostTable, IfSome, IsConsequence, IsOrderly, Letter, Licensed, List, MatchOption, MayTake, MayTakeFrom, Message, MomentsIn, None, Option, Outside, OwnBytes, ReturnsOn, SlotTable, Some, State, Step, TakesStep, Up, [], all_lined, all_suffice, ap, arith, change_where, channel_number, content_of, created, devices, each_both, false, first, frames_after, frames_held, frames_used, if◌then◌else◌, is_channel, is_control, length, licensed_both, lined, live_control, local, messages_on, moments_both, nat_tests, queue, queue_is, queued_lined, refl, reverse, same_channel, slice_get, subst, suc, sym, taken_down_change, taken_up_change, true, undelivered, zero, ℕ, ◌++◌, ◌<◌, ◌∙◌, ◌∷◌, ◌≡◌, ◌≤◌}
+use Rattle.vm_system.proofs.Common.{AllFilesServe, AllInner, AllLicensed, AllQueued, AllRest, AllServe, AreSame, Bool, Channel, ChannelId, Command, Device, Down, EachIn, EachOf, Event, FileTable, FilesCarry, FramesSuffice, Gives, Header, HostTable, IfSome, IsConsequence, IsOfFiles, IsOrderly, Letter, Licensed, List, MatchOption, MayTake, MayTakeFrom, Message, MomentsIn, None, Option, Outside, OwnBytes, ReturnsOn, SlotTable, Some, State, Step, TakesStep, Told, Up, [], all_lined, all_suffice, ap, arith, change_where, channel_number, content_of, created, devices, each_both, false, first, frames_after, frames_held, frames_used, if◌then◌else◌, is_channel, is_control, length, licensed_both, lined, live_control, local, messages_on, moments_both, nat_tests, queue, queue_is, queued_lined, refl, reverse, same_channel, slice_get, subst, suc, sym, taken_down_change, taken_up_change, true, undelivered, zero, ℕ, ◌++◌, ◌<◌, ◌∙◌, ◌∷◌, ◌≡◌, ◌≤◌}
 use Rattle.std.proofs.Common.{◌==◌, ◌&&◌}
 use Rattle.vm_model.specs.declared.event.Event.TheVariants as event
 use Rattle.vm_model.specs.declared.message.Message.TheVariants as message
 use Rattle.vm_ports.specs.Ports.{queue as queue_on}
 use Rattle.vm_ports.specs.declared.letter.Letter.{Letter as Posted}
-use Rattle.vm_system.proofs.Agreeing.{serve_other}
+use Rattle.vm_system.proofs.Agreeing.{carry_other, files_other, serve_other}
 use Rattle.vm_system.proofs.Silent.{all_returned}
 use Rattle.vm_system.proofs.Letters.{orderly_line}
 use Rattle.vm_system.proofs.Numbers.{number_read}
@@ -60,9 +60,9 @@ pub queue_lined : (c : Channel) (line : Option ℕ) (past : List Event) → queu
 queue_lined c None past = refl
 queue_lined c (Some line) past = refl
 
-pub devices_lined : (line : Option ℕ) (past : List Event) → devices (lined line past) ≡ devices past
-devices_lined None past = refl
-devices_lined (Some line) past = refl
+pub devices_lined : (who : Device) (line : Option ℕ) (past : List Event) → devices who (lined line past) ≡ devices who past
+devices_lined who None past = refl
+devices_lined who (Some line) past = refl
 
 pub content_lined : (header : Header) (h : ℕ) (line : Option ℕ) (past : List Event) → content_of header h (lined line past) ≡ content_of header h past
 content_lined header h None past = refl
@@ -84,6 +84,14 @@ orderly_lined header (Some line) past orderly = orderly_line header line past or
 serve_lined : (header : Header) (pagers : List SlotTable) (line : Option ℕ) (past : List Event) → AllServe header pagers past → AllServe header pagers (lined line past)
 serve_lined header pagers None past serve = serve
 serve_lined header pagers (Some line) past serve = serve_other header pagers (event.Line line) past (λ h. tt) serve
+
+files_lined : (header : Header) (files : List FileTable) (line : Option ℕ) (past : List Event) → AllFilesServe header files past → AllFilesServe header files (lined line past)
+files_lined header files None past serve = serve
+files_lined header files (Some line) past serve = files_other header files (event.Line line) past (λ object. tt) serve
+
+carry_lined : (header : Header) (start areas : List ℕ → Told) (line : Option ℕ) (past : List Event) → FilesCarry header start areas past → FilesCarry header start areas (lined line past)
+carry_lined header start areas None past carry = carry
+carry_lined header start areas (Some line) past carry = carry_other header start areas (event.Line line) past (λ object. tt) carry
 
 -- the frames
 
@@ -147,9 +155,11 @@ takes_step given channel m more new is head may settled suffice follows licensed
 
 -- what stands in front of a taking
 pub record Front (given : Step) (s : State) : Type 0 where
+  pub built : IsOfFiles given.header
   pub rests : AllRest given.header s.hosts given.past
   pub queues : AllQueued given.header s.hosts given.past
   pub pagers : AllServe given.header s.pagers.items given.past
+  pub files : AllFilesServe given.header s.files.items given.past
   pub orderly : IsOrderly given.header given.past
 
 pub front_of : (given : Step) (line : Option ℕ) (number : ChannelId) (channel : Channel) (s : State) → MayTakeFrom given line number channel s → Front given s
@@ -158,9 +168,11 @@ front_of given line number channel s may =
     let agrees = stands.agrees in
     let items = s.history.items in
     record {
+      built = stands.built;
       rests = rw may.past (rests_lined given.header given.outside given.command s.hosts line items stands.rests);
       queues = rw may.past (queues_lined given.header given.outside given.command s.hosts line items stands.rests stands.queues);
       pagers = rw may.past (serve_lined given.header s.pagers.items line items agrees.pagers);
+      files = rw may.past (files_lined given.header s.files.items line items agrees.files);
       orderly = rw may.past (orderly_lined given.header line items agrees.orderly);
     }
 
@@ -173,6 +185,11 @@ front_suffice given s front = all_suffice given.header s.hosts given.past front.
 -- the contents are those of the history
 pub front_content : (given : Step) (line : Option ℕ) (number : ChannelId) (channel : Channel) (s : State) → MayTakeFrom given line number channel s → (h : ℕ) → content_of given.header h given.past ≡ content_of given.header h s.history.items
 front_content given line number channel s may h = ap (λ (z : List Event). content_of given.header h z) may.past ∙ content_lined given.header h line s.history.items
+
+-- and so is what the files have
+pub front_carry : (given : Step) (line : Option ℕ) (number : ChannelId) (channel : Channel) (s : State) → MayTakeFrom given line number channel s → (start areas : List ℕ → Told) → FilesCarry given.header start areas s.history.items
+    → FilesCarry given.header start areas given.past
+front_carry given line number channel s may start areas carry = rw may.past (carry_lined given.header start areas line s.history.items carry)
 
 -- the channel's queue is that of its number
 may_queue : (given : Step) (line : Option ℕ) (number : ChannelId) (channel : Channel) (s : State) → MayTakeFrom given line number channel s → queue_on number.0 s.ports.letters ≡ queue channel s.history.items

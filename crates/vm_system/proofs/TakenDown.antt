@@ -1,15 +1,16 @@
 -- An answer of a pager is taken by its host.
-use Rattle.vm_system.proofs.Common.{AllInner, AllServe, Bool, CanTellAll, Channel, ChannelId, Down, EndsAll, Event, Header, HostId, HostTable, HostsPart, IsErrorPaid, IsPaid, IsPlain, IsTempAnswer, Letter, Licensed, List, MayTakeFrom, Message, None, ObjectId, Option, PagingIsKept, Posts, Some, State, Step, Told, Took, Up, ap, arith, created, devices, false, first, length, lock_more, lock_taken, named, no_request, queue, sym, taken_letter, taken_more, true, up, ℕ, ◌++◌, ◌<◌, ◌∙◌, ◌∷◌, ◌≡◌}
+use Rattle.vm_system.proofs.Common.{AllFilesServe, AllInner, AllServe, Bool, CanTellAll, Channel, ChannelId, Device, Down, EndsAll, Event, Header, HostId, HostTable, HostsPart, IsAbsencePaid, IsErrorPaid, IsLockPaid, IsPaid, IsPlainWord, Letter, Licensed, List, MayTakeFrom, Message, None, ObjectId, Option, Posts, Some, Spares, State, Step, Took, Up, ap, created, devices, false, first, length, queue, sym, taken_letter, taken_more, true, up, ℕ, ◌++◌, ◌<◌, ◌∙◌, ◌∷◌, ◌≡◌}
+use Rattle.vm_model.specs.declared.event.Device.TheVariants.{Files, Paging}
 use Rattle.vm_model.specs.declared.event.Event.TheVariants as event
-use Rattle.vm_system.proofs.Agreeing.{devices_said, serve_other}
+use Rattle.vm_system.proofs.Agreeing.{carry_other, carry_spared, devices_said, files_other, files_spared, serve_other, spared_said}
 use Rattle.vm_system.proofs.Silent.{all_returned}
 use Rattle.vm_system.proofs.Letters.{letter_first, orderly_taken}
 use Rattle.vm_system.proofs.Sayings.{can_say, orderly_said}
-use Rattle.vm_system.proofs.Following.{agrees_said, kept_behind}
-use Rattle.vm_system.proofs.Taken.{Front, devices_lined, front_content, front_of, front_settled, front_suffice, taken_licensed, takes_step}
+use Rattle.vm_system.proofs.Following.{agrees_said, filed_spares, kept_behind}
+use Rattle.vm_system.proofs.Taken.{Front, devices_lined, front_carry, front_content, front_of, front_settled, front_suffice, taken_licensed, takes_step}
 
 pub down_letter : (given : Step) (line : Option ℕ) (number : ChannelId) (host : HostId) (object : ObjectId) (control : ℕ) (m : Message) (s : State) → MayTakeFrom given line number (Down host object control) s
-    → first (queue (Down host object control) given.past) ≡ Some m → (host.0 < length given.header.frames.items) × IsTempAnswer given.header.size m
+    → first (queue (Down host object control) given.past) ≡ Some m → (host.0 < length given.header.frames.items) × IsPlainWord given.header.size m
 down_letter given line number host object control m s may head =
     let front = front_of given line number (Down host object control) s may in
     letter_first given.header (Down host object control) m given.past front.orderly head
@@ -24,7 +25,7 @@ pub can_down : (given : Step) (host : HostId) (object : ObjectId) (control : ℕ
     → HostsPart given.header given.outside given.command (event.Taken (Down host object control) m ∷ given.past) hosts events → CanTellAll given.header.size events (event.Taken (Down host object control) m ∷ given.past)
 can_down given host object control m s hosts events front head passed =
     let stretch = passed.follows.stretch in
-    can_say given.header given.outside given.command (event.Taken (Down host object control) m ∷ given.past) events front.rests.plain
+    can_say given.header given.outside given.command (event.Taken (Down host object control) m ∷ given.past) events front.built.paged
     (orderly_taken given.header (Down host object control) m given.past front.orderly head) stretch.licensed stretch.said stretch.inner
 
 -- what a step took was no message to a pager
@@ -45,23 +46,18 @@ not_up at object control m events past o host n inner is =
     channels : true ≡ false → ⊥
     channels bad = absurd (cc)
 
-undeclared : (header : Header) (o : ℕ) → IsPlain header → o < named header → ⊥
-undeclared header o plain low =
-    let none : named header ≡ 0 = ap length plain.objects in
-    omega (arith, low, none)
-
--- the step owes no more than its error
-down_paid : (header : Header) (at : HostId) (object : ObjectId) (control : ℕ) (m : Message) (events past : List Event) → IsPlain header → AllInner events → created (events ++ event.Taken (Down at object control) m ∷ past) ≡ None
-    → lock_taken (event.Taken (Down at object control) m ∷ past) ≡ None → IsErrorPaid header (events ++ event.Taken (Down at object control) m ∷ past) → EndsAll header (events ++ event.Taken (Down at object control) m ∷ past)
-    → IsPaid header (events ++ event.Taken (Down at object control) m ∷ past)
-down_paid header at object control m events past plain inner returned unlocked failed ended = record {
+-- the step owes what the hosts have done
+down_paid : (header : Header) (at : HostId) (object : ObjectId) (control : ℕ) (m : Message) (events past : List Event) → AllInner events → created (events ++ event.Taken (Down at object control) m ∷ past) ≡ None
+    → IsErrorPaid header (events ++ event.Taken (Down at object control) m ∷ past) → IsAbsencePaid header (events ++ event.Taken (Down at object control) m ∷ past) → IsLockPaid header (events ++ event.Taken (Down at object control) m ∷ past)
+    → EndsAll header (events ++ event.Taken (Down at object control) m ∷ past) → IsPaid header (events ++ event.Taken (Down at object control) m ∷ past)
+down_paid header at object control m events past inner returned failed zeroed locked ended = record {
   returned = returned;
   init = λ host o k size paged is. absurd (not_up at object control m events past o host _ inner is);
   create = λ host o k size paged is. absurd (not_up at object control m events past o host _ inner is);
   request = λ host o k page access paged is. absurd (not_up at object control m events past o host _ inner is);
   error = λ host o page is. (failed host o page is, ended host o page is);
-  absence = λ host o page declared is. absurd (undeclared header o plain declared);
-  lock = λ request is. no_request request (events ++ event.Taken (Down at object control) m ∷ past) (lock_more events (event.Taken (Down at object control) m ∷ past) inner ∙ unlocked) is;
+  absence = zeroed;
+  lock = locked;
   slot = λ host o k page dirty keep bytes temporary is lacks. absurd (not_up at object control m events past o host _ inner is);
 }
 
@@ -69,11 +65,15 @@ down_paid header at object control m events past plain inner returned unlocked f
 front_serves : (given : Step) (host : HostId) (object : ObjectId) (control : ℕ) (m : Message) (s : State) → Front given s → AllServe given.header s.pagers.items (event.Taken (Down host object control) m ∷ given.past)
 front_serves given host object control m s front = serve_other given.header s.pagers.items (event.Taken (Down host object control) m) given.past (λ h. tt) front.pagers
 
+front_filed : (given : Step) (host : HostId) (object : ObjectId) (control : ℕ) (m : Message) (s : State) → Front given s → AllFilesServe given.header s.files.items (event.Taken (Down host object control) m ∷ given.past)
+front_filed given host object control m s front = files_other given.header s.files.items (event.Taken (Down host object control) m) given.past (λ o. tt) front.files
+
 pub took_down : (given : Step) (line : Option ℕ) (number : ChannelId) (host : HostId) (object : ObjectId) (control : ℕ) (m : Message) (s new : State) (events : List Event) → MayTakeFrom given line number (Down host object control) s
     → first (queue (Down host object control) given.past) ≡ Some m → HostsPart given.header given.outside given.command (event.Taken (Down host object control) m ∷ given.past) new.hosts events
-    → IsErrorPaid given.header (events ++ event.Taken (Down host object control) m ∷ given.past) → EndsAll given.header (events ++ event.Taken (Down host object control) m ∷ given.past) → new.size ≡ s.size
-    → new.pagers.items ≡ s.pagers.items → new.history.items ≡ events ++ event.Taken (Down host object control) m ∷ given.past → Posts new new.history.items → Took given new
-took_down given line number host object control m s new events may head passed failed ended size pagers items posts =
+    → IsErrorPaid given.header (events ++ event.Taken (Down host object control) m ∷ given.past) → IsAbsencePaid given.header (events ++ event.Taken (Down host object control) m ∷ given.past)
+    → IsLockPaid given.header (events ++ event.Taken (Down host object control) m ∷ given.past) → EndsAll given.header (events ++ event.Taken (Down host object control) m ∷ given.past) → new.size ≡ s.size
+    → new.pagers.items ≡ s.pagers.items → new.files.items ≡ s.files.items → new.pages.items ≡ s.pages.items → new.history.items ≡ events ++ event.Taken (Down host object control) m ∷ given.past → Posts new new.history.items → Took given new
+took_down given line number host object control m s new events may head passed failed zeroed locked ended size pagers files pages items posts =
     let header = given.header in
     let outside = given.outside in
     let doing = given.command in
@@ -81,32 +81,40 @@ took_down given line number host object control m s new events may head passed f
     let front = front_of given line number channel s may in
     let past = event.Taken channel m ∷ given.past in
     let stretch = passed.follows.stretch in
-    let plain = front.rests.plain in
     let orderly = orderly_taken header channel m given.past front.orderly head in
     let serve : AllServe header new.pagers.items past = rw pagers (front_serves given host object control m s front) in
+    let filed : AllFilesServe header new.files.items past = rw files (front_filed given host object control m s front) in
     record {
       stands = record {
+        built = front.built;
         rests = rw items passed.ended.rests;
         queues = rw items passed.ended.queues;
-        agrees = agrees_said header outside doing past events new (orderly_said header outside doing past events plain orderly stretch.licensed stretch.said stretch.inner) serve stretch (size ∙ may.stands.agrees.size) items posts;
+        agrees = agrees_said header outside doing past events new (orderly_said header outside doing past events front.built.paged orderly stretch.licensed stretch.said stretch.inner) serve filed (rw pages may.stands.agrees.pages) stretch
+            (size ∙ may.stands.agrees.size) items posts;
       };
       step = takes_step given channel m events new.history.items items head may.may (front_settled given s front) (front_suffice given s front) passed.follows.follows stretch.licensed stretch.own_bytes stretch.frames stretch.inner;
       prompt = rw items passed.ended.prompt;
-      paid = rw items (down_paid header host object control m events given.past plain stretch.inner (all_returned header new.hosts (events ++ past) passed.ended.rests) orderly.unlocked failed ended);
+      paid = rw items (down_paid header host object control m events given.past stretch.inner (all_returned header new.hosts (events ++ past) passed.ended.rests) failed zeroed locked ended);
     }
 
 -- pagers and contents have no part in that
-pub kept_down : (given : Step) (line : Option ℕ) (number : ChannelId) (host : HostId) (object : ObjectId) (control : ℕ) (m : Message) (s new : State) (hosts : HostTable) (events : List Event) (areas : List ℕ → Told)
+pub spares_down : (given : Step) (line : Option ℕ) (number : ChannelId) (host : HostId) (object : ObjectId) (control : ℕ) (m : Message) (s new : State) (hosts : HostTable) (events : List Event)
     → MayTakeFrom given line number (Down host object control) s → HostsPart given.header given.outside given.command (event.Taken (Down host object control) m ∷ given.past) hosts events → new.pagers.items ≡ s.pagers.items
-    → new.history.items ≡ events ++ event.Taken (Down host object control) m ∷ given.past → PagingIsKept given.header given.outside areas s → PagingIsKept given.header given.outside areas new
-kept_down given line number host object control m s new hosts events areas may passed pagers items kept =
+    → new.files.items ≡ s.files.items → new.history.items ≡ events ++ event.Taken (Down host object control) m ∷ given.past → Spares given.header given.outside s new
+spares_down given line number host object control m s new hosts events may passed pagers files items =
+    let header = given.header in
     let channel = Down host object control in
+    let past = event.Taken channel m ∷ given.past in
     let front = front_of given line number channel s may in
     let stretch = passed.follows.stretch in
-    kept_behind given.header given.outside areas s new events (event.Taken channel m ∷ given.past) (front_serves given host object control m s front) (front_content given line number channel s may) stretch.said stretch.inner pagers items kept
-
-pub devices_down : (given : Step) (line : Option ℕ) (number : ChannelId) (host : HostId) (object : ObjectId) (control : ℕ) (m : Message) (s new : State) (hosts : HostTable) (events : List Event) → MayTakeFrom given line number (Down host object control) s
-    → HostsPart given.header given.outside given.command (event.Taken (Down host object control) m ∷ given.past) hosts events → new.history.items ≡ events ++ event.Taken (Down host object control) m ∷ given.past
-    → devices new.history.items ≡ devices s.history.items
-devices_down given line number host object control m s new hosts events may passed items =
-    ap devices items ∙ devices_said given.header events (event.Taken (Down host object control) m ∷ given.past) passed.follows.stretch.said ∙ ap devices may.past ∙ devices_lined line s.history.items
+    let same : (who : Device) → devices who new.history.items ≡ devices who s.history.items = λ who.
+    ap (devices who) items ∙ devices_said who header events past stretch.said ∙ ap (devices who) may.past ∙ devices_lined who line s.history.items in
+    record {
+      paging = record {
+        kept = λ areas kept. kept_behind header given.outside areas s new events past (front_serves given host object control m s front) (front_content given line number channel s may) stretch.said stretch.inner pagers items kept;
+        devices = same Paging;
+      };
+      files = filed_spares header given.outside s new (rw (files, items) (files_spared header s.files.items events past (spared_said header events past stretch.said) (front_filed given host object control m s front)))
+          (λ start areas carry. rw items (carry_spared header start areas events past (spared_said header events past stretch.said)
+          (carry_other header start areas (event.Taken channel m) given.past (λ o. tt) (front_carry given line number channel s may start areas carry)))) (same Files);
+    }

@@ -44,7 +44,7 @@ up_to_line : (header : Header) (outside : Outside) (line : ℕ) (run : List Numb
 up_to_line header outside line run s stands legal =
     let items = s.history.items in
     record {
-      plain = stands.rests.plain;
+      paged = stands.built.paged;
       own_bytes = (tt, legal.holds.own_bytes);
       frames = (moment_last (FramesSuffice header) items legal.holds.frames, legal.holds.frames);
       prompts = (legal.rests.prompt, legal.holds.prompt);

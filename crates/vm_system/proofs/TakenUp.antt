@@ -1,17 +1,19 @@
--- A message is taken by the pager of a host, which answers.
-use Rattle.vm_system.proofs.Common.{AllLicensed, AllServe, AnswerHasCause, AreNumbered, CanTellAll, CarriesContent, Channel, ChannelId, Content, CountRises, DevicesHaveCause, EachIn, Err, Event, Followed, FramesSuffice, Going, HasRoom, Header, HostId, IsAreaTold, IsConsequence, IsHostLetter, IsToPager, KeepsShape, LeavesAreas, List, Listed, MayTake, MayTakeFrom, Message, MomentsIn, ObjectId, Ok, Option, Outside, OwnBytes, PagerHasAnswered, PagerServes, PagerStands, PagingIsKept, Posts, ReturnsWhole, SameAreas, SameHosts, SlotTable, SlotsFit, Some, State, Step, SuppliesStored, TakesStep, TellsFault, Told, Took, Up, [], after_message, ap, append_assoc, area_name, arith, carries, causes, content_of, devices, each_both, first, get_or, gives_frame, inl, inner_both, inr, is_heard_elsewhere, length, length-append, length-set, licensed_both, lined, moments_both, named, of_both, others, others_carry, paid, paid_more, queue, refl, same_Some, set, slice_get, slice_get-get_or, slice_get_within, stands, subst, suc, sym, take, true, zero, ℕ, ◌++◌, ◌+◌, ◌<◌, ◌∙◌, ◌∷◌, ◌≡◌, ◌≤◌, ◌⊎◌}
+-- A message about a temporary object is taken by the default pager of a host, which answers.
+use Rattle.vm_system.proofs.Common.{AllFilesServe, AllLicensed, AllServe, AnswerHasCause, AreNumbered, CanTellAll, CarriesContent, Channel, ChannelId, Content, CountRises, Device, DevicesHaveCause, EachIn, Err, Event, Followed, FramesSuffice, Going, HasRoom, Header, HostId, IsAreaTold, IsConsequence, IsHostLetter, IsToPager, KeepsShape, LeavesAreas, List, Listed, MayTake, MayTakeFrom, Message, MomentsIn, ObjectId, Ok, Option, Outside, OwnBytes, PagerHasAnswered, PagerServes, PagerStands, PagingIsKept, Posts, ReturnsWhole, SameAreas, SameHosts, SlotTable, SlotsFit, Some, SparesFiles, State, Step, SuppliesStored, TakesStep, TellsFault, Told, Took, Up, [], after_message, ap, append_assoc, area_name, arith, carries, causes, content_of, declared_pages, devices, each_both, first, get_or, gives_frame, inl, inner_both, inr, is_heard_elsewhere, length, length-append, length-set, licensed_both, lined, moments_both, named, of_both, others, others_carry, paid, paid_more, queue, refl, same_Some, set, slice_get, slice_get-get_or, slice_get_within, stands, subst, suc, sym, take, true, zero, ℕ, ◌++◌, ◌+◌, ◌<◌, ◌∙◌, ◌∷◌, ◌≡◌, ◌≤◌, ◌⊎◌}
 use Rattle.std.proofs.Common.{◌≢◌}
 use Rattle.pg_default.specs.Answers.{PagerAnswer as Answers}
 use Rattle.vm_base.specs.declared.failure.NoMemory.{NoMemory}
+use Rattle.vm_model.specs.declared.event.Device.TheVariants.{Files, Paging}
 use Rattle.vm_model.specs.declared.event.Event.TheVariants as event
 use Rattle.vm_model.specs.declared.message.Message.TheVariants as message
-use Rattle.vm_system.proofs.Answering.{Faults, faults, replies, reply_consequences, reply_frames, reply_inner, reply_nobodys, reply_own, told_after, word_up}
+use Rattle.vm_system.proofs.Answering.{Faults, faults, replies, reply_consequences, reply_frames, reply_inner, reply_nobodys, reply_own, reply_spares, told_after, word_up}
 use Rattle.vm_system.proofs.Apart.{about, apart_of, areas_others, fits_still, other_area, others_fit, others_stand, set_cases, told_still}
+use Rattle.vm_system.proofs.Filing.{carry_about, files_about}
 use Rattle.vm_system.proofs.Silent.{all_returned}
 use Rattle.vm_system.proofs.Letters.{elsewhere_first, home_first, letter_first, orderly_taken, unended_first, washed_out}
 use Rattle.vm_system.proofs.Sayings.{can_answer, orderly_answered}
-use Rattle.vm_system.proofs.Following.{kept_at, same_pagers}
-use Rattle.vm_system.proofs.Taken.{Front, devices_lined, front_content, front_of, front_settled, front_suffice, taken_licensed, takes_step, taken_suffice}
+use Rattle.vm_system.proofs.Following.{filed_spares, kept_at, same_files, same_pages, same_pagers}
+use Rattle.vm_system.proofs.Taken.{Front, devices_lined, front_carry, front_content, front_of, front_settled, front_suffice, taken_licensed, takes_step, taken_suffice}
 
 -- what stands on a channel up is a host's letter
 pub up_letter : (given : Step) (line : Option ℕ) (number : ChannelId) (host : HostId) (object : ObjectId) (m : Message) (s : State) → MayTakeFrom given line number (Up host object) s
@@ -37,42 +39,42 @@ pub record Reply (given : Step) (host : HostId) (object : ObjectId) (m : Message
   pub front : Front given s
   pub head : first (queue (Up host object) given.past) ≡ Some m
   pub may : MayTake given.command (Up host object) given.past
+  pub temporary : named given.header ≤ object.0
   pub at : slice_get s.pagers.items host.0 ≡ Some old
   pub answered : Answers m object old new events
   pub shape : KeepsShape old new
   pub licensed : AllLicensed given.header given.outside given.command events (event.Taken (Up host object) m ∷ given.past)
 
 -- the pager of the host serves it
-serves_of : (given : Step) (host : HostId) (object : ObjectId) (m : Message) (s : State) (old new : SlotTable) (events : List Event) → Front given s → first (queue (Up host object) given.past) ≡ Some m → slice_get s.pagers.items host.0 ≡ Some old
+serves_of : (given : Step) (host : HostId) (object : ObjectId) (m : Message) (s : State) (old new : SlotTable) (events : List Event) → Front given s → named given.header ≤ object.0 → first (queue (Up host object) given.past) ≡ Some m → slice_get s.pagers.items host.0 ≡ Some old
     → Answers m object old new events → PagerServes given.header host.0 given.past object m old new events
-serves_of given host object m s old new events front head at answered =
-    let none : named given.header ≡ 0 = ap length front.rests.plain.objects in
-    record {
-      temporary = omega (arith, none);
-      unended = unended_first given.header host.0 object m given.past front.orderly head;
-      own = home_first given.header host.0 object m given.past front.orderly head;
-      stands = front.pagers.stand host.0 old at;
-      answered = answered;
-    }
+serves_of given host object m s old new events front temporary head at answered = record {
+  temporary = temporary;
+  unended = unended_first given.header host.0 object m given.past front.orderly temporary head;
+  own = home_first given.header host.0 object m given.past front.orderly temporary head;
+  stands = front.pagers.stand host.0 old at;
+  answered = answered;
+}
 
 reply_serves : (given : Step) (host : HostId) (object : ObjectId) (m : Message) (s : State) (old new : SlotTable) (events : List Event) → Reply given host object m s old new events → PagerServes given.header host.0 given.past object m old new events
-reply_serves given host object m s old new events reply = serves_of given host object m s old new events reply.front reply.head reply.at reply.answered
+reply_serves given host object m s old new events reply = serves_of given host object m s old new events reply.front reply.temporary reply.head reply.at reply.answered
 
 -- where the areas hold what was stored
 pub reply_of : (given : Step) (line : Option ℕ) (number : ChannelId) (host : HostId) (object : ObjectId) (m : Message) (areas : List ℕ → Told) (s : State) (old new : SlotTable) (events : List Event) → MayTakeFrom given line number (Up host object) s
-    → first (queue (Up host object) given.past) ≡ Some m → slice_get s.pagers.items host.0 ≡ Some old → Answers m object old new events → KeepsShape old new → PagingIsKept given.header given.outside areas s
+    → named given.header ≤ object.0 → first (queue (Up host object) given.past) ≡ Some m → slice_get s.pagers.items host.0 ≡ Some old → Answers m object old new events → KeepsShape old new → PagingIsKept given.header given.outside areas s
     → ((content : Content) → IsAreaTold areas old → SlotsFit areas old content → SuppliesStored object events content) → Reply given host object m s old new events
-reply_of given line number host object m areas s old new events may head at answered shape kept bytes =
+reply_of given line number host object m areas s old new events may temporary head at answered shape kept bytes =
     let front = front_of given line number (Up host object) s may in
     let same = front_content given line number (Up host object) s may host.0 in
     record {
       front = front;
       head = head;
       may = may.may;
+      temporary = temporary;
       at = at;
       answered = answered;
       shape = shape;
-      licensed = causes given.header given.outside given.command host.0 given.past object m old new events (serves_of given host object m s old new events front head at answered)
+      licensed = causes given.header given.outside given.command host.0 given.past object m old new events (serves_of given host object m s old new events front temporary head at answered)
           (λ on. bytes (content_of given.header host.0 given.past) (kept.told on host.0 old at) (subst (λ (z : Content). SlotsFit areas old z) (sym same) (kept.fits on host.0 old at)));
     }
 
@@ -126,13 +128,28 @@ serve_up given host object m s old new events reply = record {
         others_stand given.header g pager object events (event.Taken (Up host object) m ∷ given.past) (about m object old new events reply.answered) (away_from given host object m s old new events reply g apart.0)
         (others given.header g pager (event.Taken (Up host object) m) given.past (inr (λ same. apart.0 (sym same))) (reply.front.pagers.stand g pager apart.1))
 
+-- the files' pagers have no part in it
+
+files_up : (given : Step) (host : HostId) (object : ObjectId) (m : Message) (s : State) (old new : SlotTable) (events : List Event) → Reply given host object m s old new events
+    → AllFilesServe given.header s.files.items (events ++ event.Taken (Up host object) m ∷ given.past)
+files_up given host object m s old new events reply = files_about given.header s.files.items host object m events given.past (about m object old new events reply.answered) reply.temporary reply.front.files
+
+pub spares_up : (given : Step) (line : Option ℕ) (number : ChannelId) (host : HostId) (object : ObjectId) (m : Message) (s now : State) (old new : SlotTable) (events : List Event) → MayTakeFrom given line number (Up host object) s
+    → Reply given host object m s old new events → now.files.items ≡ s.files.items → now.history.items ≡ events ++ event.Taken (Up host object) m ∷ given.past → SparesFiles given.header given.outside s now
+spares_up given line number host object m s now old new events may reply files items =
+    let header = given.header in
+    let past = event.Taken (Up host object) m ∷ given.past in
+    filed_spares header given.outside s now (rw (files, items) (files_up given host object m s old new events reply))
+    (λ start areas carry. rw items (carry_about header start areas host object m events given.past (about m object old new events reply.answered) reply.temporary (front_carry given line number (Up host object) s may start areas carry)))
+    (ap (devices Files) items ∙ reply_spares Paging Files events past refl (replies m object old new events reply.answered) ∙ ap (devices Files) may.past ∙ devices_lined Files line s.history.items)
+
 -- the hosts' part begins
 abbrev pub going : Step → HostId → ObjectId → Message → List Event → Going
 going given host object m events = record { header = given.header; outside = given.outside; command = given.command; past = given.past; front = events ++ event.Taken (Up host object) m ∷ [] }
 
 pub answered_up : (given : Step) (host : HostId) (object : ObjectId) (m : Message) (s now : State) (old new : SlotTable) (events : List Event) → Reply given host object m s old new events → now.pagers.items ≡ set s.pagers.items host.0 new
-    → now.hosts ≡ s.hosts → now.size ≡ given.header.size → now.history.items ≡ events ++ event.Taken (Up host object) m ∷ given.past → Posts now now.history.items → PagerHasAnswered (going given host object m events) host (gives_frame m) now
-answered_up given host object m s now old new events reply pagers hosts size items posts =
+    → now.files.items ≡ s.files.items → ((o : ℕ) → o < named given.header → slice_get now.pages.items o ≡ Some (declared_pages given.header o)) → now.hosts ≡ s.hosts → now.size ≡ given.header.size → now.history.items ≡ events ++ event.Taken (Up host object) m ∷ given.past → Posts now now.history.items → PagerHasAnswered (going given host object m events) host (gives_frame m) now
+answered_up given host object m s now old new events reply pagers files pages hosts size items posts =
     let header = given.header in
     let front = reply.front in
     let told = replies m object old new events reply.answered in
@@ -141,11 +158,14 @@ answered_up given host object m s now old new events reply pagers hosts size ite
     let orderly = orderly_taken header (Up host object) m given.past front.orderly reply.head in
     let pager = front.pagers.stand host.0 old reply.at in
     record {
+      built = front.built;
       is = items ∙ sym (append_assoc events (taken ∷ []) given.past);
       rests = rw hosts front.rests;
       agrees = record {
         size = size;
+        pages = pages;
         pagers = rw (pagers, items) (serve_up given host object m s old new events reply);
+        files = rw (files, items) (files_up given host object m s old new events reply);
         posts = posts;
         orderly = rw items (orderly_answered header host.0 object m given.past old new events orderly letter pager.host_is pager.size reply.answered);
       };
@@ -157,7 +177,8 @@ answered_up given host object m s now old new events reply pagers hosts size ite
         is = refl;
         gives = refl;
         out = λ washed. washed_out header host.0 object m given.past front.orderly reply.head washed;
-        nobodys = reply_nobodys events told;
+        nobodys = reply_nobodys Paging events told;
+        inner = reply_inner Paging events told;
         licensed = licensed_both header given.outside given.command events (taken ∷ []) given.past reply.licensed
             (taken_licensed header given.outside given.command (Up host object) m given.past reply.head reply.may (front_settled given s front), tt);
       };
@@ -172,8 +193,8 @@ cut_up given host object m s old slots events new reply items =
     let told = replies m object old slots events reply.answered in
     let past = event.Taken (Up host object) m ∷ given.past in
     let suffice = front_suffice given s front in
-    takes_step given (Up host object) m events new items reply.head reply.may (front_settled given s front) suffice (reply_consequences events told) reply.licensed (reply_own header events past told)
-    (reply_frames header events past told (taken_suffice header (Up host object) m given.past suffice)) (reply_inner events told)
+    takes_step given (Up host object) m events new items reply.head reply.may (front_settled given s front) suffice (reply_consequences Paging events told) reply.licensed (reply_own header Paging events past told)
+    (reply_frames header Paging events past told (taken_suffice header (Up host object) m given.past suffice)) (reply_inner Paging events told)
 
 -- the hosts went on behind the answer
 pub took_up : (given : Step) (host : HostId) (object : ObjectId) (m : Message) (s new : State) (old slots : SlotTable) (events : List Event) → Reply given host object m s old slots events
@@ -191,14 +212,14 @@ took_up given host object m s new old slots events reply followed =
     let stretch = followed.follows.stretch in
     let items : new.history.items ≡ more ++ (events ++ past) = followed.is ∙ ap (λ (z : List Event). more ++ z) same in
     let licensed = licensed_both header outside doing more events past (subst (λ (z : List Event). AllLicensed header outside doing more z) same stretch.licensed) reply.licensed in
-    let own = each_both (OwnBytes header) more events past (subst (λ (z : List Event). EachIn (OwnBytes header) more z) same stretch.own_bytes) (reply_own header events past told) in
+    let own = each_both (OwnBytes header) more events past (subst (λ (z : List Event). EachIn (OwnBytes header) more z) same stretch.own_bytes) (reply_own header Paging events past told) in
     let frames = moments_both (FramesSuffice header) more events past (subst (λ (z : List Event). MomentsIn (FramesSuffice header) more z) same stretch.frames)
-    (reply_frames header events past told (taken_suffice header (Up host object) m given.past suffice)) in
+    (reply_frames header Paging events past told (taken_suffice header (Up host object) m given.past suffice)) in
     let owed = paid header host.0 given.past object m old slots events (reply_serves given host object m s old slots events reply) in
     record {
       stands = followed.stands;
       step = takes_step given (Up host object) m (more ++ events) new.history.items (items ∙ sym (append_assoc more events past)) reply.head reply.may (front_settled given s front) suffice
-          (of_both IsConsequence more events followed.follows.follows (reply_consequences events told)) licensed own frames (inner_both more events stretch.inner (reply_inner events told));
+          (of_both IsConsequence more events followed.follows.follows (reply_consequences Paging events told)) licensed own frames (inner_both more events stretch.inner (reply_inner Paging events told));
       prompt = followed.prompt;
       paid = rw items (paid_more header more (events ++ past) stretch.inner owed (rw (sym items) (all_returned header new.hosts new.history.items followed.stands.rests)));
     }
@@ -259,38 +280,39 @@ kept_failed header outside object m s now slots before after e pagers leaves ite
     (λ on h pager at. fits_still pager (content_of header h s.history.items) before after (same (area_name pager.host)) (kept.told on h pager at) (kept.fits on h pager at))
 
 -- the pager that is read at a number is the one that stands there
-pub pager_read : (pagers : List SlotTable) (h : ℕ) (pager : SlotTable) → h < length pagers → pager ≡ get_or pagers h pager → slice_get pagers h ≡ Some pager
-pager_read pagers h pager within read = slice_get-get_or pagers h pager within ∙ ap (λ (z : SlotTable). Some z) (sym read)
+pub pager_read : {A : Type 0} (pagers : List A) (h : ℕ) (pager : A) → h < length pagers → pager ≡ get_or pagers h pager → slice_get pagers h ≡ Some pager
+pager_read {A} pagers h pager within read = slice_get-get_or pagers h pager within ∙ ap (λ (z : A). Some z) (sym read)
 
 -- a pager that is as it was
-pub set_same : (pagers : List SlotTable) (h : ℕ) (pager : SlotTable) → slice_get pagers h ≡ Some pager → set pagers h pager ≡ pagers
+pub set_same : {A : Type 0} (pagers : List A) (h : ℕ) (pager : A) → slice_get pagers h ≡ Some pager → set pagers h pager ≡ pagers
 set_same [] h pager is = refl
-set_same (x ∷ pagers) zero pager is = ap (λ (z : SlotTable). z ∷ pagers) (sym (same_Some x pager is))
-set_same (x ∷ pagers) (suc h) pager is = ap (λ (z : List SlotTable). x ∷ z) (set_same pagers h pager is)
+set_same {A} (x ∷ pagers) zero pager is = ap (λ (z : A). z ∷ pagers) (sym (same_Some x pager is))
+set_same {A} (x ∷ pagers) (suc h) pager is = ap (λ (z : List A). x ∷ z) (set_same pagers h pager is)
 
 -- a device's failure has its cause
-device_cause : (before now : ℕ) (events : Listed Event) (past old new : List Event) → Faults events.items past → AnswerHasCause before now (Ok events) → devices new ≡ devices (events.items ++ past) → devices past ≡ devices old
-    → DevicesHaveCause before now old new
-device_cause before now events past old new f cause same front = record {
-  later = cause.later;
+pub device_cause : (who : Device) (tells : Type 0) (before now : ℕ) (events past old new : List Event) → Faults who tells events past → before ≤ now → (tells → CountRises before now) → ((tells → ⊥) → now ≡ before)
+    → devices who new ≡ devices who (events ++ past) → devices who past ≡ devices who old → DevicesHaveCause who before now old new
+device_cause who tells before now events past old new f later failed spare same front = record {
+  later = later;
   few = omega (arith, same, f.few, front);
   cause = by f.cause;
   spared = λ none. spared f.cause none;
 }
   where
-    by : ((devices (events.items ++ past) ≡ devices past) × (TellsFault events.items → ⊥)) ⊎ ((devices (events.items ++ past) ≡ devices past + 1) × TellsFault events.items) → (devices new ≡ devices old) ⊎ CountRises before now
+    by : ((devices who (events ++ past) ≡ devices who past) × (tells → ⊥)) ⊎ ((devices who (events ++ past) ≡ devices who past + 1) × tells) → (devices who new ≡ devices who old) ⊎ CountRises before now
     by (inl none) = inl (same ∙ none.0 ∙ front)
-    by (inr tells) = inr (cause.failed tells.1)
+    by (inr told) = inr (failed told.1)
 
-    spared : ((devices (events.items ++ past) ≡ devices past) × (TellsFault events.items → ⊥)) ⊎ ((devices (events.items ++ past) ≡ devices past + 1) × TellsFault events.items) → devices new ≡ devices old → now ≡ before
-    spared (inl none) is = cause.spared none.1
-    spared (inr tells) is = let more = tells.0 in absurd (omega (arith, more, same, front, is))
+    spared : ((devices who (events ++ past) ≡ devices who past) × (tells → ⊥)) ⊎ ((devices who (events ++ past) ≡ devices who past + 1) × tells) → devices who new ≡ devices who old → now ≡ before
+    spared (inl none) is = spare none.1
+    spared (inr told) is = let more = told.0 in absurd (omega (arith, more, same, front, is))
 
 pub devices_up : (given : Step) (line : Option ℕ) (number : ChannelId) (host : HostId) (object : ObjectId) (m : Message) (s : State) (old slots : SlotTable) (events : Listed Event) (before now : ℕ) (new : List Event) → MayTakeFrom given line number (Up host object) s
-    → Answers m object old slots events.items → AnswerHasCause before now (Ok events) → devices new ≡ devices (events.items ++ event.Taken (Up host object) m ∷ given.past) → DevicesHaveCause before now s.history.items new
+    → Answers m object old slots events.items → AnswerHasCause before now (Ok events) → devices Paging new ≡ devices Paging (events.items ++ event.Taken (Up host object) m ∷ given.past) → DevicesHaveCause Paging before now s.history.items new
 devices_up given line number host object m s old slots events before now new may answered cause same =
     let past = event.Taken (Up host object) m ∷ given.past in
-    device_cause before now events past s.history.items new (faults m object old slots events.items past answered) cause same (ap devices may.past ∙ devices_lined line s.history.items)
+    device_cause Paging (TellsFault events.items) before now events.items past s.history.items new (faults m object old slots events.items past answered) cause.later cause.failed cause.spared same
+    (ap (devices Paging) may.past ∙ devices_lined Paging line s.history.items)
 
 -- the newest events, up to and with the taking
 front_at : (events : List Event) (e : Event) (past : List Event) → take (suc (length events)) (events ++ e ∷ past) ≡ events ++ e ∷ []
@@ -321,11 +343,14 @@ may_reserved given line number channel s t may same items made numbers letters b
     let posts = agrees.posts in
     record {
       stands = record {
+        built = stands.built;
         rests = rw (same.hosts, items) stands.rests;
         queues = rw (same.hosts, items) stands.queues;
         agrees = record {
           size = same.size ∙ agrees.size;
+          pages = rw (same_pages s t same) agrees.pages;
           pagers = rw (same_pagers s t same, items) agrees.pagers;
+          files = rw (same_files s t same, items) agrees.files;
           posts = record {
             channels = λ c. rw (made, items) (posts.channels c);
             count = rw (made, numbers) posts.count;

@@ -1,11 +1,13 @@
 -- What the step of a command leaves.
 use Rattle.std.specs.Prelude.{ℕ, ◌≡◌, List}
 use Rattle.vm_model.specs.declared.command.Numbered.{Numbered}
+use Rattle.vm_model.specs.declared.event.Device.TheVariants.{Files, Paging}
 use Rattle.vm_model.specs.declared.script.Header.{Header}
 use Rattle.vm_model.specs.Moments.{before_last_line}
 use Rattle.vm_legal.specs.Outside.{Outside}
 use Rattle.vm_outside.specs.Areas.{Told}
-use Rattle.vm_system.specs.Stands.{PagingIsKept, SystemStands}
+use Rattle.vm_system.specs.Keeping.{FilesCarry}
+use Rattle.vm_system.specs.Stands.{FilesAreKept, PagingIsKept, SystemStands}
 use Rattle.vm_system.specs.Steps.{GrowsWithinLimit, KeepsLegal, devices}
 use Rattle.vm_system.specs.declared.state.State.{State}
 
@@ -16,7 +18,18 @@ pub record Makes (header : Header) (outside : Outside) (numbered : Numbered) (ol
   pub grew : GrowsWithinLimit old.history.items new.history.items
   pub front : before_last_line new.history.items ≡ old.history.items
 
--- no pager has a part in it: what was returned is kept, and no failure of a backing is told
-pub record Spares (header : Header) (outside : Outside) (old new : State) : Type 0 where
+-- no default pager has a part in it: what was returned to them is kept, and no failure of the paging area is told
+pub record SparesPaging (header : Header) (outside : Outside) (old new : State) : Type 0 where
   pub kept : (areas : List ℕ → Told) → PagingIsKept header outside areas old → PagingIsKept header outside areas new
-  pub devices : devices new.history.items ≡ devices old.history.items
+  pub devices : devices Paging new.history.items ≡ devices Paging old.history.items
+
+-- no file's pager has a part in it: what was returned to them is kept, and no failure of the files is told
+pub record SparesFiles (header : Header) (outside : Outside) (old new : State) : Type 0 where
+  pub kept : (areas : List ℕ → Told) → FilesAreKept header outside areas old → FilesAreKept header outside areas new
+  pub carried : (start areas : List ℕ → Told) → FilesCarry header start areas old.history.items → FilesCarry header start areas new.history.items
+  pub devices : devices Files new.history.items ≡ devices Files old.history.items
+
+-- no pager has a part in it
+pub record Spares (header : Header) (outside : Outside) (old new : State) : Type 0 where
+  pub paging : SparesPaging header outside old new
+  pub files : SparesFiles header outside old new

@@ -1,5 +1,5 @@
--- What holds of the letters on their way, in a history of temporary memory.
-use Rattle.std.specs.Prelude.{ℕ, ◌+◌, ◌<◌, ◌==◌, ◌&&◌, ◌≡◌, ◌⊎◌, Bool, true, false, List, [], ◌∷◌, length, Option, Some, None, if◌then◌else◌}
+-- What holds of the letters on their way, in a history of temporary memory and of files.
+use Rattle.std.specs.Prelude.{ℕ, ◌+◌, ◌<◌, ◌≤◌, ◌==◌, ◌&&◌, ◌≡◌, ◌⊎◌, Bool, true, false, List, [], ◌∷◌, length, nat_lt, Option, Some, None, if◌then◌else◌}
 use Rattle.vm_model.specs.declared.event.Event.{Event}
 use Rattle.vm_model.specs.declared.message.Channel.{Channel}
 use Rattle.vm_model.specs.declared.message.Channel.TheVariants.{Up, Down}
@@ -10,20 +10,25 @@ use Rattle.vm_model.specs.Channels.{queue}
 use Rattle.vm_model.specs.Controls.{last_control, live_control}
 use Rattle.vm_legal.specs.Frames.{returns_out}
 use Rattle.vm_legal.specs.Homes.{gives_frame}
-use Rattle.vm_legal.specs.Licences.{lock_taken, up}
+use Rattle.vm_legal.specs.Licences.{up}
+use Rattle.vm_legal.specs.Pagers.{known_control}
 use Rattle.vm_legal.specs.Steps.{Letter}
 use Rattle.vm_legal.specs.Undelivered.{is_made, undelivered}
 use Rattle.vm_quiet.specs.Letters.{messages_on}
 use Rattle.pg_default.specs.Stands.{is_ended, is_heard_elsewhere}
-use Rattle.vm_abroad.specs.Home.{object_home}
+use Rattle.vm_abroad.specs.Home.{home_of, object_home}
+use Rattle.vm_model.specs.Named.{named}
 use Rattle.vm_kernel.specs.Matches.{host_id}
-use Rattle.vm_kernel.specs.Taking.{IsTempAnswer}
+use Rattle.vm_kernel.specs.Taking.{IsPlainWord}
 
--- what a kernel says to the default pager, where a page has so many bytes; the control that is to be answered has its channel
+-- what a kernel says to a pager, where a page has so many bytes; the control that is to be answered has its channel
 abbrev pub IsWordUp : ℕ → (ℕ → Bool) → Message → Type 0
+IsWordUp size made (message.Init control bytes) = made control ≡ true
 IsWordUp size made (message.Create control bytes) = made control ≡ true
 IsWordUp size made (message.Request control page access) = made control ≡ true
 IsWordUp size made (message.Return control page dirty keep bytes) = length bytes ≡ size
+IsWordUp size made (message.Unlock control page access) = Unit {0}
+IsWordUp size made (message.Completed control page count) = Unit {0}
 IsWordUp size made (message.Terminate control) = Unit {0}
 IsWordUp size made other = ⊥
 
@@ -33,7 +38,7 @@ IsHostLetter header past letter = IsOn letter.channel letter.message
   where
     IsOn : Channel → Message → Type 0
     IsOn (Up host object) m = (host.0 < length header.frames.items) × IsWordUp header.size (λ control. is_made (Down host object control) past) m
-    IsOn (Down host object control) m = (host.0 < length header.frames.items) × IsTempAnswer header.size m
+    IsOn (Down host object control) m = (host.0 < length header.frames.items) × IsPlainWord header.size m
 
 abbrev pub AllLetters : Header → List Event → List Letter → Type 0
 AllLetters header past [] = Unit {0}
@@ -76,16 +81,23 @@ pub record HasMade (h o : ℕ) (past : List Event) : Type 0 where
   pub never : last_control h o past ≡ 0 → (is_made (up h o) past ≡ false) × ((control : ℕ) → is_made (Down (host_id h) (record { 0 = o }) control) past ≡ false)
   pub ended : is_ended h o past ≡ true → last_control h o past ≡ 0 → ⊥
   pub quiet : is_made (up h o) past ≡ false → queue (up h o) past ≡ []
+  pub unmade : (control : ℕ) → last_control h o past < control → is_made (Down (host_id h) (record { 0 = o }) control) past ≡ false
+  pub unknown : is_made (up h o) past ≡ false → known_control h o past ≡ None
+  pub known : (control : ℕ) → known_control h o past ≡ Some control → is_made (Down (host_id h) (record { 0 = o }) control) past ≡ true
+
+-- the host of an object: a declared one's is that of its region, and else that of the region that it was made for
+abbrev pub home_for : Header → ℕ → List Event → Option ℕ
+home_for header o past = if nat_lt o (named header) then home_of o past else object_home o past
 
 -- only the pager of the host of an object's region hears of the object
-pub record IsHome (h o : ℕ) (past : List Event) : Type 0 where
-  pub made : is_made (up h o) past ≡ true → object_home o past ≡ Some h
-  pub own : (object_home o past ≡ None) ⊎ (object_home o past ≡ Some h) → is_heard_elsewhere h o past ≡ false
+pub record IsHome (header : Header) (h o : ℕ) (past : List Event) : Type 0 where
+  pub made : is_made (up h o) past ≡ true → home_for header o past ≡ Some h
+  pub own : named header ≤ o → (object_home o past ≡ None) ⊎ (object_home o past ≡ Some h) → is_heard_elsewhere h o past ≡ false
 
 pub record IsOrderly (header : Header) (past : List Event) : Type 0 where
   pub letters : AllLetters header past (undelivered past)
   pub washed : (h : ℕ) → returns_out h past ≡ washed_in h (undelivered past)
-  pub home : (h o : ℕ) → IsHome h o past
-  pub ending : (h o : ℕ) → Ending (live_control h o past) (is_ended h o past) (messages_on (up h o) (undelivered past))
+  pub home : (h o : ℕ) → IsHome header h o past
+  pub ending : (h o : ℕ) → named header ≤ o → Ending (live_control h o past) (is_ended h o past) (messages_on (up h o) (undelivered past))
   pub made : (h o : ℕ) → HasMade h o past
-  pub unlocked : lock_taken past ≡ None
+  pub known : (h o control : ℕ) → known_control h o past ≡ Some control → h < length header.frames.items

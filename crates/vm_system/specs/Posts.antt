@@ -35,10 +35,10 @@ pub record HasRoom (n : ℕ) (s : State) : Type 0 where
   pub letters : n ≤ s.ports.room
   pub buffers : n ≤ s.buffers.count
 
--- a message can be sent: a create makes its channels, and any other has one
+-- a message can be sent: an init or a create makes the channel of its control, and the one up where it isn't there; any other has a channel
 abbrev pub CanSend : Channel → Message → List Event → Type 0
-CanSend (Up host object) (message.Create control size) past = (is_made (Up host object) past ≡ false) × (is_made (Down host object control) past ≡ false)
-CanSend (Up host object) (message.Init control size) past = ⊥
+CanSend (Up host object) (message.Create control size) past = is_made (Down host object control) past ≡ false
+CanSend (Up host object) (message.Init control size) past = is_made (Down host object control) past ≡ false
 CanSend channel m past = is_made channel past ≡ true
 
 -- an event other than a taking can be told; a page that is sent has so many bytes
@@ -57,3 +57,5 @@ pub record SameHosts (old new : State) : Type 0 where
   pub size : new.size ≡ old.size
   pub hosts : new.hosts ≡ old.hosts
   pub pagers : new.pagers ≡ old.pagers
+  pub files : new.files ≡ old.files
+  pub pages : new.pages ≡ old.pages

@@ -1,5 +1,5 @@
 -- What a sending makes of channels and letters.
-use Rattle.std.specs.Prelude.{◌≡◌, ◌≤◌, ◌+◌, List, [], ◌∷◌, ◌++◌, length, Some, None}
+use Rattle.std.specs.Prelude.{◌≡◌, ◌≤◌, ◌+◌, Bool, true, false, is_some, List, [], ◌∷◌, ◌++◌, length, Some, None}
 use Rattle.vm_base.specs.declared.ids.ChannelId.{ChannelId}
 use Rattle.vm_model.specs.declared.message.Channel.{Channel}
 use Rattle.vm_model.specs.declared.message.Channel.TheVariants.{Up, Down}
@@ -9,10 +9,16 @@ use Rattle.vm_system.specs.Channels.{channel_number}
 use Rattle.vm_system.specs.Posts.{SameHosts}
 use Rattle.vm_system.specs.declared.state.State.{State}
 
--- the channels that a message makes
-abbrev pub made_by : Channel → Message → List Channel
-made_by (Up host object) (message.Create control size) = Up host object ∷ Down host object control ∷ []
-made_by channel m = []
+-- the channel of a control is made, and the one up where it isn't there
+abbrev pub opened : Bool → Channel → Channel → List Channel
+opened true up down = down ∷ []
+opened false up down = up ∷ down ∷ []
+
+-- the channels that a message makes, where these were made
+abbrev pub made_by : List Channel → Channel → Message → List Channel
+made_by made (Up host object) (message.Create control size) = opened (is_some (channel_number (Up host object) made)) (Up host object) (Down host object control)
+made_by made (Up host object) (message.Init control size) = opened (is_some (channel_number (Up host object) made)) (Up host object) (Down host object control)
+made_by made channel m = []
 
 -- none of these was made, and each is another
 abbrev pub AreFresh : List Channel → List Channel → Type 0
@@ -44,9 +50,9 @@ pub record HasSent (channel : Channel) (m : Message) (old new : State) : Type 0 
 
 -- a message was sent with the channels that it makes
 pub record Delivered (channel : Channel) (m : Message) (old new : State) : Type 0 where
-  pub made : new.channels.made ≡ old.channels.made ++ made_by channel m
-  pub count : new.ports.channels ≡ old.ports.channels + length (made_by channel m)
-  pub room : old.channels.room ≤ new.channels.room + length (made_by channel m)
+  pub made : new.channels.made ≡ old.channels.made ++ made_by old.channels.made channel m
+  pub count : new.ports.channels ≡ old.ports.channels + length (made_by old.channels.made channel m)
+  pub room : old.channels.room ≤ new.channels.room + length (made_by old.channels.made channel m)
   pub number : ChannelId
   pub is : channel_number channel new.channels.made ≡ Some number.0
   pub letters : new.ports.letters ≡ old.ports.letters ++ record { channel = number; message = m } ∷ []

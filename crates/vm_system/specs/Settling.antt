@@ -1,5 +1,6 @@
 -- A settle goes on, taking message after message.
 use Rattle.std.specs.Prelude.{ℕ, ◌+◌, ◌≤◌, ◌≡◌, ◌⊎◌, List, ◌∷◌}
+use Rattle.vm_model.specs.declared.event.Device.{Device}
 use Rattle.vm_model.specs.declared.event.Event.{Event}
 use Rattle.vm_model.specs.declared.command.Command.{Command}
 use Rattle.vm_model.specs.declared.command.Command.TheVariants as command
@@ -21,7 +22,7 @@ abbrev pub StaysOpen : Header → Outside → Command → List Event → List Ev
 StaysOpen header outside doing old new = (line : ℕ) (run : List Numbered) → LegalOpen header outside (record { line = line; command = doing } ∷ run) old → LegalOpen header outside (record { line = line; command = doing } ∷ run) new
 
 -- the failures that are told are at most as many as the count of faults rose, unless that stands at its last value; and where none is told the count stays
-pub record DevicesCounted (before now : ℕ) (old new : List Event) : Type 0 where
+pub record DevicesCounted (who : Device) (before now : ℕ) (old new : List Event) : Type 0 where
   pub later : before ≤ now
-  pub few : (devices new + before ≤ devices old + now) ⊎ CountRises now now
-  pub spared : devices new ≡ devices old → now ≡ before
+  pub few : (devices who new + before ≤ devices who old + now) ⊎ CountRises now now
+  pub spared : devices who new ≡ devices who old → now ≡ before

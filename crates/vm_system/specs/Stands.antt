@@ -1,8 +1,14 @@
--- A system stands for its history, and the paging areas have what was returned.
-use Rattle.std.specs.Prelude.{ℕ, ◌≡◌, true, List, [], length, Some, slice_get}
+-- A system stands for its history, and the paging areas and the files have what was returned.
+use Rattle.std.specs.Prelude.{ℕ, ◌≡◌, ◌<◌, true, List, [], length, Some, slice_get}
 use Rattle.vm_model.specs.declared.script.Header.{Header}
 use Rattle.vm_model.specs.declared.event.Event.{Event}
-use Rattle.vm_legal.specs.Outside.{Outside}
+use Rattle.vm_model.specs.Named.{declared_pages, named}
+use Rattle.vm_legal.specs.Outside.{Outside, is_file}
+use Rattle.vm_kernel.specs.Matches.{IsRanged}
+use Rattle.vm_quiet.specs.Places.{AllPaged}
+use Rattle.pg_file.specs.Files.{FileTable}
+use Rattle.pg_file.specs.Stands.{PagerStands as FileStands, name_of}
+use Rattle.vm_system.specs.Keeping.{FilesAreTold, FilesCarry}
 use Rattle.vm_outside.specs.Areas.{Told}
 use Rattle.pg_slots.specs.Contents.{IsAreaTold, SlotsFit}
 use Rattle.pg_slots.specs.Slots.{SlotTable}
@@ -26,6 +32,21 @@ pub record AllServe (header : Header) (pagers : List SlotTable) (past : List Eve
   pub numbered : AreNumbered header pagers
   pub stand : (h : ℕ) (pager : SlotTable) → slice_get pagers h ≡ Some pager → PagerStands header h pager past
 
+-- a pager for each declared object; those of files stand for the history
+pub record AllFilesServe (header : Header) (pagers : List FileTable) (past : List Event) : Type 0 where
+  pub count : length pagers ≡ named header
+  pub stand : (object : ℕ) (pager : FileTable) → is_file header object ≡ true → slice_get pagers object ≡ Some pager → FileStands header object pager past
+
+-- the names of the declared files, each once
+abbrev pub AreNamedApart : Header → Type 0
+AreNamedApart header = (one other : ℕ) → is_file header one ≡ true → is_file header other ≡ true → name_of header one ≡ name_of header other → one ≡ other
+
+-- a header that a system can run: its numbers are in their ranges, and each declared object is a file with a name of its own
+pub record IsOfFiles (header : Header) : Type 0 where
+  pub ranged : IsRanged header
+  pub paged : AllPaged header
+  pub names : AreNamedApart header
+
 -- their areas are told
 abbrev pub AllTold : (List ℕ → Told) → List SlotTable → Type 0
 AllTold areas pagers = (h : ℕ) (pager : SlotTable) → slice_get pagers h ≡ Some pager → IsAreaTold areas pager
@@ -33,12 +54,15 @@ AllTold areas pagers = (h : ℕ) (pager : SlotTable) → slice_get pagers h ≡ 
 -- pagers, ports and letters are those of the history, also inside a step
 pub record Agrees (header : Header) (outside : Outside) (s : State) : Type 0 where
   pub size : s.size ≡ header.size
+  pub pages : (object : ℕ) → object < named header → slice_get s.pages.items object ≡ Some (declared_pages header object)
   pub pagers : AllServe header s.pagers.items s.history.items
+  pub files : AllFilesServe header s.files.items s.history.items
   pub posts : Posts s s.history.items
   pub orderly : IsOrderly header s.history.items
 
 -- and so are the kernels, at a step's end
 pub record SystemStands (header : Header) (outside : Outside) (s : State) : Type 0 where
+  pub built : IsOfFiles header
   pub rests : AllRest header s.hosts s.history.items
   pub queues : AllQueued header s.hosts s.history.items
   pub agrees : Agrees header outside s
@@ -49,3 +73,11 @@ pub record PagingIsKept (header : Header) (outside : Outside) (areas : List ℕ 
   pub pagers : AllServe header s.pagers.items s.history.items
   pub told : outside.paging ≡ true → AllTold areas s.pagers.items
   pub fits : outside.paging ≡ true → (h : ℕ) (pager : SlotTable) → slice_get s.pagers.items h ≡ Some pager → SlotsFit areas pager (content_of header h s.history.items)
+
+-- The files' pagers stand for the history; and from what the files held at the start, which is what is told of them, they have what was returned. This holds
+-- inside a step too.
+pub record FilesAreKept (header : Header) (outside : Outside) (areas : List ℕ → Told) (s : State) : Type 0 where
+  pub files : AllFilesServe header s.files.items s.history.items
+  pub start : List ℕ → Told
+  pub told : FilesAreTold header outside start
+  pub kept : FilesCarry header start areas s.history.items

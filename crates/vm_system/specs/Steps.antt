@@ -1,7 +1,11 @@
 -- What a system's steps make of its history, and of the backings.
-use Rattle.std.specs.Prelude.{ℕ, ◌+◌, ◌<◌, ◌≤◌, ◌≡◌, ◌⊎◌, Bool, true, false, List, [], ◌∷◌, ◌++◌, length, Option, Some, None}
+use Rattle.std.specs.Prelude.{ℕ, ◌+◌, ◌<◌, ◌≤◌, ◌≡◌, ◌⊎◌, Bool, true, false, List, [], ◌∷◌, ◌++◌, length, nat_lt, if◌then◌else◌, Option, Some, None}
 use Rattle.vm_model.specs.declared.event.Event.{Event}
 use Rattle.vm_model.specs.declared.event.Event.TheVariants as event
+use Rattle.vm_model.specs.declared.event.Device.{Device}
+use Rattle.vm_model.specs.declared.event.Device.TheVariants as device
+use Rattle.vm_base.specs.declared.ids.ObjectId.{ObjectId}
+use Rattle.vm_model.specs.Named.{named}
 use Rattle.vm_model.specs.declared.command.Command.{Command}
 use Rattle.vm_model.specs.declared.command.Command.TheVariants as command
 use Rattle.vm_model.specs.declared.command.Numbered.{Numbered}
@@ -13,7 +17,6 @@ use Rattle.vm_legal.specs.Follows.{FollowsCut, FollowsSoFar}
 use Rattle.vm_legal.specs.Legal.{Holds, IsAtRest, LegalFor}
 use Rattle.vm_legal.specs.Outside.{Outside}
 use Rattle.vm_legal.specs.Steps.{takings}
-use Rattle.vm_kernel.specs.Built.{kernel_runs as is_run}
 use Rattle.vm_outside.specs.Arming.{Arming}
 use Rattle.vm_outside.specs.Causes.{CountRises}
 
@@ -73,18 +76,23 @@ pub record HasMore (doing : Command) (history : List Event) : Type 0 where
   pub is : doing ≡ command.Settle count
   pub more : takings history < count
 
--- how many times a backing failed
-abbrev pub devices : List Event → ℕ
-devices [] = 0
-devices (event.DeviceFailed who way object page ∷ past) = devices past + 1
-devices (e ∷ past) = devices past
+abbrev pub is_device : Device → Device → Bool
+is_device device.Files device.Files = true
+is_device device.Paging device.Paging = true
+is_device who other = false
+
+-- how many times this backing failed
+abbrev pub devices : Device → List Event → ℕ
+devices who [] = 0
+devices who (event.DeviceFailed by way object page ∷ past) = if is_device who by then devices who past + 1 else devices who past
+devices who (e ∷ past) = devices who past
 
 -- a backing's failure is told only where its count of faults rose, once for a step; and where none is told the count stays
-pub record DevicesHaveCause (before now : ℕ) (old new : List Event) : Type 0 where
+pub record DevicesHaveCause (who : Device) (before now : ℕ) (old new : List Event) : Type 0 where
   pub later : before ≤ now
-  pub few : devices new ≤ devices old + 1
-  pub cause : (devices new ≡ devices old) ⊎ CountRises before now
-  pub spared : devices new ≡ devices old → now ≡ before
+  pub few : devices who new ≤ devices who old + 1
+  pub cause : (devices who new ≡ devices who old) ⊎ CountRises before now
+  pub spared : devices who new ≡ devices who old → now ≡ before
 
 -- a step may begin: the history has few enough events; the taking of a `take` begins with its line
 abbrev pub MayBegin : List Event → Type 0
@@ -104,47 +112,55 @@ abbrev pub lined : Option ℕ → List Event → List Event
 lined None past = past
 lined (Some line) past = event.Line line ∷ past
 
--- what a command leaves of the files: `fail` arms them, and nothing else is done to them
-abbrev pub LeavesFiles : {B : Type 0} → Command → Arming B → Arming B → Type 0
-LeavesFiles (command.FailFiles count) old new = new ≡ record { inner = old.inner; left = count; reached = old.reached }
-LeavesFiles other old new = new ≡ old
+-- the backing of an object's pager: the files where the object is declared, and else the paging area
+abbrev pub device_of : Header → ObjectId → Device
+device_of header object = if nat_lt object.0 (named header) then device.Files else device.Paging
 
--- the step began with a message that a pager took
-abbrev pub took_up : List Event → Bool
-took_up [] = false
-took_up (event.Line line ∷ past) = false
-took_up (event.Taken (Up host object) m ∷ past) = true
-took_up (event.Taken channel m ∷ past) = false
-took_up (e ∷ past) = took_up past
+-- the step began with a message that a pager of this backing took
+abbrev pub took_up : Header → Device → List Event → Bool
+took_up header who [] = false
+took_up header who (event.Line line ∷ past) = false
+took_up header who (event.Taken (Up host object) m ∷ past) = is_device who (device_of header object)
+took_up header who (event.Taken channel m ∷ past) = false
+took_up header who (e ∷ past) = took_up header who past
+
+-- it began with a message that some pager took
+abbrev pub took_any : List Event → Bool
+took_any [] = false
+took_any (event.Line line ∷ past) = false
+took_any (event.Taken (Up host object) m ∷ past) = true
+took_any (event.Taken channel m ∷ past) = false
+took_any (e ∷ past) = took_any past
+
+-- the command takes a message that goes to a pager of this backing
+abbrev pub takes_up : Header → Device → Command → Bool
+takes_up header who (command.Take (Up host object)) = is_device who (device_of header object)
+takes_up header who other = false
 
 -- the command takes a message that goes to a pager
-abbrev pub takes_up : Command → Bool
-takes_up (command.Take (Up host object)) = true
-takes_up other = false
+abbrev pub takes_any : Command → Bool
+takes_any (command.Take (Up host object)) = true
+takes_any other = false
 
-abbrev pub arms_paging : Command → Option ℕ
-arms_paging (command.FailPaging count) = Some count
-arms_paging other = None
+-- the command arms this backing
+abbrev pub arms : Device → Command → Option ℕ
+arms device.Files (command.FailFiles count) = Some count
+arms device.Paging (command.FailPaging count) = Some count
+arms who other = None
 
--- what a command leaves of the paging area's arming
-pub record LeavesPaging {B : Type 0} (doing : Command) (old new : Arming B) : Type 0 where
-  pub armed : (count : ℕ) → arms_paging doing ≡ Some count → new ≡ record { inner = old.inner; left = count; reached = old.reached }
-  pub same : arms_paging doing ≡ None → takes_up doing ≡ false → new ≡ old
+-- what a command leaves of a backing's arming: `fail` arms it, and else only a pager's call changes it
+pub record LeavesBacking {B : Type 0} (header : Header) (who : Device) (doing : Command) (old new : Arming B) : Type 0 where
+  pub armed : (count : ℕ) → arms who doing ≡ Some count → new ≡ record { inner = old.inner; left = count; reached = old.reached }
+  pub same : arms who doing ≡ None → takes_up header who doing ≡ false → new ≡ old
 
--- memory ended in a step, before which the front stands: nothing was told, and the paging area's arming has come no nearer; or a pager took a message
-abbrev pub IsMemoryStop : {B : Type 0} → (List Event → List Event) → List Event → List Event → Arming B → Arming B → Type 0
-IsMemoryStop front old new before after = ((new ≡ old) × (after.left ≡ before.left)) ⊎ ((front new ≡ old) × (took_up new ≡ true))
+-- memory ended in a step, before which the front stands: nothing was told, and the backing's arming has come no nearer; or a pager took a message, and the
+-- backing is as it was unless that was a pager of its own
+abbrev pub IsMemoryStop : {B : Type 0} → Header → Device → (List Event → List Event) → List Event → List Event → Arming B → Arming B → Type 0
+IsMemoryStop header who front old new before after = ((new ≡ old) × (after.left ≡ before.left)) ⊎ ((front new ≡ old) × (took_any new ≡ true) × (took_up header who new ≡ false → after ≡ before))
 
 -- the command is no host's
 abbrev pub is_idle : Command → Bool
 is_idle (command.FailFiles count) = true
 is_idle (command.FailPaging count) = true
+is_idle (command.Clean object page count flush) = true
 is_idle other = false
-
--- the commands that a system runs
-abbrev pub system_runs : Command → Bool
-system_runs (command.Take channel) = true
-system_runs (command.Settle count) = true
-system_runs (command.FailFiles count) = true
-system_runs (command.FailPaging count) = true
-system_runs other = is_run other

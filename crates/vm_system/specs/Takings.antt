@@ -17,7 +17,7 @@ use Rattle.vm_legal.specs.Stretches.{AllInner, EachIn, EachOf, MomentsIn}
 use Rattle.vm_hosts.specs.Hosts.{AllRest}
 use Rattle.vm_hosts.specs.Steps.{EventsFollow, Going, PagerStep, Step}
 use Rattle.vm_system.specs.Channels.{channel_number}
-use Rattle.vm_system.specs.Stands.{Agrees, SystemStands}
+use Rattle.vm_system.specs.Stands.{Agrees, IsOfFiles, SystemStands}
 use Rattle.vm_system.specs.Steps.{lined}
 use Rattle.vm_system.specs.declared.state.State.{State}
 
@@ -54,6 +54,7 @@ MayBeCut given old new = (new ≡ old) ⊎ TakesStep given new
 
 -- the pager of a host took a message and answered, and no kernel did anything yet
 pub record PagerHasAnswered (given : Going) (host : HostId) (washed : Bool) (s : State) : Type 0 where
+  pub built : IsOfFiles given.header
   pub is : s.history.items ≡ given.front ++ given.past
   pub rests : AllRest given.header s.hosts given.past
   pub agrees : Agrees given.header given.outside s

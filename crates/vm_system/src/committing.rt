@@ -83,10 +83,10 @@ impl State {
         self.deliver(*channel, message);
     }
 
-    // Sends a message once more, on its channel, which it makes if it is a create.
+    // Sends a message once more, on its channel, which it may make if it is an init or a create.
     fn deliver(&mut self, channel: Channel, message: &Message)
-        requires fresh { AreFresh (made_by channel message.now) self.old.channels.made }
-        requires known { is_some (channel_number channel (self.old.channels.made ++ made_by channel message.now)) ≡ true }
+        requires fresh { AreFresh (made_by self.old.channels.made channel message.now) self.old.channels.made }
+        requires known { is_some (channel_number channel (self.old.channels.made ++ made_by self.old.channels.made channel message.now)) ≡ true }
         requires count { length self.old.channels.made ≡ self.old.ports.channels }
         requires size { HasPageOf self.old.buffers.size message.now }
         requires room { HasRoom 1 self.old }
@@ -97,23 +97,28 @@ impl State {
         self.send(channel, copy);
     }
 
-    // A create makes its two channels.
+    // An init and a create make the channel of their control, and the one up where it isn't there.
     fn open(&mut self, channel: Channel, message: &Message)
-        requires fresh { AreFresh (made_by channel message.now) self.old.channels.made }
+        requires fresh { AreFresh (made_by self.old.channels.made channel message.now) self.old.channels.made }
         requires room { 2 ≤ self.old.channels.room }
         requires spare { 2 ≤ spare_channels self.old.ports }
-        ensures { Added (made_by channel message.now) self.old self.new }
+        ensures { Added (made_by self.old.channels.made channel message.now) self.old self.new }
     {
-        if let (Channel::Up { host, object }, Message::Create { control, .. }) = (
-            channel, message,
-        ) {
+        let Channel::Up { host, object } = channel else {
+            return;
+        };
+        let control = match message {
+            Message::Init { control, .. } | Message::Create { control, .. } => *control,
+            _ => return,
+        };
+        if self.channels.number(channel).is_none() {
             self.add(channel);
-            self.add(Channel::Down {
-                host,
-                object,
-                control: *control,
-            });
         }
+        self.add(Channel::Down {
+            host,
+            object,
+            control,
+        });
     }
 
     // Makes a channel, for which there is room.

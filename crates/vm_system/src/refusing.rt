@@ -1,14 +1,17 @@
 // Why a command is refused.
-ghost use Rattle.std.specs.Prelude.{◌≡◌, true, length, None};
+ghost use Rattle.std.specs.Prelude.{◌≡◌, ◌<◌, ◌&&◌, true, is_none, length, None, Some};
+ghost use Rattle.vm_model.specs.declared.command.Command.TheVariants as command;
+ghost use Rattle.vm_model.specs.declared.message.Message.{Message as Word};
 ghost use Rattle.vm_model.specs.Ranges.{InRange};
+ghost use Rattle.vm_legal.specs.Follows.{head};
 ghost use Rattle.vm_legal.specs.Refusal.{refusal};
-ghost use Rattle.vm_system.specs.Refusing.{channel_code};
+ghost use Rattle.vm_model.specs.Named.{named};
+ghost use Rattle.vm_system.specs.Refusing.{channel_code, clean_code};
 ghost use Rattle.vm_system.specs.Stands.{SystemStands};
 ghost use Rattle.vm_hosts.specs.Steps.{Step};
-ghost use Rattle.vm_system.specs.Steps.{system_runs};
 
 use crate::state::State;
-use vm_base::Code;
+use vm_base::{Code, HostId, ObjectId, PageNo};
 use vm_model::{Channel, Command};
 
 impl State {
@@ -18,13 +21,66 @@ impl State {
         requires stands { SystemStands given.header given.outside self.now }
         requires past { given.past ≡ self.now.history.items }
         requires range { InRange given.header command.now }
-        requires built { system_runs command.now ≡ true }
         ensures { result ≡ refusal given.header self.now.history.items command.now }
     {
         match command {
             Command::Take { channel } => self.take_refusal(*channel),
+            Command::Clean {
+                object,
+                page,
+                count,
+                ..
+            } => self.clean_refusal(*object, *page, *count),
+            Command::Say { host, object, .. } => Some(self.say_refusal(*host, *object)),
             Command::Settle { .. } | Command::FailFiles { .. } | Command::FailPaging { .. } => None,
             _ => self.hosts.refusal(command),
+        }
+    }
+
+    // A clean is of some pages of a file, all within it.
+    fn clean_refusal(&self, object: ObjectId, page: PageNo, count: u32) -> Option<Code>
+        ghost given: { Step }
+        requires stands { SystemStands given.header given.outside self.now }
+        requires declared { object.0 < named given.header }
+        ensures { result ≡ clean_code given.header object page count }
+    {
+        if count == 0
+            || u64::from(page.0) + u64::from(count) > u64::from(self.pages[object.0 as usize])
+        {
+            return Some(Code::InvalidArgument);
+        }
+        None
+    }
+
+    // Nothing is said for a file, whose pager is the system's own.
+    fn say_refusal(&self, host: HostId, object: ObjectId) -> Code
+        ghost given: { Step }
+        requires stands { SystemStands given.header given.outside self.now }
+        requires past { given.past ≡ self.now.history.items }
+        requires known { host.0 < length given.header.frames.items }
+        requires declared { object.0 < named given.header }
+        ensures { (m : Word) → Some result ≡ refusal given.header self.now.history.items (command.Say host object m) }
+    {
+        if self.hosts.has_control(host, object) {
+            Code::InvalidArgument
+        } else {
+            Code::NoSuchName
+        }
+    }
+
+    // Whether a command that isn't refused copies from an entry on a declared object, which isn't built.
+    pub fn copies_declared(&self, command: &Command) -> bool
+        ghost given: { Step }
+        requires stands { SystemStands given.header given.outside self.now }
+        requires past { given.past ≡ self.now.history.items }
+        requires range { InRange given.header command.now }
+        ensures { result ≡ (is_none (refusal given.header self.now.history.items command.now) && is_none (head given.header self.now.history.items command.now)) }
+    {
+        match command {
+            Command::Copy { .. } => {
+                self.refusal(command).is_none() && self.hosts.copies_declared(command)
+            }
+            _ => false,
         }
     }
 

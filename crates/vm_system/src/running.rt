@@ -1,9 +1,10 @@
 // Steps of commands that take no message.
-ghost use Rattle.std.specs.Prelude.{◌≡◌, ◌∷◌, ◌++◌, ℕ, List, None, Some, OnOk, OnErr, true, false, [], IfOk};
+ghost use Rattle.std.specs.Prelude.{◌≡◌, ◌∷◌, ◌++◌, ℕ, List, None, Some, OnOk, OnErr, true, false, [], IfOk, IsSome};
 ghost use Rattle.vm_base.specs.declared.code.Code.{Code};
 ghost use Rattle.vm_model.specs.declared.command.Numbered.{Numbered};
 ghost use Rattle.vm_model.specs.declared.event.Event.TheVariants as event;
 ghost use Rattle.vm_model.specs.Ranges.{InRange};
+ghost use Rattle.vm_legal.specs.Follows.{head};
 ghost use Rattle.vm_legal.specs.Refusal.{refusal};
 ghost use Rattle.vm_hosts.specs.Steps.{Step};
 ghost use Rattle.vm_kernel.specs.Built.{kernel_runs as is_run};
@@ -26,6 +27,7 @@ impl State {
         requires range { InRange given.header command.now }
         requires run { is_run command.now ≡ true }
         requires accepted { refusal given.header self.old.history.items command.now ≡ None }
+        requires head { IsSome (head given.header given.past command.now) }
         ensures made { OnOk result (Makes given.header given.outside (record { line = line; command = command.now }) self.old self.new) }
         ensures spares { Spares given.header given.outside self.old self.new }
         ensures err { OnErr result (self.new.history.items ≡ self.old.history.items) }
@@ -34,18 +36,42 @@ impl State {
         self.append(line, events)
     }
 
-    // A command that is no host's: the frame queues are served.
+    // A command that is no host's: a file's pager says what a clean asks of it, and the frame queues are
+    // served.
     pub fn pass(&mut self, line: u32, command: &Command) -> Result<(), NoMemory>
         ghost given: { Step }
         requires given { given ≡ record { header = given.header; outside = given.outside; command = command.now; past = event.Line line ∷ self.old.history.items } }
         requires stands { SystemStands given.header given.outside self.old }
+        requires range { InRange given.header command.now }
         requires idle { is_idle command.now ≡ true }
+        requires accepted { refusal given.header self.old.history.items command.now ≡ None }
         ensures made { OnOk result (Makes given.header given.outside (record { line = line; command = command.now }) self.old self.new) }
         ensures spares { Spares given.header given.outside self.old self.new }
         ensures err { OnErr result (self.new.history.items ≡ self.old.history.items) }
     {
-        let events = self.hosts.pass()?;
+        let mut events = self.asked(command)?;
+        self.hosts.serve(&mut events)?;
         self.append(line, events)
+    }
+
+    // What a file's pager says for a clean.
+    fn asked(&self, command: &Command) -> Result<Events, NoMemory>
+        ghost given: { Step }
+        requires stands { SystemStands given.header given.outside self.now }
+        requires past { (line : ℕ) × (given.past ≡ event.Line line ∷ self.now.history.items) }
+        requires range { InRange given.header command.now }
+        requires idle { is_idle command.now ≡ true }
+        ensures { IfOk result (λ events. head given.header given.past command.now ≡ Some events.items) }
+    {
+        match command {
+            Command::Clean {
+                object,
+                page,
+                count,
+                flush,
+            } => self.files[object.0 as usize].clean(*page, *count, *flush),
+            _ => Ok(Events::new(self.alloc)),
+        }
     }
 
     // A line, and the events behind it.

@@ -2,6 +2,7 @@
 
 use crate::channels::Channels;
 use pg_default::DefaultPager;
+use pg_file::FilePager;
 use std::alloc::Global;
 use vm_base::{Buffers, PageSize};
 use vm_hosts::Hosts;
@@ -15,6 +16,10 @@ pub struct State {
     pub hosts: Hosts,
     // By the numbers of their hosts.
     pub pagers: Vec<DefaultPager>,
+    // By the numbers of the declared objects, all of which are files.
+    pub files: Vec<FilePager>,
+    // The pages of these objects.
+    pub pages: Vec<u32>,
     pub ports: Ports<Message>,
     pub channels: Channels,
     pub buffers: Buffers,

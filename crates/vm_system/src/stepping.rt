@@ -1,15 +1,19 @@
 // One command's step.
-ghost use Rattle.std.specs.Prelude.{◌≡◌, ◌∷◌, ℕ, false, true, None, Some, OnErr, OnOk};
+ghost use Rattle.std.specs.Prelude.{◌≡◌, ◌∷◌, ℕ, List, false, true, None, Some, IsSome, OnErr, OnOk};
 ghost use Rattle.vm_model.specs.Moments.{before_last_line};
 ghost use Rattle.vm_model.specs.Ranges.{InRange};
+ghost use Rattle.vm_model.specs.declared.event.Device.TheVariants as device;
+ghost use Rattle.vm_outside.specs.Areas.{Told};
+ghost use Rattle.vm_system.specs.Keeping.{FilesCarry};
+ghost use Rattle.vm_legal.specs.Follows.{head};
 ghost use Rattle.vm_legal.specs.Refusal.{refusal};
 ghost use Rattle.vm_model.specs.declared.message.Channel.{Channel};
 ghost use Rattle.vm_model.specs.declared.command.Command.TheVariants as command;
 ghost use Rattle.vm_model.specs.declared.event.Event.TheVariants as event;
 ghost use Rattle.vm_hosts.specs.Steps.{Step};
 ghost use Rattle.vm_system.specs.Making.{Makes};
-ghost use Rattle.vm_system.specs.Stands.{PagingIsKept, SystemStands};
-ghost use Rattle.vm_system.specs.Steps.{DevicesHaveCause, GrowsWithinLimit, IsMemoryStop, LeavesFiles, LeavesPaging, MayCut, Setting, arms_paging, system_runs, takes_up, took_up};
+ghost use Rattle.vm_system.specs.Stands.{FilesAreKept, PagingIsKept, SystemStands};
+ghost use Rattle.vm_system.specs.Steps.{DevicesHaveCause, GrowsWithinLimit, IsMemoryStop, LeavesBacking, MayCut, Setting, arms, takes_any, takes_up, took_up};
 
 use crate::state::State;
 use vm_base::NoMemory;
@@ -28,27 +32,33 @@ impl State {
         ghost given: { Setting }
         requires stands { SystemStands given.header given.outside self.old }
         requires kept { PagingIsKept given.header given.outside (P.area paging.old.inner) self.old }
+        requires files { FilesAreKept given.header given.outside (F.area files.old.inner) self.old }
         requires range { InRange given.header command.now }
-        requires built { system_runs command.now ≡ true }
+        requires head { refusal given.header self.old.history.items command.now ≡ None → IsSome (head given.header self.old.history.items command.now) }
         ensures made { OnOk result (Makes given.header given.outside (record { line = line; command = command.now }) self.old self.new) }
         ensures grew { GrowsWithinLimit self.old.history.items self.new.history.items }
         ensures memory { OnErr result (MayCut given.header given.outside (record { line = line; command = command.now }) self.old.history.items self.new.history.items) }
         ensures kept { PagingIsKept given.header given.outside (P.area paging.new.inner) self.new }
+        ensures files_kept { FilesAreKept given.header given.outside (F.area files.new.inner) self.new }
+        ensures carried { (start : List ℕ → Told) → FilesCarry given.header start (F.area files.old.inner) self.old.history.items → FilesCarry given.header start (F.area files.new.inner) self.new.history.items }
         ensures alone { OnOk result ((count : ℕ) → command.now ≡ Command.Settle count → self.new.history.items ≡ event.Line line ∷ self.old.history.items) }
-        ensures files { OnOk result (LeavesFiles command.now files.old files.new) }
-        ensures paging { OnOk result (LeavesPaging command.now paging.old paging.new) }
-        ensures unasked { OnOk result (arms_paging command.now ≡ None → took_up self.new.history.items ≡ false → paging.new ≡ paging.old) }
-        ensures later { arms_paging command.now ≡ None → ⟦<Armed<P> as Backing>⟧.later paging.old paging.new }
-        ensures unarmed { OnErr result (files.new ≡ files.old) }
-        ensures calm { OnErr result (takes_up command.now ≡ false → (self.new.history.items ≡ self.old.history.items) × (paging.new ≡ paging.old)) }
-        ensures stops { OnErr result (IsMemoryStop before_last_line self.old.history.items self.new.history.items paging.old paging.new) }
-        ensures devices { DevicesHaveCause (⟦<Armed<P> as Backing>⟧.faults paging.old) (⟦<Armed<P> as Backing>⟧.faults paging.new) self.old.history.items self.new.history.items }
+        ensures files { OnOk result (LeavesBacking given.header device.Files command.now files.old files.new) }
+        ensures paging { OnOk result (LeavesBacking given.header device.Paging command.now paging.old paging.new) }
+        ensures files_unasked { OnOk result (arms device.Files command.now ≡ None → took_up given.header device.Files self.new.history.items ≡ false → files.new ≡ files.old) }
+        ensures unasked { OnOk result (arms device.Paging command.now ≡ None → took_up given.header device.Paging self.new.history.items ≡ false → paging.new ≡ paging.old) }
+        ensures files_later { arms device.Files command.now ≡ None → ⟦<Armed<F> as Backing>⟧.later files.old files.new }
+        ensures later { arms device.Paging command.now ≡ None → ⟦<Armed<P> as Backing>⟧.later paging.old paging.new }
+        ensures calm { OnErr result (takes_any command.now ≡ false → (self.new.history.items ≡ self.old.history.items) × (files.new ≡ files.old) × (paging.new ≡ paging.old)) }
+        ensures files_stops { OnErr result (IsMemoryStop given.header device.Files before_last_line self.old.history.items self.new.history.items files.old files.new) }
+        ensures stops { OnErr result (IsMemoryStop given.header device.Paging before_last_line self.old.history.items self.new.history.items paging.old paging.new) }
+        ensures devices { DevicesHaveCause device.Paging (⟦<Armed<P> as Backing>⟧.faults paging.old) (⟦<Armed<P> as Backing>⟧.faults paging.new) self.old.history.items self.new.history.items }
+        ensures files_devices { DevicesHaveCause device.Files (⟦<Armed<F> as Backing>⟧.faults files.old) (⟦<Armed<F> as Backing>⟧.faults files.new) self.old.history.items self.new.history.items }
     {
         if let Some(code) = self.refusal(command) {
             return self.refuse(line, command, code);
         }
         match command {
-            Command::Take { channel } => self.take_from(line, *channel, paging),
+            Command::Take { channel } => self.take_from(line, *channel, files, paging),
             Command::Settle { count } => self.settle(line, *count),
             Command::FailFiles { count } => {
                 self.pass(line, command)?;
@@ -60,36 +70,47 @@ impl State {
                 paging.arm(u64::from(*count));
                 Ok(())
             }
+            Command::Clean { .. } => self.pass(line, command),
+            Command::Say { .. } => unreachable!(),
             _ => self.begin(line, command),
         }
     }
 
     // The first message of a channel that isn't empty is taken, for the command of a line.
-    fn take_from<P: Backing>(
+    fn take_from<F: Backing, P: Backing>(
         &mut self,
         line: u32,
         channel: Channel,
+        files: &mut Armed<F>,
         paging: &mut Armed<P>,
     ) -> Result<(), NoMemory>
         ghost given: { Step }
         requires given { given ≡ record { header = given.header; outside = given.outside; command = command.Take channel; past = event.Line line ∷ self.old.history.items } }
         requires stands { SystemStands given.header given.outside self.old }
         requires kept { PagingIsKept given.header given.outside (P.area paging.old.inner) self.old }
+        requires files { FilesAreKept given.header given.outside (F.area files.old.inner) self.old }
         requires accepted { refusal given.header self.old.history.items (command.Take channel) ≡ None }
         ensures made { OnOk result (Makes given.header given.outside (record { line = line; command = command.Take channel }) self.old self.new) }
         ensures grew { GrowsWithinLimit self.old.history.items self.new.history.items }
         ensures memory { OnErr result (MayCut given.header given.outside (record { line = line; command = command.Take channel }) self.old.history.items self.new.history.items) }
         ensures kept { PagingIsKept given.header given.outside (P.area paging.new.inner) self.new }
-        ensures paging { takes_up (command.Take channel) ≡ false → paging.new ≡ paging.old }
-        ensures unasked { OnOk result (took_up self.new.history.items ≡ false → paging.new ≡ paging.old) }
+        ensures files_kept { FilesAreKept given.header given.outside (F.area files.new.inner) self.new }
+        ensures carried { (start : List ℕ → Told) → FilesCarry given.header start (F.area files.old.inner) self.old.history.items → FilesCarry given.header start (F.area files.new.inner) self.new.history.items }
+        ensures files { takes_up given.header device.Files (command.Take channel) ≡ false → files.new ≡ files.old }
+        ensures paging { takes_up given.header device.Paging (command.Take channel) ≡ false → paging.new ≡ paging.old }
+        ensures files_unasked { OnOk result (took_up given.header device.Files self.new.history.items ≡ false → files.new ≡ files.old) }
+        ensures unasked { OnOk result (took_up given.header device.Paging self.new.history.items ≡ false → paging.new ≡ paging.old) }
+        ensures files_later { ⟦<Armed<F> as Backing>⟧.later files.old files.new }
         ensures later { ⟦<Armed<P> as Backing>⟧.later paging.old paging.new }
-        ensures calm { OnErr result (takes_up (command.Take channel) ≡ false → (self.new.history.items ≡ self.old.history.items) × (paging.new ≡ paging.old)) }
-        ensures stops { OnErr result (IsMemoryStop before_last_line self.old.history.items self.new.history.items paging.old paging.new) }
-        ensures devices { DevicesHaveCause (⟦<Armed<P> as Backing>⟧.faults paging.old) (⟦<Armed<P> as Backing>⟧.faults paging.new) self.old.history.items self.new.history.items }
+        ensures calm { OnErr result (takes_any (command.Take channel) ≡ false → (self.new.history.items ≡ self.old.history.items) × (files.new ≡ files.old) × (paging.new ≡ paging.old)) }
+        ensures files_stops { OnErr result (IsMemoryStop given.header device.Files before_last_line self.old.history.items self.new.history.items files.old files.new) }
+        ensures stops { OnErr result (IsMemoryStop given.header device.Paging before_last_line self.old.history.items self.new.history.items paging.old paging.new) }
+        ensures devices { DevicesHaveCause device.Paging (⟦<Armed<P> as Backing>⟧.faults paging.old) (⟦<Armed<P> as Backing>⟧.faults paging.new) self.old.history.items self.new.history.items }
+        ensures files_devices { DevicesHaveCause device.Files (⟦<Armed<F> as Backing>⟧.faults files.old) (⟦<Armed<F> as Backing>⟧.faults files.new) self.old.history.items self.new.history.items }
     {
         let Some(number) = self.channels.number(channel) else {
             unreachable!()
         };
-        self.take(Some(line), number, paging)
+        self.take(Some(line), number, files, paging)
     }
 }

@@ -1,5 +1,5 @@
 // The whole system.
-ghost use Rattle.std.specs.Prelude.{◌≡◌, ◌≢◌, ◌+◌, ◌≤◌, ◌<◌, ◌↔◌, ◌⊎◌, ◌∷◌, ℕ, List, [], true, false, None, Ok, Some, IfOk, IsErrOf, IsOkAnd, IsTrue, OnOk, OnErr, length, nat_le};
+ghost use Rattle.std.specs.Prelude.{◌≡◌, ◌≢◌, ◌+◌, ◌≤◌, ◌<◌, ◌↔◌, ◌⊎◌, ◌&&◌, ◌^◌, ◌∷◌, ℕ, List, [], true, false, None, Ok, Some, IfOk, IsErrOf, IsOkAnd, IsSome, IsTrue, OnOk, OnErr, is_none, length, nat_le, slice_get};
 ghost use Rattle.vm_base.specs.Limits.{most_slots};
 ghost use Rattle.vm_base.specs.declared.code.Code.{Code};
 ghost use Rattle.vm_model.specs.Limits.{most_events};
@@ -8,23 +8,28 @@ ghost use Rattle.vm_legal.specs.Refusal.{refusal};
 ghost use Rattle.vm_legal.specs.Outside.{Outside};
 ghost use Rattle.vm_model.specs.declared.script.Header.{Header};
 ghost use Rattle.vm_legal.specs.Undelivered.{undelivered};
+ghost use Rattle.vm_model.specs.declared.event.Device.TheVariants as device;
 ghost use Rattle.vm_outside.specs.Areas.{Told};
+ghost use Rattle.vm_system.specs.Keeping.{FilesAreTold, FilesCarry};
 ghost use Rattle.vm_outside.specs.Arming.{ReachesOne};
 ghost use Rattle.vm_model.specs.declared.event.Event.TheVariants as event;
 ghost use Rattle.vm_legal.specs.Steps.{before_step, takings};
 ghost use Rattle.vm_model.specs.Moments.{before_last_line};
-ghost use Rattle.vm_kernel.specs.Matches.{IsPlain};
+ghost use Rattle.vm_kernel.specs.Matches.{IsRanged};
+ghost use Rattle.vm_legal.specs.Follows.{head};
+ghost use Rattle.vm_model.specs.Named.{declared_pages, named};
 ghost use Rattle.vm_hosts.specs.Steps.{Step};
-ghost use Rattle.vm_system.specs.Stands.{AllTold, AreEmpty, AreNumbered, PagingIsKept, SystemStands};
-ghost use Rattle.vm_system.specs.Steps.{DevicesHaveCause, GrowsWithinLimit, HasMore, IsMemoryStop, KeepsLegal, KeepsOpen, LeavesFiles, LeavesPaging, MayCut, MayCutOpen, Setting, arms_paging, system_runs, takes_up, took_up};
+ghost use Rattle.vm_system.specs.Stands.{AllFilesServe, AllTold, AreEmpty, AreNumbered, FilesAreKept, IsOfFiles, PagingIsKept, SystemStands};
+ghost use Rattle.vm_system.specs.Steps.{DevicesHaveCause, GrowsWithinLimit, HasMore, IsMemoryStop, KeepsLegal, KeepsOpen, LeavesBacking, MayCut, MayCutOpen, Setting, arms, takes_any, took_up};
 
 use crate::channels::Channels;
 use crate::state::State;
 use crate::stop::SystemStop;
 use pg_default::DefaultPager;
+use pg_file::FilePager;
 use std::alloc::Global;
 use std::marker::Model;
-use vm_base::{Buffers, Code, HostId, NoMemory};
+use vm_base::{Buffers, Code, HostId, NoMemory, ObjectId};
 use vm_hosts::Hosts;
 use vm_model::limits::MOST_EVENTS;
 use vm_model::{Command, Header, History};
@@ -50,20 +55,26 @@ impl Model for System {
 impl System {
     /// Nothing has happened yet; the hosts' frames are taken.
     pub fn new(alloc: Global, header: &Header) -> Result<System, NoMemory>
-        requires plain { IsPlain header.now }
+        requires built { IsOfFiles header.now }
         requires few { header.now.slots ≤ most_slots }
         ensures stands { (outside : Outside) → IfOk result (λ system. SystemStands header.now outside system) }
         ensures kept { (outside : Outside) → (areas : List ℕ → Told) → IfOk result (λ system. (outside.paging ≡ true → AllTold areas system.pagers.items) → PagingIsKept header.now outside areas system) }
+        ensures files { (outside : Outside) → (areas : List ℕ → Told) → IfOk result (λ system. FilesAreTold header.now outside areas → FilesAreKept header.now outside areas system) }
+        ensures carried { (areas : List ℕ → Told) → FilesCarry header.now areas areas [] }
         ensures nothing { IfOk result (λ system. system.history.items ≡ []) }
         ensures pagers { IfOk result (λ system. AreNumbered header.now system.pagers.items) }
     {
         let hosts = Hosts::new(alloc, header)?;
         let pagers = make_pagers(alloc, header)?;
+        let files = make_files(alloc, header)?;
+        let pages = make_pages(alloc, header)?;
         let state = State {
             alloc,
             size: header.size,
             hosts,
             pagers,
+            files,
+            pages,
             ports: Ports::new(alloc),
             channels: Channels::new(alloc),
             buffers: Buffers::new(alloc, header.size),
@@ -77,10 +88,20 @@ impl System {
         ghost given: { Setting }
         requires stands { SystemStands given.header given.outside self.now }
         requires range { InRange given.header command.now }
-        requires built { system_runs command.now ≡ true }
         ensures { result ≡ refusal given.header self.now.history.items command.now }
     {
         self.state.refusal(command)
+    }
+
+    /// Whether a command that isn't refused copies from an entry on a declared object, which isn't built. It
+    /// takes no memory.
+    pub fn copies_declared(&self, command: &Command) -> bool
+        ghost given: { Setting }
+        requires stands { SystemStands given.header given.outside self.now }
+        requires range { InRange given.header command.now }
+        ensures { result ≡ (is_none (refusal given.header self.now.history.items command.now) && is_none (head given.header self.now.history.items command.now)) }
+    {
+        self.state.copies_declared(command)
     }
 
     /// Makes one command's step, and gives the number of events that it added; of a `settle` that
@@ -98,8 +119,9 @@ impl System {
         ghost given: { Setting }
         requires stands { SystemStands given.header given.outside self.old }
         requires kept { PagingIsKept given.header given.outside (P.area paging.old.inner) self.old }
+        requires files { FilesAreKept given.header given.outside (F.area files.old.inner) self.old }
         requires range { InRange given.header command.now }
-        requires built { system_runs command.now ≡ true }
+        requires head { refusal given.header self.old.history.items command.now ≡ None → IsSome (head given.header self.old.history.items command.now) }
         ensures stands { OnOk result (SystemStands given.header given.outside self.new) }
         ensures legal { OnOk result (KeepsLegal given.header given.outside (record { line = line; command = command.now }) self.old.history.items self.new.history.items) }
         ensures count { IfOk result (λ n. length self.new.history.items ≡ length self.old.history.items + n) }
@@ -110,18 +132,24 @@ impl System {
         ensures unchanged { IsErrOf result SystemStop.EventLimit → (self.new ≡ self.old) × (files.new ≡ files.old) × (paging.new ≡ paging.old) }
         ensures memory { IsErrOf result SystemStop.NoMemory → MayCut given.header given.outside (record { line = line; command = command.now }) self.old.history.items self.new.history.items }
         ensures kept { PagingIsKept given.header given.outside (P.area paging.new.inner) self.new }
+        ensures files_kept { FilesAreKept given.header given.outside (F.area files.new.inner) self.new }
+        ensures carried { (start : List ℕ → Told) → FilesCarry given.header start (F.area files.old.inner) self.old.history.items → FilesCarry given.header start (F.area files.new.inner) self.new.history.items }
         ensures alone { OnOk result ((count : ℕ) → command.now ≡ Command.Settle count → self.new.history.items ≡ event.Line line ∷ self.old.history.items) }
 
-        // The backings; at an error the files are as they were, and so is all else unless the command takes a message that goes to a pager.
-        ensures files { OnOk result (LeavesFiles command.now files.old files.new) }
-        ensures unarmed { OnErr result (files.new ≡ files.old) }
-        ensures paging { OnOk result (LeavesPaging command.now paging.old paging.new) }
-        ensures unasked { OnOk result (arms_paging command.now ≡ None → took_up self.new.history.items ≡ false → paging.new ≡ paging.old) }
-        ensures later { arms_paging command.now ≡ None → ⟦<Armed<P> as Backing>⟧.later paging.old paging.new }
+        // The backings; at an error all is as it was, unless the command takes a message that goes to a pager.
+        ensures files { OnOk result (LeavesBacking given.header device.Files command.now files.old files.new) }
+        ensures paging { OnOk result (LeavesBacking given.header device.Paging command.now paging.old paging.new) }
+        ensures files_unasked { OnOk result (arms device.Files command.now ≡ None → took_up given.header device.Files self.new.history.items ≡ false → files.new ≡ files.old) }
+        ensures unasked { OnOk result (arms device.Paging command.now ≡ None → took_up given.header device.Paging self.new.history.items ≡ false → paging.new ≡ paging.old) }
+        ensures files_later { arms device.Files command.now ≡ None → ⟦<Armed<F> as Backing>⟧.later files.old files.new }
+        ensures later { arms device.Paging command.now ≡ None → ⟦<Armed<P> as Backing>⟧.later paging.old paging.new }
+        ensures files_reached { ReachesOne files.old files.new }
         ensures reached { ReachesOne paging.old paging.new }
-        ensures calm { OnErr result (takes_up command.now ≡ false → (self.new.history.items ≡ self.old.history.items) × (paging.new ≡ paging.old)) }
-        ensures stops { OnErr result (IsMemoryStop before_last_line self.old.history.items self.new.history.items paging.old paging.new) }
-        ensures devices { DevicesHaveCause (⟦<Armed<P> as Backing>⟧.faults paging.old) (⟦<Armed<P> as Backing>⟧.faults paging.new) self.old.history.items self.new.history.items }
+        ensures calm { OnErr result (takes_any command.now ≡ false → (self.new.history.items ≡ self.old.history.items) × (files.new ≡ files.old) × (paging.new ≡ paging.old)) }
+        ensures files_stops { OnErr result (IsMemoryStop given.header device.Files before_last_line self.old.history.items self.new.history.items files.old files.new) }
+        ensures stops { OnErr result (IsMemoryStop given.header device.Paging before_last_line self.old.history.items self.new.history.items paging.old paging.new) }
+        ensures devices { DevicesHaveCause device.Paging (⟦<Armed<P> as Backing>⟧.faults paging.old) (⟦<Armed<P> as Backing>⟧.faults paging.new) self.old.history.items self.new.history.items }
+        ensures files_devices { DevicesHaveCause device.Files (⟦<Armed<F> as Backing>⟧.faults files.old) (⟦<Armed<F> as Backing>⟧.faults files.new) self.old.history.items self.new.history.items }
     {
         if self.is_full() {
             return Err(SystemStop::EventLimit);
@@ -144,27 +172,34 @@ impl System {
         ghost given: { Step }
         requires stands { SystemStands given.header given.outside self.old }
         requires kept { PagingIsKept given.header given.outside (P.area paging.old.inner) self.old }
+        requires files { FilesAreKept given.header given.outside (F.area files.old.inner) self.old }
         requires past { given.past ≡ self.old.history.items }
         requires more { HasMore given.command self.old.history.items }
         ensures stands { OnOk result (SystemStands given.header given.outside self.new) }
         ensures legal { IfOk result (λ took. took ≡ true → KeepsOpen given.header given.outside given.command self.old.history.items self.new.history.items) }
-        ensures quiet { IfOk result (λ took. took ≡ false → (undelivered self.old.history.items ≡ []) × (self.new ≡ self.old) × (paging.new ≡ paging.old)) }
+        ensures quiet { IfOk result (λ took. took ≡ false → (undelivered self.old.history.items ≡ []) × (self.new ≡ self.old) × (files.new ≡ files.old) × (paging.new ≡ paging.old)) }
         ensures some { IfOk result (λ took. took ≡ true → undelivered self.old.history.items ≢ []) }
         ensures calm { undelivered self.old.history.items ≡ [] → result ≡ Ok false }
         ensures count { IfOk result (λ took. took ≡ true → takings self.new.history.items ≡ takings self.old.history.items + 1) }
         ensures below { IfOk result (λ took. took ≡ true → length self.old.history.items < most_events) }
         ensures grew { GrowsWithinLimit self.old.history.items self.new.history.items }
         ensures front { IfOk result (λ took. took ≡ true → before_step self.new.history.items ≡ self.old.history.items) }
-        ensures files { files.new ≡ files.old }
-        ensures unasked { IfOk result (λ took. took ≡ true → took_up self.new.history.items ≡ false → paging.new ≡ paging.old) }
+        ensures files_unasked { IfOk result (λ took. took ≡ true → took_up given.header device.Files self.new.history.items ≡ false → files.new ≡ files.old) }
+        ensures unasked { IfOk result (λ took. took ≡ true → took_up given.header device.Paging self.new.history.items ≡ false → paging.new ≡ paging.old) }
         ensures full { IsErrOf result SystemStop.EventLimit ↔ ((most_events ≤ length self.old.history.items) × (undelivered self.old.history.items ≢ [])) }
-        ensures unchanged { IsErrOf result SystemStop.EventLimit → (self.new ≡ self.old) × (paging.new ≡ paging.old) }
+        ensures unchanged { IsErrOf result SystemStop.EventLimit → (self.new ≡ self.old) × (files.new ≡ files.old) × (paging.new ≡ paging.old) }
         ensures memory { IsErrOf result SystemStop.NoMemory → MayCutOpen given.header given.outside given.command self.old.history.items self.new.history.items }
         ensures kept { PagingIsKept given.header given.outside (P.area paging.new.inner) self.new }
+        ensures files_kept { FilesAreKept given.header given.outside (F.area files.new.inner) self.new }
+        ensures carried { (start : List ℕ → Told) → FilesCarry given.header start (F.area files.old.inner) self.old.history.items → FilesCarry given.header start (F.area files.new.inner) self.new.history.items }
+        ensures files_later { ⟦<Armed<F> as Backing>⟧.later files.old files.new }
         ensures later { ⟦<Armed<P> as Backing>⟧.later paging.old paging.new }
+        ensures files_reached { ReachesOne files.old files.new }
         ensures reached { ReachesOne paging.old paging.new }
-        ensures stops { IsErrOf result SystemStop.NoMemory → IsMemoryStop before_step self.old.history.items self.new.history.items paging.old paging.new }
-        ensures devices { DevicesHaveCause (⟦<Armed<P> as Backing>⟧.faults paging.old) (⟦<Armed<P> as Backing>⟧.faults paging.new) self.old.history.items self.new.history.items }
+        ensures files_stops { IsErrOf result SystemStop.NoMemory → IsMemoryStop given.header device.Files before_step self.old.history.items self.new.history.items files.old files.new }
+        ensures stops { IsErrOf result SystemStop.NoMemory → IsMemoryStop given.header device.Paging before_step self.old.history.items self.new.history.items paging.old paging.new }
+        ensures devices { DevicesHaveCause device.Paging (⟦<Armed<P> as Backing>⟧.faults paging.old) (⟦<Armed<P> as Backing>⟧.faults paging.new) self.old.history.items self.new.history.items }
+        ensures files_devices { DevicesHaveCause device.Files (⟦<Armed<F> as Backing>⟧.faults files.old) (⟦<Armed<F> as Backing>⟧.faults files.new) self.old.history.items self.new.history.items }
     {
         let Some(number) = self.state.ports.oldest() else {
             return Ok(false);
@@ -172,7 +207,7 @@ impl System {
         if self.is_full() {
             return Err(SystemStop::EventLimit);
         }
-        self.state.take(None, number, paging)?;
+        self.state.take(None, number, files, paging)?;
         Ok(true)
     }
 
@@ -207,7 +242,7 @@ impl System {
 
 // The default pagers of the header's hosts.
 fn make_pagers(alloc: Global, header: &Header) -> Result<Vec<DefaultPager>, NoMemory>
-    requires plain { IsPlain header.now }
+    requires ranged { IsRanged header.now }
     requires few { header.now.slots ≤ most_slots }
     ensures numbered { IfOk result (λ pagers. AreNumbered header.now pagers.items) }
     ensures empty { IfOk result (λ pagers. AreEmpty header.now pagers.items) }
@@ -218,4 +253,29 @@ fn make_pagers(alloc: Global, header: &Header) -> Result<Vec<DefaultPager>, NoMe
         pagers.push(pager)?;
     }
     Ok(pagers)
+}
+
+// The pagers of the declared objects.
+fn make_files(alloc: Global, header: &Header) -> Result<Vec<FilePager>, NoMemory>
+    requires { named header.now < 2 ^ 32 }
+    ensures { IfOk result (λ files. AllFilesServe header.now files.items []) }
+{
+    let mut files = Vec::new(alloc);
+    'objects: for object in 0..header.objects.len() {
+        let name = header.objects.at(object).name;
+        let pager = FilePager::new(alloc, ObjectId(object), name, header.size)?;
+        files.push(pager)?;
+    }
+    Ok(files)
+}
+
+// The pages of the declared objects.
+fn make_pages(alloc: Global, header: &Header) -> Result<Vec<u32>, NoMemory>
+    ensures { IfOk result (λ pages. (object : ℕ) → object < named header.now → slice_get pages.items object ≡ Some (declared_pages header.now object)) }
+{
+    let mut pages = Vec::new(alloc);
+    'objects: for object in 0..header.objects.len() {
+        pages.push(header.objects.at(object).pages)?;
+    }
+    Ok(pages)
 }

@@ -1,14 +1,18 @@
 // Messages are taken.
-ghost use Rattle.std.specs.Prelude.{◌≡◌, ◌≢◌, ◌+◌, ◌<◌, ◌∷◌, ◌++◌, ℕ, List, None, Some, OnOk, OnErr, true, false, [], IfOk, length, slice_get};
+ghost use Rattle.std.specs.Prelude.{◌≡◌, ◌≢◌, ◌+◌, ◌<◌, ◌≤◌, ◌∷◌, ◌++◌, ℕ, List, None, Some, OnOk, OnErr, true, false, [], IfOk, length, slice_get};
 ghost use Rattle.vm_model.specs.declared.command.Command.TheVariants as command;
 ghost use Rattle.vm_model.specs.declared.message.Channel.{Channel};
 ghost use Rattle.vm_model.specs.declared.message.Channel.TheVariants as channels;
+ghost use Rattle.vm_model.specs.declared.event.Device.TheVariants as device;
+ghost use Rattle.vm_outside.specs.Areas.{Told};
+ghost use Rattle.vm_system.specs.Keeping.{FilesCarry};
 ghost use Rattle.vm_model.specs.Channels.{queue};
-ghost use Rattle.vm_system.specs.Making.{Spares};
-ghost use Rattle.vm_system.specs.Stands.{PagingIsKept, SystemStands};
+ghost use Rattle.vm_model.specs.Named.{named};
+ghost use Rattle.vm_system.specs.Making.{Spares, SparesFiles, SparesPaging};
+ghost use Rattle.vm_system.specs.Stands.{FilesAreKept, PagingIsKept};
 ghost use Rattle.vm_legal.specs.Homes.{gives_frame};
 ghost use Rattle.vm_hosts.specs.Steps.{Going, Step};
-ghost use Rattle.vm_system.specs.Steps.{DevicesHaveCause, takes_up};
+ghost use Rattle.vm_system.specs.Steps.{DevicesHaveCause, takes_any, takes_up};
 ghost use Rattle.vm_system.specs.Takings.{Followed, MayBeCut, MayTakeFrom, PagerHasAnswered, Took};
 
 use crate::state::State;
@@ -28,27 +32,34 @@ fn gives_frame(message: &Message) -> bool
 
 impl State {
     // Takes the first message of a channel, in the step of a command.
-    pub fn take<P: Backing>(
+    pub fn take<F: Backing, P: Backing>(
         &mut self,
         line: Option<u32>,
         number: ChannelId,
+        files: &mut Armed<F>,
         paging: &mut Armed<P>,
     ) -> Result<(), NoMemory>
         ghost given: { Step }
         requires may { (channel : Channel) × MayTakeFrom given line number channel self.old }
         requires kept { PagingIsKept given.header given.outside (P.area paging.old.inner) self.old }
+        requires files { FilesAreKept given.header given.outside (F.area files.old.inner) self.old }
         ensures took { OnOk result (Took given self.new) }
         ensures cut { OnErr result (MayBeCut given self.old.history.items self.new.history.items) }
         ensures kept { PagingIsKept given.header given.outside (P.area paging.new.inner) self.new }
-        ensures devices { DevicesHaveCause (⟦<Armed<P> as Backing>⟧.faults paging.old) (⟦<Armed<P> as Backing>⟧.faults paging.new) self.old.history.items self.new.history.items }
-        ensures paging { (channel : Channel) → slice_get self.old.channels.made number.0 ≡ Some channel → takes_up (command.Take channel) ≡ false → paging.new ≡ paging.old }
-        ensures down { OnErr result ((channel : Channel) → slice_get self.old.channels.made number.0 ≡ Some channel → takes_up (command.Take channel) ≡ false → self.new.history.items ≡ self.old.history.items) }
-        ensures unmoved { OnErr result (self.new.history.items ≡ self.old.history.items → paging.new.left ≡ paging.old.left) }
+        ensures files_kept { FilesAreKept given.header given.outside (F.area files.new.inner) self.new }
+        ensures carried { (start : List ℕ → Told) → FilesCarry given.header start (F.area files.old.inner) self.old.history.items → FilesCarry given.header start (F.area files.new.inner) self.new.history.items }
+        ensures devices { DevicesHaveCause device.Paging (⟦<Armed<P> as Backing>⟧.faults paging.old) (⟦<Armed<P> as Backing>⟧.faults paging.new) self.old.history.items self.new.history.items }
+        ensures files_devices { DevicesHaveCause device.Files (⟦<Armed<F> as Backing>⟧.faults files.old) (⟦<Armed<F> as Backing>⟧.faults files.new) self.old.history.items self.new.history.items }
+        ensures paging { (channel : Channel) → slice_get self.old.channels.made number.0 ≡ Some channel → takes_up given.header device.Paging (command.Take channel) ≡ false → paging.new ≡ paging.old }
+        ensures files { (channel : Channel) → slice_get self.old.channels.made number.0 ≡ Some channel → takes_up given.header device.Files (command.Take channel) ≡ false → files.new ≡ files.old }
+        ensures down { OnErr result ((channel : Channel) → slice_get self.old.channels.made number.0 ≡ Some channel → takes_any (command.Take channel) ≡ false → self.new.history.items ≡ self.old.history.items) }
+        ensures unmoved { OnErr result (self.new.history.items ≡ self.old.history.items → (paging.new.left ≡ paging.old.left) × (files.new.left ≡ files.old.left)) }
         ensures later { ⟦<Armed<P> as Backing>⟧.later paging.old paging.new }
+        ensures files_later { ⟦<Armed<F> as Backing>⟧.later files.old files.new }
     {
         let channel = self.channels.channel(number);
         match channel {
-            Channel::Up { host, object } => self.take_up(line, number, host, object, paging),
+            Channel::Up { host, object } => self.take_up(line, number, host, object, files, paging),
             Channel::Down {
                 host,
                 object,
@@ -85,8 +96,43 @@ impl State {
         Ok(())
     }
 
-    // The pager takes a message and answers, and then the host goes on.
-    fn take_up<P: Backing>(
+    // The pager of an object takes a message and answers, and then the hosts go on: of a declared object
+    // that is its own, and else the default pager of the host.
+    fn take_up<F: Backing, P: Backing>(
+        &mut self,
+        line: Option<u32>,
+        number: ChannelId,
+        host: HostId,
+        object: ObjectId,
+        files: &mut Armed<F>,
+        paging: &mut Armed<P>,
+    ) -> Result<(), NoMemory>
+        ghost given: { Step }
+        requires may { MayTakeFrom given line number (channels.Up host object) self.old }
+        requires kept { PagingIsKept given.header given.outside (P.area paging.old.inner) self.old }
+        requires files { FilesAreKept given.header given.outside (F.area files.old.inner) self.old }
+        ensures took { OnOk result (Took given self.new) }
+        ensures cut { OnErr result (MayBeCut given self.old.history.items self.new.history.items) }
+        ensures kept { PagingIsKept given.header given.outside (P.area paging.new.inner) self.new }
+        ensures files_kept { FilesAreKept given.header given.outside (F.area files.new.inner) self.new }
+        ensures carried { (start : List ℕ → Told) → FilesCarry given.header start (F.area files.old.inner) self.old.history.items → FilesCarry given.header start (F.area files.new.inner) self.new.history.items }
+        ensures devices { DevicesHaveCause device.Paging (⟦<Armed<P> as Backing>⟧.faults paging.old) (⟦<Armed<P> as Backing>⟧.faults paging.new) self.old.history.items self.new.history.items }
+        ensures files_devices { DevicesHaveCause device.Files (⟦<Armed<F> as Backing>⟧.faults files.old) (⟦<Armed<F> as Backing>⟧.faults files.new) self.old.history.items self.new.history.items }
+        ensures paging { takes_up given.header device.Paging (command.Take (channels.Up host object)) ≡ false → paging.new ≡ paging.old }
+        ensures files { takes_up given.header device.Files (command.Take (channels.Up host object)) ≡ false → files.new ≡ files.old }
+        ensures unmoved { OnErr result (self.new.history.items ≡ self.old.history.items → (paging.new.left ≡ paging.old.left) × (files.new.left ≡ files.old.left)) }
+        ensures later { ⟦<Armed<P> as Backing>⟧.later paging.old paging.new }
+        ensures files_later { ⟦<Armed<F> as Backing>⟧.later files.old files.new }
+    {
+        if (object.0 as usize) < self.files.len() {
+            self.take_filed(line, number, host, object, files)
+        } else {
+            self.take_paged(line, number, host, object, paging)
+        }
+    }
+
+    // The default pager of a host takes a message about a temporary object.
+    fn take_paged<P: Backing>(
         &mut self,
         line: Option<u32>,
         number: ChannelId,
@@ -96,11 +142,13 @@ impl State {
     ) -> Result<(), NoMemory>
         ghost given: { Step }
         requires may { MayTakeFrom given line number (channels.Up host object) self.old }
+        requires temporary { named given.header ≤ object.0 }
         requires kept { PagingIsKept given.header given.outside (P.area paging.old.inner) self.old }
         ensures took { OnOk result (Took given self.new) }
         ensures cut { OnErr result (MayBeCut given self.old.history.items self.new.history.items) }
         ensures kept { PagingIsKept given.header given.outside (P.area paging.new.inner) self.new }
-        ensures devices { DevicesHaveCause (⟦<Armed<P> as Backing>⟧.faults paging.old) (⟦<Armed<P> as Backing>⟧.faults paging.new) self.old.history.items self.new.history.items }
+        ensures devices { DevicesHaveCause device.Paging (⟦<Armed<P> as Backing>⟧.faults paging.old) (⟦<Armed<P> as Backing>⟧.faults paging.new) self.old.history.items self.new.history.items }
+        ensures spares { SparesFiles given.header given.outside self.old self.new }
         ensures unmoved { OnErr result (self.new.history.items ≡ self.old.history.items → paging.new.left ≡ paging.old.left) }
         ensures later { ⟦<Armed<P> as Backing>⟧.later paging.old paging.new }
     {
@@ -116,6 +164,40 @@ impl State {
         self.follow(host, fresh, washed)
     }
 
+    // The pager of a file takes a message.
+    fn take_filed<F: Backing>(
+        &mut self,
+        line: Option<u32>,
+        number: ChannelId,
+        host: HostId,
+        object: ObjectId,
+        files: &mut Armed<F>,
+    ) -> Result<(), NoMemory>
+        ghost given: { Step }
+        requires may { MayTakeFrom given line number (channels.Up host object) self.old }
+        requires declared { object.0 < named given.header }
+        requires files { FilesAreKept given.header given.outside (F.area files.old.inner) self.old }
+        ensures took { OnOk result (Took given self.new) }
+        ensures cut { OnErr result (MayBeCut given self.old.history.items self.new.history.items) }
+        ensures files_kept { FilesAreKept given.header given.outside (F.area files.new.inner) self.new }
+        ensures carried { (start : List ℕ → Told) → FilesCarry given.header start (F.area files.old.inner) self.old.history.items → FilesCarry given.header start (F.area files.new.inner) self.new.history.items }
+        ensures files_devices { DevicesHaveCause device.Files (⟦<Armed<F> as Backing>⟧.faults files.old) (⟦<Armed<F> as Backing>⟧.faults files.new) self.old.history.items self.new.history.items }
+        ensures spares { SparesPaging given.header given.outside self.old self.new }
+        ensures unmoved { OnErr result (self.new.history.items ≡ self.old.history.items → files.new.left ≡ files.old.left) }
+        ensures files_later { ⟦<Armed<F> as Backing>⟧.later files.old files.new }
+    {
+        self.reserve(4)?;
+        let Some(message) = self.ports.head(number) else {
+            unreachable!()
+        };
+        let washed = gives_frame(message);
+        let replies = self.files[object.0 as usize].answer(host, message, files)?;
+        let fresh = replies.len() + 1;
+        self.take_first(line, number);
+        self.commit(replies);
+        self.follow(host, fresh, washed)
+    }
+
     // The hosts go on behind the taking of a message by a pager of one, of which so many events were told.
     fn follow(&mut self, host: HostId, fresh: u32, washed: bool) -> Result<(), NoMemory>
         ghost given: { Going }
@@ -124,6 +206,7 @@ impl State {
         ensures followed { OnOk result (Followed given self.new) }
         ensures err { OnErr result (self.new.history.items ≡ self.old.history.items) }
         ensures pagers { self.new.pagers ≡ self.old.pagers }
+        ensures files { self.new.files ≡ self.old.files }
         ensures spares { Spares given.header given.outside self.old self.new }
     {
         let events = self.hosts.follow(host, washed)?;

@@ -1,4 +1,5 @@
 use Rattle.vm_system.proofs.Common.{EventLimit, GrowsWithinLimit, NoMemory, State, StaysOpen, SystemStands, ap, arith, armed_later_more, subst, sym, takings, ◌∙◌, ◌≡◌}
+use Rattle.vm_model.specs.declared.event.Device.TheVariants as device
 use Rattle.vm_system.proofs.Growth.{grew_more}
 use Rattle.vm_system.proofs.Settled.{counted_more, cut_more, grew_stop, other_err, stays_more}
 use Rattle.vm_system.proofs.settling.settle.Goals as goal
@@ -23,21 +24,52 @@ returns-in-Err-clause-later g c =
     let more = c.take_oldest.ensures.later in
     (g.met.P.Backing.later_more c.args.paging.now.inner c.all.paging.inner c.take_oldest.new.paging.inner first.0 more.0, armed_later_more _ _ _ _ _ _ first.1 more.1)
 
+pub returns-in-Err-clause-files_later : goal.returns-in-Err-clause-files_later
+returns-in-Err-clause-files_later g c =
+    let first = c.all.invariant.files_later in
+    let more = c.take_oldest.ensures.files_later in
+    (g.met.F.Backing.later_more c.args.files.now.inner c.all.files.inner c.take_oldest.new.files.inner first.0 more.0, armed_later_more _ _ _ _ _ _ first.1 more.1)
+
+pub returns-in-Ok-false-clause-later : goal.returns-in-Ok-false-clause-later
+returns-in-Ok-false-clause-later g c =
+    let first = c.all.invariant.later in
+    let more = c.take_oldest.ensures.later in
+    (g.met.P.Backing.later_more c.args.paging.now.inner c.all.paging.inner c.take_oldest.new.paging.inner first.0 more.0, armed_later_more _ _ _ _ _ _ first.1 more.1)
+
+pub returns-in-Ok-false-clause-files_later : goal.returns-in-Ok-false-clause-files_later
+returns-in-Ok-false-clause-files_later g c =
+    let first = c.all.invariant.files_later in
+    let more = c.take_oldest.ensures.files_later in
+    (g.met.F.Backing.later_more c.args.files.now.inner c.all.files.inner c.take_oldest.new.files.inner first.0 more.0, armed_later_more _ _ _ _ _ _ first.1 more.1)
+
+pub returns-in-Ok-false-clause-count : goal.returns-in-Ok-false-clause-count
+returns-in-Ok-false-clause-count g c = ap (λ (z : State). takings z.history.items) (c.in-Ok-false.ensures.quiet c.in-Ok-false.field-0-test).1 ∙ c.all.invariant.count
+
+pub returns-in-Ok-false-clause-carried : goal.returns-in-Ok-false-clause-carried
+returns-in-Ok-false-clause-carried g c = λ start carry. c.take_oldest.ensures.carried start (c.all.invariant.carried start carry)
+
+pub returns-in-Err-clause-carried : goal.returns-in-Err-clause-carried
+returns-in-Err-clause-carried g c = λ start carry. c.take_oldest.ensures.carried start (c.all.invariant.carried start carry)
+
 pub all-preserved : goal.all-preserved
 all-preserved g c =
     let taking = c.in-Ok-true.ensures in
     let took = c.in-Ok-true.field-0-test in
     let before = c.all.invariant in
     let more = c.take_oldest.ensures.later in
+    let files_more = c.take_oldest.ensures.files_later in
     record {
       stands = taking.stands;
       kept = c.take_oldest.ensures.kept;
+      files_kept = c.take_oldest.ensures.files_kept;
+      carried = λ start carry. c.take_oldest.ensures.carried start (before.carried start carry);
       legal = stays_more g.given.header g.given.outside g.given.command c.args.system.now.history.items c.all.system.history.items c.take_oldest.new.self.history.items before.legal (taking.legal took);
       count = omega (arith, taking.count took, before.count);
-      files = c.take_oldest.ensures.files ∙ before.files;
       grew = grew_more c.args.system.now.history.items c.all.system.history.items c.take_oldest.new.self.history.items before.grew c.take_oldest.ensures.grew (taking.below took);
-      devices = counted_more _ _ _ c.args.system.now.history.items c.all.system.history.items c.take_oldest.new.self.history.items before.grew c.take_oldest.ensures.grew before.devices c.take_oldest.ensures.devices;
+      devices = counted_more device.Paging _ _ _ c.args.system.now.history.items c.all.system.history.items c.take_oldest.new.self.history.items before.grew c.take_oldest.ensures.grew before.devices c.take_oldest.ensures.devices;
+      files_devices = counted_more device.Files _ _ _ c.args.system.now.history.items c.all.system.history.items c.take_oldest.new.self.history.items before.grew c.take_oldest.ensures.grew before.files_devices c.take_oldest.ensures.files_devices;
       later = (g.met.P.Backing.later_more c.args.paging.now.inner c.all.paging.inner c.take_oldest.new.paging.inner before.later.0 more.0, armed_later_more _ _ _ _ _ _ before.later.1 more.1);
+      files_later = (g.met.F.Backing.later_more c.args.files.now.inner c.all.files.inner c.take_oldest.new.files.inner before.files_later.0 files_more.0, armed_later_more _ _ _ _ _ _ before.files_later.1 files_more.1);
     }
 
 pub returns-in-Ok-false-clause-grew : goal.returns-in-Ok-false-clause-grew
@@ -58,7 +90,13 @@ returns-in-Err-clause-left g c = λ full.
     omega (arith, count, c.all.invariant.count, c.all-test.true)
 
 pub returns-in-Err-clause-devices : goal.returns-in-Err-clause-devices
-returns-in-Err-clause-devices g c = counted_more _ _ _ c.args.system.now.history.items c.all.system.history.items c.take_oldest.new.self.history.items c.all.invariant.grew c.take_oldest.ensures.grew c.all.invariant.devices c.take_oldest.ensures.devices
+returns-in-Err-clause-devices g c = counted_more device.Paging _ _ _ c.args.system.now.history.items c.all.system.history.items c.take_oldest.new.self.history.items c.all.invariant.grew c.take_oldest.ensures.grew c.all.invariant.devices c.take_oldest.ensures.devices
+
+pub returns-in-Err-clause-files_devices : goal.returns-in-Err-clause-files_devices
+returns-in-Err-clause-files_devices g c = counted_more device.Files _ _ _ c.args.system.now.history.items c.all.system.history.items c.take_oldest.new.self.history.items c.all.invariant.grew c.take_oldest.ensures.grew c.all.invariant.files_devices c.take_oldest.ensures.files_devices
 
 pub returns-in-Ok-false-clause-devices : goal.returns-in-Ok-false-clause-devices
-returns-in-Ok-false-clause-devices g c = counted_more _ _ _ c.args.system.now.history.items c.all.system.history.items c.take_oldest.new.self.history.items c.all.invariant.grew c.take_oldest.ensures.grew c.all.invariant.devices c.take_oldest.ensures.devices
+returns-in-Ok-false-clause-devices g c = counted_more device.Paging _ _ _ c.args.system.now.history.items c.all.system.history.items c.take_oldest.new.self.history.items c.all.invariant.grew c.take_oldest.ensures.grew c.all.invariant.devices c.take_oldest.ensures.devices
+
+pub returns-in-Ok-false-clause-files_devices : goal.returns-in-Ok-false-clause-files_devices
+returns-in-Ok-false-clause-files_devices g c = counted_more device.Files _ _ _ c.args.system.now.history.items c.all.system.history.items c.take_oldest.new.self.history.items c.all.invariant.grew c.take_oldest.ensures.grew c.all.invariant.files_devices c.take_oldest.ensures.files_devices

@@ -9,7 +9,7 @@ pub new-requires-clause-host : goal.new-requires-clause-host
 new-requires-clause-host c =
     let count = c.len-host-end.ensures in
     let test = c.hosts-test.true in
-    let hosts = c.requires.plain.hosts in
+    let hosts = c.requires.ranged.hosts in
     omega (arith, count, test, hosts.1)
 
 pub hosts-preserved : goal.hosts-preserved

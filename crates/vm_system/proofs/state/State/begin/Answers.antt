@@ -1,6 +1,5 @@
 use Rattle.vm_system.proofs.Common.{AllRest, Began, IsLined, None, Step, all_lined, ap, refl, refusal, subst, sym, ◌∙◌, ◌≡◌}
-use Rattle.vm_system.proofs.Beginning.{can_tell, makes_told, on_both, on_either, spares_same, spares_told}
-use Rattle.vm_system.proofs.Following.{same_pagers}
+use Rattle.vm_system.proofs.Beginning.{can_tell, makes_told, on_both, on_either, spares_same, spares_told, told_said}
 use Rattle.vm_system.proofs.Legal.{legal_began, refusal_line}
 use Rattle.vm_system.proofs.state.State.begin.Goals as goal
 
@@ -19,8 +18,8 @@ begin-requires g c =
           (
             c.requires.1.1.1.0,
             (
-              subst (λ (z : Step). refusal z.header z.past doing ≡ None) is (refusal_line given.header c.args.line h doing ∙ c.requires.1.1.1.1),
-              subst (λ (z : Step). IsLined z.past) is (record { line = c.args.line; before = h; is = refl }),
+              subst (λ (z : Step). refusal z.header z.past doing ≡ None) is (refusal_line given.header c.args.line h doing ∙ c.requires.1.1.1.1.0),
+              (c.requires.1.1.1.1.1, subst (λ (z : Step). IsLined z.past) is (record { line = c.args.line; before = h; is = refl })),
             ),
           ),
         ),
@@ -41,15 +40,18 @@ returns-clause-made g c =
     let events = c.in_ok-events.events.items in
     let stands = c.requires.1.0 in
     let began = subst (λ (z : Step). Began z.header z.outside c.args.command.now z.past hosts events) c.requires.0 c.in_ok-events.ensures.began in
-    let legal = legal_began given.header given.outside (record { line = c.args.line; command = c.args.command.now }) s.history.items events hosts stands.rests.plain c.requires.1.1.1.1 began in
-    on_both c.append.result (λ posts grown. makes_told given.header given.outside (record { line = c.args.line; command = c.args.command.now }) events hosts s c.append.new.self stands
-    began.heads.stretch began.ended.rests began.ended.queues legal c.append.ensures.hosts posts grown) c.append.ensures.posts c.append.ensures.history
+    let legal = legal_began given.header given.outside (record { line = c.args.line; command = c.args.command.now }) s.history.items events hosts stands.built.paged c.requires.1.1.1.1.0 began in
+    let told = told_said given.header given.outside c.args.command.now c.args.line events hosts s stands began.heads.stretch began.ended.rests began.ended.queues in
+    on_both c.append.result (λ posts grown. makes_told given.header given.outside (record { line = c.args.line; command = c.args.command.now }) events hosts s c.append.new.self stands told legal c.append.ensures.hosts posts grown)
+    c.append.ensures.posts c.append.ensures.history
 
 pub returns-clause-spares : goal.returns-clause-spares
 returns-clause-spares g c =
     let given = g.given in
     let s = c.args.self.now in
-    let began = subst (λ (z : Step). Began z.header z.outside c.args.command.now z.past c.begin.new.self c.in_ok-events.events.items) c.requires.0 c.in_ok-events.ensures.began in
-    on_either c.append.result
-    (λ grown. spares_told given.header given.outside c.args.command.now c.args.line c.in_ok-events.events.items s c.append.new.self c.requires.1.0 began.heads.stretch grown (same_pagers _ _ c.append.ensures.hosts))
-    (λ same. spares_same given.header given.outside s c.append.new.self (same_pagers _ _ c.append.ensures.hosts) same) c.append.ensures.history c.append.ensures.err
+    let hosts = c.begin.new.self in
+    let events = c.in_ok-events.events.items in
+    let began = subst (λ (z : Step). Began z.header z.outside c.args.command.now z.past hosts events) c.requires.0 c.in_ok-events.ensures.began in
+    let told = told_said given.header given.outside c.args.command.now c.args.line events hosts s c.requires.1.0 began.heads.stretch began.ended.rests began.ended.queues in
+    on_either c.append.result (λ grown. spares_told given.header given.outside c.args.line events hosts s c.append.new.self told c.append.ensures.hosts grown)
+    (λ same. spares_same given.header given.outside hosts s c.append.new.self c.append.ensures.hosts same) c.append.ensures.history c.append.ensures.err

@@ -1,5 +1,4 @@
-use Rattle.vm_system.proofs.Beginning.{makes_refused, one_more, same_hosts, spares_same, spares_told, tells_code}
-use Rattle.vm_system.proofs.Following.{same_pagers}
+use Rattle.vm_system.proofs.Beginning.{makes_refused, one_more, same_hosts, spares_same, spares_told, told_code}
 use Rattle.vm_system.proofs.state.State.refuse.Goals as goal
 
 pub tell-requires-2-clause-room : goal.tell-requires-2-clause-room
@@ -15,8 +14,8 @@ pub returns-clause-spares : goal.returns-clause-spares
 returns-clause-spares g c =
     let hosts = same_hosts _ _ _ (same_hosts _ _ _ c.in_ok-reserve.ensures.hosts c.tell.ensures.hosts) c.tell-2.ensures.hosts in
     let s = c.args.self.now in
-    spares_told g.given.header g.given.outside c.args.command.now c.args.line _ s c.tell-2.new.self c.requires.0 (tells_code g.given.header g.given.outside c.args.command.now c.args.code c.args.line s c.requires.0)
-    (one_more _ _ _ _ (one_more _ _ _ _ c.in_ok-reserve.ensures.history c.tell.ensures.history) c.tell-2.ensures.history) (same_pagers _ _ hosts)
+    spares_told g.given.header g.given.outside c.args.line _ s.hosts s c.tell-2.new.self (told_code g.given.header g.given.outside c.args.command.now c.args.code c.args.line s c.requires.0) hosts
+    (one_more _ _ _ _ (one_more _ _ _ _ c.in_ok-reserve.ensures.history c.tell.ensures.history) c.tell-2.ensures.history)
 
 pub returns-in_err-reserve-clause-spares : goal.returns-in_err-reserve-clause-spares
-returns-in_err-reserve-clause-spares g c = spares_same g.given.header g.given.outside c.args.self.now c.reserve.new.self (same_pagers _ _ c.reserve.ensures.hosts) c.reserve.ensures.history
+returns-in_err-reserve-clause-spares g c = spares_same g.given.header g.given.outside c.args.self.now.hosts c.args.self.now c.reserve.new.self c.reserve.ensures.hosts c.reserve.ensures.history

@@ -1,8 +1,6 @@
-use Rattle.vm_system.proofs.Common.{[], stretch_none, ◌∷◌}
+use Rattle.vm_system.proofs.Common.{[]}
 use Rattle.vm_model.specs.declared.command.Command.TheVariants as command
-use Rattle.vm_model.specs.declared.event.Event.TheVariants as event
-use Rattle.vm_system.proofs.Beginning.{makes_lined, one_more, same_hosts, spares_same, spares_told}
-use Rattle.vm_system.proofs.Following.{same_pagers}
+use Rattle.vm_system.proofs.Beginning.{makes_lined, one_more, same_hosts, spares_same, spares_told, told_none}
 use Rattle.vm_system.proofs.state.State.settle.Goals as goal
 
 pub returns-clause-line : goal.returns-clause-line
@@ -17,8 +15,8 @@ pub returns-clause-spares : goal.returns-clause-spares
 returns-clause-spares g c =
     let hosts = same_hosts _ _ _ c.in_ok-reserve.ensures.hosts c.tell.ensures.hosts in
     let s = c.args.self.now in
-    spares_told g.given.header g.given.outside (command.Settle c.args.count) c.args.line [] s c.tell.new.self c.requires (stretch_none g.given.header g.given.outside (command.Settle c.args.count) (event.Line c.args.line ∷ s.history.items))
-    (one_more _ _ _ _ c.in_ok-reserve.ensures.history c.tell.ensures.history) (same_pagers _ _ hosts)
+    spares_told g.given.header g.given.outside c.args.line [] s.hosts s c.tell.new.self (told_none g.given.header g.given.outside (command.Settle c.args.count) c.args.line s c.requires) hosts
+    (one_more _ _ _ _ c.in_ok-reserve.ensures.history c.tell.ensures.history)
 
 pub returns-in_err-reserve-clause-spares : goal.returns-in_err-reserve-clause-spares
-returns-in_err-reserve-clause-spares g c = spares_same g.given.header g.given.outside c.args.self.now c.reserve.new.self (same_pagers _ _ c.reserve.ensures.hosts) c.reserve.ensures.history
+returns-in_err-reserve-clause-spares g c = spares_same g.given.header g.given.outside c.args.self.now.hosts c.args.self.now c.reserve.new.self c.reserve.ensures.hosts c.reserve.ensures.history

@@ -1,56 +1,213 @@
-use Rattle.vm_system.proofs.Common.{Command, MayCut, armed_later_same, inl, on_err_weaker, on_ok_weaker, refl, subst, sym}
-use Rattle.vm_system.proofs.Beginning.{causes_same, files_same, on_either, paging_same, paging_taken}
+use Rattle.vm_system.proofs.Common.{Command, Makes, MayCut, None, Some, ap, armed_later_same, arms, false, inl, none-some, on_err_weaker, on_ok_weaker, refl, refusal, subst, sym, takes_any, ◌∙◌, ◌≡◌}
+use Rattle.vm_model.specs.declared.command.Command.TheVariants as command
+use Rattle.vm_model.specs.declared.event.Device.TheVariants as device
+use Rattle.vm_system.proofs.Beginning.{arms_none, arms_refused, causes_same, leaves_armed, leaves_same, leaves_taken_by, on_either, settle_refused}
 use Rattle.vm_system.proofs.Growth.{grew_none}
 use Rattle.vm_system.proofs.state.State.step.Goals as goal
 
-pub returns-in-Some-clause-devices : goal.returns-in-Some-clause-devices
-returns-in-Some-clause-devices g c = causes_same _ _ _ c.refuse.ensures.spares.devices
+pub returns-in-Some : goal.returns-in-Some
+returns-in-Some g c =
+    let refused : refusal g.given.header c.args.self.now.history.items c.args.command.now ≡ Some c.in-Some.code = sym c.refusal.ensures ∙ c.in-Some.is in
+    let unarmed_files : arms device.Files c.args.command.now ≡ None = arms_refused device.Files g.given.header c.args.self.now.history.items c.args.command.now c.in-Some.code refused in
+    let unarmed_paging : arms device.Paging c.args.command.now ≡ None = arms_refused device.Paging g.given.header c.args.self.now.history.items c.args.command.now c.in-Some.code refused in
+    record {
+      made = c.refuse.ensures.made;
+      grew = on_either c.refuse.result (λ made. made.grew) (λ same. grew_none _ _ same) c.refuse.ensures.made c.refuse.ensures.err;
+      memory = on_err_weaker c.refuse.result (λ same. inl same) c.refuse.ensures.err;
+      kept = c.refuse.ensures.spares.paging.kept (g.P.Backing.area c.args.paging.now.inner) c.requires.1.1.1.0;
+      files_kept = c.refuse.ensures.spares.files.kept (g.F.Backing.area c.args.files.now.inner) c.requires.1.1.1.1.0;
+      carried = λ start carry. c.refuse.ensures.spares.files.carried start (g.F.Backing.area c.args.files.now.inner) carry;
+      alone = on_ok_weaker c.refuse.result (λ made count is. absurd (settle_refused g.given.header c.args.self.now.history.items c.args.command.now c.in-Some.code refused count is)) c.refuse.ensures.made;
+      files = on_ok_weaker c.refuse.result (λ made. leaves_same g.given.header device.Files c.args.command.now c.args.files.now unarmed_files) c.refuse.ensures.made;
+      paging = on_ok_weaker c.refuse.result (λ made. leaves_same g.given.header device.Paging c.args.command.now c.args.paging.now unarmed_paging) c.refuse.ensures.made;
+      files_unasked = on_ok_weaker c.refuse.result (λ made unarmed none. refl) c.refuse.ensures.made;
+      unasked = on_ok_weaker c.refuse.result (λ made unarmed none. refl) c.refuse.ensures.made;
+      files_later = λ unarmed. (g.met.F.Backing.later_same c.args.files.now.inner, armed_later_same c.args.files.now.left c.args.files.now.reached);
+      later = λ unarmed. (g.met.P.Backing.later_same c.args.paging.now.inner, armed_later_same c.args.paging.now.left c.args.paging.now.reached);
+      calm = on_err_weaker c.refuse.result (λ same up. (same, refl, refl)) c.refuse.ensures.err;
+      files_stops = on_err_weaker c.refuse.result (λ same. inl (same, refl)) c.refuse.ensures.err;
+      stops = on_err_weaker c.refuse.result (λ same. inl (same, refl)) c.refuse.ensures.err;
+      devices = causes_same _ _ _ _ c.refuse.ensures.spares.paging.devices;
+      files_devices = causes_same _ _ _ _ c.refuse.ensures.spares.files.devices;
+    }
 
-pub returns-in-Some-clause-grew : goal.returns-in-Some-clause-grew
-returns-in-Some-clause-grew g c = on_either c.refuse.result (λ made. made.grew) (λ same. grew_none _ _ same) c.refuse.ensures.made c.refuse.ensures.err
+pub returns-in-Take : goal.returns-in-Take
+returns-in-Take g c =
+    record {
+      made = on_ok_weaker c.take_from.result (λ made. subst (λ (z : Command). Makes g.given.header g.given.outside (record { line = c.args.line; command = z }) c.args.self.now c.take_from.new.self) (sym c.in-Take.is) made) c.take_from.ensures.made;
+      grew = c.take_from.ensures.grew;
+      memory = on_err_weaker c.take_from.result
+          (λ cut. subst (λ (z : Command). MayCut g.given.header g.given.outside (record { line = c.args.line; command = z }) c.args.self.now.history.items c.take_from.new.self.history.items) (sym c.in-Take.is) cut) c.take_from.ensures.memory;
+      kept = c.take_from.ensures.kept;
+      files_kept = c.take_from.ensures.files_kept;
+      carried = c.take_from.ensures.carried;
+      alone = on_ok_weaker c.take_from.result (λ made count same. absurd (let bad : command.Take c.in-Take.channel ≡ command.Settle count = sym c.in-Take.is ∙ same in cc)) c.take_from.ensures.made;
+      files = on_ok_weaker c.take_from.result (λ made. leaves_taken_by g.given.header device.Files c.args.command.now c.in-Take.channel _ _ c.in-Take.is c.take_from.ensures.files) c.take_from.ensures.made;
+      paging = on_ok_weaker c.take_from.result (λ made. leaves_taken_by g.given.header device.Paging c.args.command.now c.in-Take.channel _ _ c.in-Take.is c.take_from.ensures.paging) c.take_from.ensures.made;
+      files_unasked = on_ok_weaker c.take_from.result (λ unasked unarmed none. unasked none) c.take_from.ensures.files_unasked;
+      unasked = on_ok_weaker c.take_from.result (λ unasked unarmed none. unasked none) c.take_from.ensures.unasked;
+      files_later = λ unarmed. c.take_from.ensures.files_later;
+      later = λ unarmed. c.take_from.ensures.later;
+      calm = on_err_weaker c.take_from.result (λ calm down. calm (subst (λ (z : Command). takes_any z ≡ false) c.in-Take.is down)) c.take_from.ensures.calm;
+      files_stops = c.take_from.ensures.files_stops;
+      stops = c.take_from.ensures.stops;
+      devices = c.take_from.ensures.devices;
+      files_devices = c.take_from.ensures.files_devices;
+    }
 
-pub returns-in-Take-clause-paging : goal.returns-in-Take-clause-paging
-returns-in-Take-clause-paging g c = on_ok_weaker c.take_from.result (λ made. paging_taken c.args.command.now c.in-Take.channel _ _ c.in-Take.is c.take_from.ensures.paging) c.take_from.ensures.made
+pub returns-in-Settle : goal.returns-in-Settle
+returns-in-Settle g c =
+    let unarmed_files : arms device.Files c.args.command.now ≡ None = ap (arms device.Files) c.in-Settle.is in
+    let unarmed_paging : arms device.Paging c.args.command.now ≡ None = ap (arms device.Paging) c.in-Settle.is in
+    record {
+      made = on_ok_weaker c.settle.result (λ made. subst (λ (z : Command). Makes g.given.header g.given.outside (record { line = c.args.line; command = z }) c.args.self.now c.settle.new.self) (sym c.in-Settle.is) made) c.settle.ensures.made;
+      grew = on_either c.settle.result (λ made. made.grew) (λ same. grew_none _ _ same) c.settle.ensures.made c.settle.ensures.err;
+      memory = on_err_weaker c.settle.result (λ same. inl same) c.settle.ensures.err;
+      kept = c.settle.ensures.spares.paging.kept (g.P.Backing.area c.args.paging.now.inner) c.requires.1.1.1.0;
+      files_kept = c.settle.ensures.spares.files.kept (g.F.Backing.area c.args.files.now.inner) c.requires.1.1.1.1.0;
+      carried = λ start carry. c.settle.ensures.spares.files.carried start (g.F.Backing.area c.args.files.now.inner) carry;
+      alone = on_ok_weaker c.settle.result (λ line count is. line) c.settle.ensures.line;
+      files = on_ok_weaker c.settle.result (λ made. leaves_same g.given.header device.Files c.args.command.now c.args.files.now unarmed_files) c.settle.ensures.made;
+      paging = on_ok_weaker c.settle.result (λ made. leaves_same g.given.header device.Paging c.args.command.now c.args.paging.now unarmed_paging) c.settle.ensures.made;
+      files_unasked = on_ok_weaker c.settle.result (λ made unarmed none. refl) c.settle.ensures.made;
+      unasked = on_ok_weaker c.settle.result (λ made unarmed none. refl) c.settle.ensures.made;
+      files_later = λ unarmed. (g.met.F.Backing.later_same c.args.files.now.inner, armed_later_same c.args.files.now.left c.args.files.now.reached);
+      later = λ unarmed. (g.met.P.Backing.later_same c.args.paging.now.inner, armed_later_same c.args.paging.now.left c.args.paging.now.reached);
+      calm = on_err_weaker c.settle.result (λ same up. (same, refl, refl)) c.settle.ensures.err;
+      files_stops = on_err_weaker c.settle.result (λ same. inl (same, refl)) c.settle.ensures.err;
+      stops = on_err_weaker c.settle.result (λ same. inl (same, refl)) c.settle.ensures.err;
+      devices = causes_same _ _ _ _ c.settle.ensures.spares.paging.devices;
+      files_devices = causes_same _ _ _ _ c.settle.ensures.spares.files.devices;
+    }
 
-pub returns-in-Take-clause-memory : goal.returns-in-Take-clause-memory
-returns-in-Take-clause-memory g c =
-    let doing : Command = c.args.command.now in
-    on_err_weaker c.take_from.result
-    (λ cut. subst (λ (z : Command). MayCut g.given.header g.given.outside (record { line = c.args.line; command = z }) c.args.self.now.history.items c.take_from.new.self.history.items) (sym c.in-Take.is) cut) c.take_from.ensures.memory
+pub returns-in-Clean : goal.returns-in-Clean
+returns-in-Clean g c =
+    let unarmed_files : arms device.Files c.args.command.now ≡ None = ap (arms device.Files) c.in-Clean.is in
+    let unarmed_paging : arms device.Paging c.args.command.now ≡ None = ap (arms device.Paging) c.in-Clean.is in
+    record {
+      made = c.pass-in-Clean.ensures.made;
+      grew = on_either c.pass-in-Clean.result (λ made. made.grew) (λ same. grew_none _ _ same) c.pass-in-Clean.ensures.made c.pass-in-Clean.ensures.err;
+      memory = on_err_weaker c.pass-in-Clean.result (λ same. inl same) c.pass-in-Clean.ensures.err;
+      kept = c.pass-in-Clean.ensures.spares.paging.kept (g.P.Backing.area c.args.paging.now.inner) c.requires.1.1.1.0;
+      files_kept = c.pass-in-Clean.ensures.spares.files.kept (g.F.Backing.area c.args.files.now.inner) c.requires.1.1.1.1.0;
+      carried = λ start carry. c.pass-in-Clean.ensures.spares.files.carried start (g.F.Backing.area c.args.files.now.inner) carry;
+      alone = on_ok_weaker c.pass-in-Clean.result (λ made count same. absurd (let bad : command.Clean c.in-Clean.object c.in-Clean.page c.in-Clean.count c.in-Clean.flush ≡ command.Settle count = sym c.in-Clean.is ∙ same in cc)) c.pass-in-Clean.ensures.made;
+      files = on_ok_weaker c.pass-in-Clean.result (λ made. leaves_same g.given.header device.Files c.args.command.now c.args.files.now unarmed_files) c.pass-in-Clean.ensures.made;
+      paging = on_ok_weaker c.pass-in-Clean.result (λ made. leaves_same g.given.header device.Paging c.args.command.now c.args.paging.now unarmed_paging) c.pass-in-Clean.ensures.made;
+      files_unasked = on_ok_weaker c.pass-in-Clean.result (λ made unarmed none. refl) c.pass-in-Clean.ensures.made;
+      unasked = on_ok_weaker c.pass-in-Clean.result (λ made unarmed none. refl) c.pass-in-Clean.ensures.made;
+      files_later = λ unarmed. (g.met.F.Backing.later_same c.args.files.now.inner, armed_later_same c.args.files.now.left c.args.files.now.reached);
+      later = λ unarmed. (g.met.P.Backing.later_same c.args.paging.now.inner, armed_later_same c.args.paging.now.left c.args.paging.now.reached);
+      calm = on_err_weaker c.pass-in-Clean.result (λ same up. (same, refl, refl)) c.pass-in-Clean.ensures.err;
+      files_stops = on_err_weaker c.pass-in-Clean.result (λ same. inl (same, refl)) c.pass-in-Clean.ensures.err;
+      stops = on_err_weaker c.pass-in-Clean.result (λ same. inl (same, refl)) c.pass-in-Clean.ensures.err;
+      devices = causes_same _ _ _ _ c.pass-in-Clean.ensures.spares.paging.devices;
+      files_devices = causes_same _ _ _ _ c.pass-in-Clean.ensures.spares.files.devices;
+    }
 
 pub returns-in_default-command : goal.returns-in_default-command
-returns-in_default-command g c = record {
-  made = c.begin.ensures.made;
-  grew = on_either c.begin.result (λ made. made.grew) (λ same. grew_none _ _ same) c.begin.ensures.made c.begin.ensures.err;
-  memory = on_err_weaker c.begin.result (λ same. inl same) c.begin.ensures.err;
-  kept = c.begin.ensures.spares.kept (g.P.Backing.area c.args.paging.now.inner) c.requires.1.1.1.0;
-  files = on_ok_weaker c.begin.result (λ made. files_same c.args.command.now c.args.files.now c.in_default-command.not-FailFiles) c.begin.ensures.made;
-  paging = on_ok_weaker c.begin.result (λ made. paging_same c.args.command.now c.args.paging.now c.in_default-command.not-FailPaging) c.begin.ensures.made;
-  unasked = on_ok_weaker c.begin.result (λ made unarmed none. refl) c.begin.ensures.made;
-  later = λ unarmed. (g.met.P.Backing.later_same c.args.paging.now.inner, armed_later_same c.args.paging.now.left c.args.paging.now.reached);
-  alone = on_ok_weaker c.begin.result (λ made count is. absurd (c.in_default-command.not-Settle count is)) c.begin.ensures.made;
-  unarmed = on_err_weaker c.begin.result (λ same. refl) c.begin.ensures.err;
-  calm = on_err_weaker c.begin.result (λ same up. (same, refl)) c.begin.ensures.err;
-  stops = on_err_weaker c.begin.result (λ same. inl (same, refl)) c.begin.ensures.err;
-  devices = causes_same _ _ _ c.begin.ensures.spares.devices;
-}
+returns-in_default-command g c =
+    let unarmed_files : arms device.Files c.args.command.now ≡ None = arms_none device.Files c.args.command.now c.in_default-command.not-FailFiles c.in_default-command.not-FailPaging in
+    let unarmed_paging : arms device.Paging c.args.command.now ≡ None = arms_none device.Paging c.args.command.now c.in_default-command.not-FailFiles c.in_default-command.not-FailPaging in
+    record {
+      made = c.begin.ensures.made;
+      grew = on_either c.begin.result (λ made. made.grew) (λ same. grew_none _ _ same) c.begin.ensures.made c.begin.ensures.err;
+      memory = on_err_weaker c.begin.result (λ same. inl same) c.begin.ensures.err;
+      kept = c.begin.ensures.spares.paging.kept (g.P.Backing.area c.args.paging.now.inner) c.requires.1.1.1.0;
+      files_kept = c.begin.ensures.spares.files.kept (g.F.Backing.area c.args.files.now.inner) c.requires.1.1.1.1.0;
+      carried = λ start carry. c.begin.ensures.spares.files.carried start (g.F.Backing.area c.args.files.now.inner) carry;
+      alone = on_ok_weaker c.begin.result (λ made count is. absurd (c.in_default-command.not-Settle count is)) c.begin.ensures.made;
+      files = on_ok_weaker c.begin.result (λ made. leaves_same g.given.header device.Files c.args.command.now c.args.files.now unarmed_files) c.begin.ensures.made;
+      paging = on_ok_weaker c.begin.result (λ made. leaves_same g.given.header device.Paging c.args.command.now c.args.paging.now unarmed_paging) c.begin.ensures.made;
+      files_unasked = on_ok_weaker c.begin.result (λ made unarmed none. refl) c.begin.ensures.made;
+      unasked = on_ok_weaker c.begin.result (λ made unarmed none. refl) c.begin.ensures.made;
+      files_later = λ unarmed. (g.met.F.Backing.later_same c.args.files.now.inner, armed_later_same c.args.files.now.left c.args.files.now.reached);
+      later = λ unarmed. (g.met.P.Backing.later_same c.args.paging.now.inner, armed_later_same c.args.paging.now.left c.args.paging.now.reached);
+      calm = on_err_weaker c.begin.result (λ same up. (same, refl, refl)) c.begin.ensures.err;
+      files_stops = on_err_weaker c.begin.result (λ same. inl (same, refl)) c.begin.ensures.err;
+      stops = on_err_weaker c.begin.result (λ same. inl (same, refl)) c.begin.ensures.err;
+      devices = causes_same _ _ _ _ c.begin.ensures.spares.paging.devices;
+      files_devices = causes_same _ _ _ _ c.begin.ensures.spares.files.devices;
+    }
 
-pub returns-in-Some-clause-kept : goal.returns-in-Some-clause-kept
-returns-in-Some-clause-kept g c = c.refuse.ensures.spares.kept (g.P.Backing.area c.args.paging.now.inner) c.requires.1.1.1.0
-
-pub returns-in-Settle-clause-kept : goal.returns-in-Settle-clause-kept
-returns-in-Settle-clause-kept g c = c.settle.ensures.spares.kept (g.P.Backing.area c.args.paging.now.inner) c.requires.1.1.1.0
+pub returns-in_ok-pass-in-FailFiles : goal.returns-in_ok-pass-in-FailFiles
+returns-in_ok-pass-in-FailFiles g c =
+    let armed : arms device.Files c.args.command.now ≡ Some c.in-FailFiles.count = ap (arms device.Files) c.in-FailFiles.is in
+    let unarmed : arms device.Paging c.args.command.now ≡ None = ap (arms device.Paging) c.in-FailFiles.is in
+    let kept = c.pass.ensures.spares.files.kept (g.F.Backing.area c.args.files.now.inner) c.requires.1.1.1.1.0 in
+    record {
+      made = c.in_ok-pass-in-FailFiles.ensures.made;
+      grew = c.in_ok-pass-in-FailFiles.ensures.made.grew;
+      memory = tt;
+      kept = c.pass.ensures.spares.paging.kept (g.P.Backing.area c.args.paging.now.inner) c.requires.1.1.1.0;
+      files_kept = rw c.arm.ensures kept;
+      carried = λ start carry. let carried = c.pass.ensures.spares.files.carried start (g.F.Backing.area c.args.files.now.inner) carry in rw c.arm.ensures carried;
+      alone = λ count same. absurd (let bad : command.FailFiles c.in-FailFiles.count ≡ command.Settle count = sym c.in-FailFiles.is ∙ same in cc);
+      files = leaves_armed g.given.header device.Files c.args.command.now c.in-FailFiles.count _ c.args.files.now _ armed c.from.ensures c.arm.ensures;
+      paging = leaves_same g.given.header device.Paging c.args.command.now c.args.paging.now unarmed;
+      files_unasked = λ none up. absurd (none-some c.in-FailFiles.count (sym none ∙ armed));
+      unasked = λ none up. refl;
+      files_later = λ none. absurd (none-some c.in-FailFiles.count (sym none ∙ armed));
+      later = λ none. (g.met.P.Backing.later_same c.args.paging.now.inner, armed_later_same c.args.paging.now.left c.args.paging.now.reached);
+      calm = tt;
+      files_stops = tt;
+      stops = tt;
+      devices = causes_same _ _ _ _ c.pass.ensures.spares.paging.devices;
+      files_devices = rw c.arm.ensures (causes_same _ _ _ _ c.pass.ensures.spares.files.devices);
+    }
 
 pub returns-in_err-pass-in-FailFiles-clause-kept : goal.returns-in_err-pass-in-FailFiles-clause-kept
-returns-in_err-pass-in-FailFiles-clause-kept g c = c.pass.ensures.spares.kept (g.P.Backing.area c.args.paging.now.inner) c.requires.1.1.1.0
+returns-in_err-pass-in-FailFiles-clause-kept g c = c.pass.ensures.spares.paging.kept (g.P.Backing.area c.args.paging.now.inner) c.requires.1.1.1.0
 
-pub returns-in_ok-pass-in-FailFiles-clause-kept : goal.returns-in_ok-pass-in-FailFiles-clause-kept
-returns-in_ok-pass-in-FailFiles-clause-kept g c = c.pass.ensures.spares.kept (g.P.Backing.area c.args.paging.now.inner) c.requires.1.1.1.0
+pub returns-in_err-pass-in-FailFiles-clause-files_kept : goal.returns-in_err-pass-in-FailFiles-clause-files_kept
+returns-in_err-pass-in-FailFiles-clause-files_kept g c = c.pass.ensures.spares.files.kept (g.F.Backing.area c.args.files.now.inner) c.requires.1.1.1.1.0
+
+pub returns-in_err-pass-in-FailFiles-clause-carried : goal.returns-in_err-pass-in-FailFiles-clause-carried
+returns-in_err-pass-in-FailFiles-clause-carried g c = λ start carry. c.pass.ensures.spares.files.carried start (g.F.Backing.area c.args.files.now.inner) carry
+
+pub returns-in_err-pass-in-FailFiles-clause-devices : goal.returns-in_err-pass-in-FailFiles-clause-devices
+returns-in_err-pass-in-FailFiles-clause-devices g c = causes_same _ _ _ _ c.pass.ensures.spares.paging.devices
+
+pub returns-in_err-pass-in-FailFiles-clause-files_devices : goal.returns-in_err-pass-in-FailFiles-clause-files_devices
+returns-in_err-pass-in-FailFiles-clause-files_devices g c = causes_same _ _ _ _ c.pass.ensures.spares.files.devices
+
+pub returns-in_ok-pass-in-FailPaging : goal.returns-in_ok-pass-in-FailPaging
+returns-in_ok-pass-in-FailPaging g c =
+    let armed : arms device.Paging c.args.command.now ≡ Some c.in-FailPaging.count = ap (arms device.Paging) c.in-FailPaging.is in
+    let unarmed : arms device.Files c.args.command.now ≡ None = ap (arms device.Files) c.in-FailPaging.is in
+    let kept = c.pass-in-FailPaging.ensures.spares.paging.kept (g.P.Backing.area c.args.paging.now.inner) c.requires.1.1.1.0 in
+    record {
+      made = c.in_ok-pass-in-FailPaging.ensures.made;
+      grew = c.in_ok-pass-in-FailPaging.ensures.made.grew;
+      memory = tt;
+      kept = rw c.arm-in-FailPaging.ensures kept;
+      files_kept = c.pass-in-FailPaging.ensures.spares.files.kept (g.F.Backing.area c.args.files.now.inner) c.requires.1.1.1.1.0;
+      carried = λ start carry. c.pass-in-FailPaging.ensures.spares.files.carried start (g.F.Backing.area c.args.files.now.inner) carry;
+      alone = λ count same. absurd (let bad : command.FailPaging c.in-FailPaging.count ≡ command.Settle count = sym c.in-FailPaging.is ∙ same in cc);
+      files = leaves_same g.given.header device.Files c.args.command.now c.args.files.now unarmed;
+      paging = leaves_armed g.given.header device.Paging c.args.command.now c.in-FailPaging.count _ c.args.paging.now _ armed c.from-in-FailPaging.ensures c.arm-in-FailPaging.ensures;
+      files_unasked = λ none up. refl;
+      unasked = λ none up. absurd (none-some c.in-FailPaging.count (sym none ∙ armed));
+      files_later = λ none. (g.met.F.Backing.later_same c.args.files.now.inner, armed_later_same c.args.files.now.left c.args.files.now.reached);
+      later = λ none. absurd (none-some c.in-FailPaging.count (sym none ∙ armed));
+      calm = tt;
+      files_stops = tt;
+      stops = tt;
+      devices = rw c.arm-in-FailPaging.ensures (causes_same _ _ _ _ c.pass-in-FailPaging.ensures.spares.paging.devices);
+      files_devices = causes_same _ _ _ _ c.pass-in-FailPaging.ensures.spares.files.devices;
+    }
 
 pub returns-in_err-pass-in-FailPaging-clause-kept : goal.returns-in_err-pass-in-FailPaging-clause-kept
-returns-in_err-pass-in-FailPaging-clause-kept g c = c.pass-in-FailPaging.ensures.spares.kept (g.P.Backing.area c.args.paging.now.inner) c.requires.1.1.1.0
+returns-in_err-pass-in-FailPaging-clause-kept g c = c.pass-in-FailPaging.ensures.spares.paging.kept (g.P.Backing.area c.args.paging.now.inner) c.requires.1.1.1.0
 
-pub returns-in_ok-pass-in-FailPaging-clause-kept : goal.returns-in_ok-pass-in-FailPaging-clause-kept
-returns-in_ok-pass-in-FailPaging-clause-kept g c =
-    let kept = c.pass-in-FailPaging.ensures.spares.kept (g.P.Backing.area c.args.paging.now.inner) c.requires.1.1.1.0 in
-    rw c.arm-in-FailPaging.ensures kept
+pub returns-in_err-pass-in-FailPaging-clause-files_kept : goal.returns-in_err-pass-in-FailPaging-clause-files_kept
+returns-in_err-pass-in-FailPaging-clause-files_kept g c = c.pass-in-FailPaging.ensures.spares.files.kept (g.F.Backing.area c.args.files.now.inner) c.requires.1.1.1.1.0
+
+pub returns-in_err-pass-in-FailPaging-clause-carried : goal.returns-in_err-pass-in-FailPaging-clause-carried
+returns-in_err-pass-in-FailPaging-clause-carried g c = λ start carry. c.pass-in-FailPaging.ensures.spares.files.carried start (g.F.Backing.area c.args.files.now.inner) carry
+
+pub returns-in_err-pass-in-FailPaging-clause-devices : goal.returns-in_err-pass-in-FailPaging-clause-devices
+returns-in_err-pass-in-FailPaging-clause-devices g c = causes_same _ _ _ _ c.pass-in-FailPaging.ensures.spares.paging.devices
+
+pub returns-in_err-pass-in-FailPaging-clause-files_devices : goal.returns-in_err-pass-in-FailPaging-clause-files_devices
+returns-in_err-pass-in-FailPaging-clause-files_devices g c = causes_same _ _ _ _ c.pass-in-FailPaging.ensures.spares.files.devices

@@ -3,19 +3,22 @@ use Rattle.vm_system.proofs.Taken.{may_found, may_there}
 use Rattle.vm_system.proofs.state.State.take.Goals as goal
 
 pub channel-channel-requires : goal.channel-channel-requires
-channel-channel-requires g c = may_there g.given c.args.line c.args.number c.requires.1.0.0 c.args.self.now c.requires.1.0.1
+channel-channel-requires g c = may_there g.given c.args.line c.args.number c.requires.1.1.0.0 c.args.self.now c.requires.1.1.0.1
 
 pub take_up-requires : goal.take_up-requires
 take_up-requires g c κs within =
-    let may = c.requires.1.0 in
+    let may = c.requires.1.1.0 in
     let s = c.args.self.now in
-    (within, (may_found g.given c.args.line c.args.number may.0 (Up c.in-Up.host c.in-Up.object) s may.1 (c.channel-channel.ensures.channel ∙ ap (λ (z : Channel). Some z) c.in-Up.is), c.requires.1.1))
+    (within.0, (within.1, (may_found g.given c.args.line c.args.number may.0 (Up c.in-Up.host c.in-Up.object) s may.1 (c.channel-channel.ensures.channel ∙ ap (λ (z : Channel). Some z) c.in-Up.is), c.requires.1.1.1)))
 
 pub take_down-requires : goal.take_down-requires
 take_down-requires g c =
-    let may = c.requires.1.0 in
+    let may = c.requires.1.1.0 in
     let s = c.args.self.now in
     may_found g.given c.args.line c.args.number may.0 (Down c.in-Down.host c.in-Down.object c.in-Down.control) s may.1 (c.channel-channel.ensures.channel ∙ ap (λ (z : Channel). Some z) c.in-Down.is)
 
 pub returns-in-Down-clause-kept : goal.returns-in-Down-clause-kept
-returns-in-Down-clause-kept g c = c.take_down.ensures.spares.kept (g.P.Backing.area c.args.paging.now.inner) c.requires.1.1
+returns-in-Down-clause-kept g c = c.take_down.ensures.spares.paging.kept (g.P.Backing.area c.args.paging.now.inner) c.requires.1.1.1.0
+
+pub returns-in-Down-clause-files_kept : goal.returns-in-Down-clause-files_kept
+returns-in-Down-clause-files_kept g c = c.take_down.ensures.spares.files.kept (g.F.Backing.area c.args.files.now.inner) c.requires.1.1.1.1

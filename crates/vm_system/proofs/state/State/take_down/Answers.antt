@@ -1,9 +1,9 @@
 use Rattle.vm_system.proofs.Common.{Channel, Down, Event, HasRoom, HostsPart, List, ap, arith, length, queue, slice_get, subst, sym, ℕ, ◌++◌, ◌∙◌, ◌∷◌, ◌≡◌}
 use Rattle.vm_model.specs.declared.event.Event.TheVariants as event
-use Rattle.vm_system.proofs.Beginning.{same_hosts, spares_same}
-use Rattle.vm_system.proofs.Following.{same_pagers}
+use Rattle.vm_system.proofs.Beginning.{same_hosts}
+use Rattle.vm_system.proofs.Following.{same_all, same_files, same_pages, same_pagers}
 use Rattle.vm_system.proofs.Taken.{first_told, front_of, may_head, may_only, may_port, may_some, may_there}
-use Rattle.vm_system.proofs.TakenDown.{can_down, devices_down, down_letter, down_licensed, kept_down, took_down}
+use Rattle.vm_system.proofs.TakenDown.{can_down, down_letter, down_licensed, spares_down, took_down}
 use Rattle.vm_system.proofs.state.State.take_down.Goals as goal
 
 pub head-requires : goal.head-requires
@@ -62,7 +62,8 @@ returns-clause-took g c =
     let all = same_hosts _ _ _ (same_hosts _ _ _ c.reserve.ensures.hosts c.take_first.ensures.hosts) c.commit.ensures.hosts in
     let events = c.in_ok-events.events.items in
     let passed : HostsPart given.header given.outside given.command (event.Taken channel m ∷ given.past) new.hosts events = rw all.hosts c.in_ok-events.ensures.passed in
-    took_down given c.args.line c.args.number c.args.host c.args.object c.args.control m s new events c.requires head passed c.in_ok-events.ensures.failed c.in_ok-events.ensures.ended all.size (same_pagers _ _ all)
+    took_down given c.args.line c.args.number c.args.host c.args.object c.args.control m s new events c.requires head passed c.in_ok-events.ensures.failed c.in_ok-events.ensures.zeroed c.in_ok-events.ensures.locked
+    c.in_ok-events.ensures.ended all.size (same_pagers _ _ all) (same_files _ _ all) (same_pages _ _ all)
     (c.commit.ensures.history ∙ ap (λ (z : List Event). events ++ z) told) c.commit.ensures.posts
 
 pub returns-clause-spares : goal.returns-clause-spares
@@ -76,10 +77,9 @@ returns-clause-spares g c =
     let all = same_hosts _ _ _ (same_hosts _ _ _ c.reserve.ensures.hosts c.take_first.ensures.hosts) c.commit.ensures.hosts in
     let events = c.in_ok-events.events.items in
     let grown = c.commit.ensures.history ∙ ap (λ (z : List Event). events ++ z) told in
-    record {
-      kept = λ areas kept. kept_down given c.args.line c.args.number c.args.host c.args.object c.args.control m s c.commit.new.self c.take.new.self events areas c.requires c.in_ok-events.ensures.passed (same_pagers _ _ all) grown kept;
-      devices = devices_down given c.args.line c.args.number c.args.host c.args.object c.args.control m s c.commit.new.self c.take.new.self events c.requires c.in_ok-events.ensures.passed grown;
-    }
+    spares_down given c.args.line c.args.number c.args.host c.args.object c.args.control m s c.commit.new.self c.take.new.self events c.requires c.in_ok-events.ensures.passed (same_pagers _ _ all) (same_files _ _ all) grown
 
 pub returns-in_err-reserve-clause-spares : goal.returns-in_err-reserve-clause-spares
-returns-in_err-reserve-clause-spares g c = spares_same g.given.header g.given.outside c.args.self.now c.reserve.new.self (same_pagers _ _ c.reserve.ensures.hosts) c.reserve.ensures.history
+returns-in_err-reserve-clause-spares g c =
+    let e = c.reserve.ensures in
+    same_all g.given.header g.given.outside c.args.self.now c.reserve.new.self (same_pagers _ _ e.hosts) (same_files _ _ e.hosts) e.history

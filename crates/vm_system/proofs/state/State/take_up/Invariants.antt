@@ -1,5 +1,7 @@
-use Rattle.vm_system.proofs.Common.{take}
 use Rattle.vm_system.proofs.state.State.take_up.Given as goal
 
-abbrev pub ghost-follow : goal.ghost-follow
-ghost-follow g a = record { header = g.given.header; outside = g.given.outside; command = g.given.command; past = g.given.past; front = take a.fresh a.self.now.history.items }
+abbrev pub ghost-take_filed : goal.ghost-take_filed
+ghost-take_filed g a = g.given
+
+abbrev pub ghost-take_paged : goal.ghost-take_paged
+ghost-take_paged g a = g.given

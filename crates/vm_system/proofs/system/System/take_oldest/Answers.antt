@@ -1,4 +1,5 @@
-use Rattle.vm_system.proofs.Common.{GrowsWithinLimit, HasMore, IsMemoryStop, MayCutOpen, None, State, SystemStands, ap, before_step, subst, sym, takings, ◌+◌, ◌∙◌, ◌≡◌}
+use Rattle.vm_system.proofs.Common.{FilesAreKept, GrowsWithinLimit, HasMore, IsMemoryStop, MayCutOpen, None, State, SystemStands, ap, before_step, subst, sym, takings, ◌+◌, ◌∙◌, ◌≡◌}
+use Rattle.vm_model.specs.declared.event.Device.TheVariants as device
 use Rattle.vm_system.proofs.Following.{kept_same}
 use Rattle.vm_system.proofs.Growth.{grew_cut, grew_taken, step_taken, takings_taken}
 use Rattle.vm_system.proofs.Numbers.{number_read}
@@ -13,9 +14,10 @@ take-requires g c κs within =
     let view : c.args.self.now ≡ s = sym c.self.view_is in
     let stands : SystemStands given.header given.outside s = subst (λ (z : State). SystemStands given.header given.outside z) view c.requires.1.1.0 in
     let kept = kept_same given.header given.outside (g.P.Backing.area c.args.paging.now.inner) c.args.self.now s (ap (λ (z : State). z.pagers.items) (sym view)) (ap (λ (z : State). z.history.items) (sym view)) c.requires.1.1.1.0 in
-    let past = c.requires.1.1.1.1.0 ∙ ap (λ (z : State). z.history.items) view in
-    let more : HasMore given.command s.history.items = subst (λ (z : State). HasMore given.command z.history.items) view c.requires.1.1.1.1.1 in
-    (within, (may_settle given c.in-Some.number s stands past more (sym c.oldest.ensures.oldest ∙ c.in-Some.is), kept))
+    let past = c.requires.1.1.1.1.1.0 ∙ ap (λ (z : State). z.history.items) view in
+    let more : HasMore given.command s.history.items = subst (λ (z : State). HasMore given.command z.history.items) view c.requires.1.1.1.1.1.1 in
+    let filed = subst (λ (z : State). FilesAreKept given.header given.outside (g.F.Backing.area c.args.files.now.inner) z) view c.requires.1.1.1.1.0 in
+    (within.0, (within.1, (may_settle given c.in-Some.number s stands past more (sym c.oldest.ensures.oldest ∙ c.in-Some.is), (kept, filed))))
 
 pub returns-in_err-take-clause-memory : goal.returns-in_err-take-clause-memory
 returns-in_err-take-clause-memory g c =
@@ -23,16 +25,16 @@ returns-in_err-take-clause-memory g c =
     let s = c.self.inside.state in
     let view : c.args.self.now ≡ s = sym c.self.view_is in
     let stands : SystemStands given.header given.outside s = subst (λ (z : State). SystemStands given.header given.outside z) view c.requires.1.1.0 in
-    let past = c.requires.1.1.1.1.0 ∙ ap (λ (z : State). z.history.items) view in
-    let more : HasMore given.command s.history.items = subst (λ (z : State). HasMore given.command z.history.items) view c.requires.1.1.1.1.1 in
+    let past = c.requires.1.1.1.1.1.0 ∙ ap (λ (z : State). z.history.items) view in
+    let more : HasMore given.command s.history.items = subst (λ (z : State). HasMore given.command z.history.items) view c.requires.1.1.1.1.1.1 in
     λ none. subst (λ (z : State). MayCutOpen given.header given.outside given.command z.history.items c.take.new.self.history.items) (sym view)
     (cuts_settle given s c.take.new.self.history.items stands past more c.in_err-take.ensures.cut)
 
 pub returns-clause-legal : goal.returns-clause-legal
 returns-clause-legal g c =
     let stands = c.requires.1.1.0 in
-    let past = c.requires.1.1.1.1.0 in
-    let more = c.requires.1.1.1.1.1 in
+    let past = c.requires.1.1.1.1.1.0 in
+    let more = c.requires.1.1.1.1.1.1 in
     λ took. keeps_settle g.given c.args.self.now c.take.new.self stands past more c.in_ok-take.ensures.took
 
 pub returns-in_err-take-clause-grew : goal.returns-in_err-take-clause-grew
@@ -40,17 +42,17 @@ returns-in_err-take-clause-grew g c =
     let given = g.given in
     let s = c.self.inside.state in
     let view : c.args.self.now ≡ s = sym c.self.view_is in
-    let past = c.requires.1.1.1.1.0 ∙ ap (λ (z : State). z.history.items) view in
+    let past = c.requires.1.1.1.1.1.0 ∙ ap (λ (z : State). z.history.items) view in
     subst (λ (z : State). GrowsWithinLimit z.history.items c.take.new.self.history.items) (sym view) (grew_cut given None s.history.items c.take.new.self.history.items c.in_err-take.ensures.cut past)
 
 pub returns-clause-grew : goal.returns-clause-grew
-returns-clause-grew g c = grew_taken g.given None c.args.self.now.history.items c.take.new.self.history.items c.in_ok-take.ensures.took.step c.requires.1.1.1.1.0
+returns-clause-grew g c = grew_taken g.given None c.args.self.now.history.items c.take.new.self.history.items c.in_ok-take.ensures.took.step c.requires.1.1.1.1.1.0
 
 pub returns-clause-front : goal.returns-clause-front
-returns-clause-front g c = λ took. step_taken g.given c.take.new.self.history.items c.in_ok-take.ensures.took.step ∙ c.requires.1.1.1.1.0
+returns-clause-front g c = λ took. step_taken g.given c.take.new.self.history.items c.in_ok-take.ensures.took.step ∙ c.requires.1.1.1.1.1.0
 
 pub returns-clause-count : goal.returns-clause-count
-returns-clause-count g c = λ took. takings_taken g.given c.take.new.self.history.items c.in_ok-take.ensures.took.step ∙ ap (λ z. takings z + 1) c.requires.1.1.1.1.0
+returns-clause-count g c = λ took. takings_taken g.given c.take.new.self.history.items c.in_ok-take.ensures.took.step ∙ ap (λ z. takings z + 1) c.requires.1.1.1.1.1.0
 
 pub returns-clause-unasked : goal.returns-clause-unasked
 returns-clause-unasked g c =
@@ -58,10 +60,21 @@ returns-clause-unasked g c =
     let s = c.self.inside.state in
     let view : c.args.self.now ≡ s = sym c.self.view_is in
     let stands : SystemStands given.header given.outside s = subst (λ (z : State). SystemStands given.header given.outside z) view c.requires.1.1.0 in
-    let past = c.requires.1.1.1.1.0 ∙ ap (λ (z : State). z.history.items) view in
-    let more : HasMore given.command s.history.items = subst (λ (z : State). HasMore given.command z.history.items) view c.requires.1.1.1.1.1 in
+    let past = c.requires.1.1.1.1.1.0 ∙ ap (λ (z : State). z.history.items) view in
+    let more : HasMore given.command s.history.items = subst (λ (z : State). HasMore given.command z.history.items) view c.requires.1.1.1.1.1.1 in
     let may = may_settle given c.in-Some.number s stands past more (sym c.oldest.ensures.oldest ∙ c.in-Some.is) in
-    λ took none. c.take.ensures.paging may.0 (number_read may.0 s.channels.made c.in-Some.number.0 may.1.made) (not_up given may.0 c.take.new.self.history.items may.1.may c.in_ok-take.ensures.took.step none)
+    λ took none. c.take.ensures.paging may.0 (number_read may.0 s.channels.made c.in-Some.number.0 may.1.made) (not_up given device.Paging may.0 c.take.new.self.history.items may.1.may c.in_ok-take.ensures.took.step none)
+
+pub returns-clause-files_unasked : goal.returns-clause-files_unasked
+returns-clause-files_unasked g c =
+    let given = g.given in
+    let s = c.self.inside.state in
+    let view : c.args.self.now ≡ s = sym c.self.view_is in
+    let stands : SystemStands given.header given.outside s = subst (λ (z : State). SystemStands given.header given.outside z) view c.requires.1.1.0 in
+    let past = c.requires.1.1.1.1.1.0 ∙ ap (λ (z : State). z.history.items) view in
+    let more : HasMore given.command s.history.items = subst (λ (z : State). HasMore given.command z.history.items) view c.requires.1.1.1.1.1.1 in
+    let may = may_settle given c.in-Some.number s stands past more (sym c.oldest.ensures.oldest ∙ c.in-Some.is) in
+    λ took none. c.take.ensures.files may.0 (number_read may.0 s.channels.made c.in-Some.number.0 may.1.made) (not_up given device.Files may.0 c.take.new.self.history.items may.1.may c.in_ok-take.ensures.took.step none)
 
 pub returns-in_err-take-clause-stops : goal.returns-in_err-take-clause-stops
 returns-in_err-take-clause-stops g c =
@@ -70,10 +83,25 @@ returns-in_err-take-clause-stops g c =
     let new = c.take.new.self.history.items in
     let view : c.args.self.now ≡ s = sym c.self.view_is in
     let stands : SystemStands given.header given.outside s = subst (λ (z : State). SystemStands given.header given.outside z) view c.requires.1.1.0 in
-    let past = c.requires.1.1.1.1.0 ∙ ap (λ (z : State). z.history.items) view in
-    let more : HasMore given.command s.history.items = subst (λ (z : State). HasMore given.command z.history.items) view c.requires.1.1.1.1.1 in
+    let past = c.requires.1.1.1.1.1.0 ∙ ap (λ (z : State). z.history.items) view in
+    let more : HasMore given.command s.history.items = subst (λ (z : State). HasMore given.command z.history.items) view c.requires.1.1.1.1.1.1 in
     let may = may_settle given c.in-Some.number s stands past more (sym c.oldest.ensures.oldest ∙ c.in-Some.is) in
     let made = number_read may.0 s.channels.made c.in-Some.number.0 may.1.made in
     let e = c.in_err-take.ensures in
-    λ none. subst (λ (z : State). IsMemoryStop before_step z.history.items new c.args.paging.now c.take.new.paging) (sym view)
-    (stops_by before_step given may.0 s.history.items new c.args.paging.now c.take.new.paging may.1.may (λ step. step_taken given new step ∙ past) (e.down may.0 made) e.unmoved e.cut)
+    λ none. subst (λ (z : State). IsMemoryStop given.header device.Paging before_step z.history.items new c.args.paging.now c.take.new.paging) (sym view)
+    (stops_by before_step given device.Paging may.0 s.history.items new c.args.paging.now c.take.new.paging may.1.may (λ step. step_taken given new step ∙ past) (c.take.ensures.paging may.0 made) (e.down may.0 made) (λ same. (e.unmoved same).0) e.cut)
+
+pub returns-in_err-take-clause-files_stops : goal.returns-in_err-take-clause-files_stops
+returns-in_err-take-clause-files_stops g c =
+    let given = g.given in
+    let s = c.self.inside.state in
+    let new = c.take.new.self.history.items in
+    let view : c.args.self.now ≡ s = sym c.self.view_is in
+    let stands : SystemStands given.header given.outside s = subst (λ (z : State). SystemStands given.header given.outside z) view c.requires.1.1.0 in
+    let past = c.requires.1.1.1.1.1.0 ∙ ap (λ (z : State). z.history.items) view in
+    let more : HasMore given.command s.history.items = subst (λ (z : State). HasMore given.command z.history.items) view c.requires.1.1.1.1.1.1 in
+    let may = may_settle given c.in-Some.number s stands past more (sym c.oldest.ensures.oldest ∙ c.in-Some.is) in
+    let made = number_read may.0 s.channels.made c.in-Some.number.0 may.1.made in
+    let e = c.in_err-take.ensures in
+    λ none. subst (λ (z : State). IsMemoryStop given.header device.Files before_step z.history.items new c.args.files.now c.take.new.files) (sym view)
+    (stops_by before_step given device.Files may.0 s.history.items new c.args.files.now c.take.new.files may.1.may (λ step. step_taken given new step ∙ past) (c.take.ensures.files may.0 made) (e.down may.0 made) (λ same. (e.unmoved same).1) e.cut)
