@@ -1,22 +1,26 @@
--- Where no header line is one for which nothing is built, a script has one host and no object.
-use Rattle.std.proofs.Common.{◌≡◌, ℕ, ◌+◌, ◌-◌, ◌≤◌, nat_lt, nat_le, Bool, true, false, ◌&&◌, ◌||◌, cond, List, [], ◌∷◌, length, reverse, replicate, Option, Some, None, Result, Ok, Err, refl, ap, sym, ◌∙◌, arith, slice_set, subst}
+-- Where no header line is one for which nothing is built, a script has one host, and each object that it declares is a file.
+use Rattle.std.proofs.Common.{◌≡◌, ℕ, ◌+◌, ◌-◌, ◌≤◌, nat_lt, nat_le, Bool, true, false, ◌&&◌, ◌||◌, cond, List, [], ◌∷◌, length, reverse, replicate, Option, Some, None, Result, Ok, Err, refl, ap, arith, slice_set, subst}
 use Rattle.std.proofs.lemmas.Bool.{ltb-true, ltb-false}
 use Rattle.std.proofs.lemmas.List.{length-set, length-replicate, length-reverse}
+use Rattle.std.proofs.lemmas.List.Elements.{All-nil, All-cons}
+use Rattle.std.specs.List.{All}
+use Rattle.vm_base.specs.declared.ids.ObjectKind.TheVariants as kinds
 use Rattle.vm_model.specs.declared.fault.ScriptFault.{ScriptFault}
 use Rattle.vm_model.specs.declared.fault.ScriptFault.TheVariants.{UnknownWord}
+use Rattle.vm_model.specs.declared.script.Declared.{Declared}
 use Rattle.vm_model.specs.declared.script.Script.{Script}
 use Rattle.vm_text.specs.declared.meaning.HeaderWord.{HeaderWord}
 use Rattle.vm_text.specs.declared.meaning.HeaderWord.TheVariants as heads
 use Rattle.vm_text.specs.declared.meaning.CommandWord.{CommandWord}
-use Rattle.vm_text.specs.Forms.{Heading, header_words, command_words, stands_already, header_form, hosts_line, frames_line, page_line, slots_line, command_form, host_in_word, page_size}
+use Rattle.vm_text.specs.Forms.{Heading, header_words, command_words, stands_already, header_form, hosts_line, frames_line, page_line, slots_line, new_name, object_line, command_form, host_in_word, page_size}
 use Rattle.vm_text.specs.Script.{Reading, nothing_read, Whole, whole_of, header_line, command_line, line_read, lines_read, script_of, whole_script}
 use Rattle.vm_text.specs.Unbuilt.{names_several, is_unbuilt_header, is_unbuilt, unbuilt_from, IsBuilt}
 use Rattle.vm_text.specs.Words.{◌>>=◌, lines_of, words_of, is_comment, word_in, one_word, two_words, number_of, number_between, within}
 
--- at most one host so far, and no object
+-- at most one host so far, and no object but files
 record SoFar (heading : Heading) : Type 0 where
   few : length heading.frames ≤ 1
-  none : heading.objects ≡ []
+  files : All (λ object. object.kind ≡ kinds.File) heading.objects
 
 -- what went before, and what came of it
 bound : {A B : Type 0} (r : Result A ScriptFault) (f : A → Result B ScriptFault) (y : B) → (r >>= f) ≡ Ok y → (x : A) × (r ≡ Ok x) × (f x ≡ Ok y)
@@ -48,7 +52,7 @@ hosts_ok old new (a ∷ b ∷ []) is few so =
     let two = bound (number_between 2 4096 b) _ new one.2 in
     let new_is : record old { frames = replicate one.0 two.0 } ≡ new = cc in
     let less = one_at_most (number_of a) one.0 few one.1 in
-    let made : SoFar (record old { frames = replicate one.0 two.0 }) = record { few = rw (length-replicate one.0 two.0) less; none = so.none } in
+    let made : SoFar (record old { frames = replicate one.0 two.0 }) = record { few = rw (length-replicate one.0 two.0) less; files = so.files } in
     subst SoFar new_is made
 hosts_ok old new (a ∷ b ∷ c ∷ line) is few so = absurd (cc)
 
@@ -58,7 +62,7 @@ frames_ok old new line is so =
     let two = bound (host_in_word old one.0.0) _ new one.2 in
     let three = bound (number_between 2 4096 one.0.1) _ new two.2 in
     let new_is : record old { frames = slice_set old.frames two.0.0 three.0 } ≡ new = cc in
-    let made : SoFar (record old { frames = slice_set old.frames two.0.0 three.0 }) = record { few = rw (length-set old.frames two.0.0 three.0) so.few; none = so.none } in
+    let made : SoFar (record old { frames = slice_set old.frames two.0.0 three.0 }) = record { few = rw (length-set old.frames two.0.0 three.0) so.few; files = so.files } in
     subst SoFar new_is made
 
 page_ok : (old new : Heading) (line : List (List ℕ)) → page_line old line ≡ Ok new → SoFar old → SoFar new
@@ -66,7 +70,7 @@ page_ok old new line is so =
     let one = bound (one_word line) _ new is in
     let two = bound (page_size one.0) _ new one.2 in
     let new_is : record old { size = Some two.0 } ≡ new = cc in
-    let made : SoFar (record old { size = Some two.0 }) = record { few = so.few; none = so.none } in
+    let made : SoFar (record old { size = Some two.0 }) = record { few = so.few; files = so.files } in
     subst SoFar new_is made
 
 slots_ok : (old new : Heading) (line : List (List ℕ)) → slots_line old line ≡ Ok new → SoFar old → SoFar new
@@ -74,7 +78,17 @@ slots_ok old new line is so =
     let one = bound (one_word line) _ new is in
     let two = bound (number_between 0 65536 one.0) _ new one.2 in
     let new_is : record old { slots = Some two.0 } ≡ new = cc in
-    let made : SoFar (record old { slots = Some two.0 }) = record { few = so.few; none = so.none } in
+    let made : SoFar (record old { slots = Some two.0 }) = record { few = so.few; files = so.files } in
+    subst SoFar new_is made
+
+file_ok : (old new : Heading) (line : List (List ℕ)) → object_line kinds.File old line ≡ Ok new → SoFar old → SoFar new
+file_ok old new line is so =
+    let one = bound (two_words line) _ new is in
+    let two = bound (new_name old one.0.0) _ new one.2 in
+    let three = bound (number_between 1 4096 one.0.1) _ new two.2 in
+    let object : Declared = record { name = two.0; kind = kinds.File; pages = three.0 } in
+    let new_is : record old { objects = object ∷ old.objects } ≡ new = cc in
+    let made : SoFar (record old { objects = object ∷ old.objects }) = record { few = so.few; files = All-cons (λ o. o.kind ≡ kinds.File) object old.objects refl so.files } in
     subst SoFar new_is made
 
 header_ok : (old new : Heading) (word : HeaderWord) (line : List (List ℕ)) → header_form old word line ≡ Ok new → is_unbuilt_header word line ≡ false → SoFar old → SoFar new
@@ -82,7 +96,7 @@ header_ok old new heads.Hosts line is built so = hosts_ok old new line is built 
 header_ok old new heads.Frames line is built so = frames_ok old new line (reached (nat_lt 0 (length old.frames)) (frames_line old line) _ new is).1 so
 header_ok old new heads.Page line is built so = page_ok old new line is so
 header_ok old new heads.Slots line is built so = slots_ok old new line is so
-header_ok old new heads.File line is built so = absurd (cc)
+header_ok old new heads.File line is built so = file_ok old new line is so
 header_ok old new heads.Shared line is built so = absurd (cc)
 header_ok old new heads.Wild line is built so = absurd (cc)
 
@@ -127,7 +141,7 @@ ended number reading script is so =
     let count = length-reverse script.header.frames.items in
     record {
       one_host = omega (arith, some, so.few, frames, count);
-      no_object = sym (ap (λ (w : Whole). w.objects) whole) ∙ so.none;
+      files = subst (All (λ object. object.kind ≡ kinds.File)) (ap (λ (w : Whole). w.objects) whole) so.files;
     }
 
 passed_over : (t : Bool) (n : ℕ) (more : Option ℕ) → cond t (Some n) more ≡ None → (t ≡ false) × (more ≡ None)
@@ -150,4 +164,4 @@ lines_ok number reading (line ∷ lines) script is none so =
 
 pub built : (bytes : List ℕ) (script : Script) → unbuilt_from 1 (lines_of bytes) ≡ None → script_of bytes ≡ Ok (whole_script script) → IsBuilt script.header
 built bytes script none is =
-    lines_ok 1 nothing_read (lines_of bytes) script (passed (nat_lt 1048576 (length bytes)) _ _ (whole_script script) is) none (record { few = omega arith; none = refl })
+    lines_ok 1 nothing_read (lines_of bytes) script (passed (nat_lt 1048576 (length bytes)) _ _ (whole_script script) is) none (record { few = omega arith; files = All-nil (λ object. object.kind ≡ kinds.File) })

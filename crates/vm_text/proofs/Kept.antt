@@ -1,19 +1,25 @@
 -- What the header lines and the lines of a whole script keep, once they are read.
-use Rattle.std.proofs.Common.{◌≡◌, ◌≢◌, ℕ, suc, ◌+◌, ◌-◌, ◌<◌, ◌≤◌, ◌==◌, ◌||◌, inr, Bool, true, false, nat_le, nat_lt, List, [], ◌∷◌, length, length-set, get_or, reverse, slice_set, Option, Some, None, is_some, Result, Ok, Err, IfOk, refl, sym, subst, arith}
+use Rattle.std.proofs.Common.{◌≡◌, ◌≢◌, ℕ, suc, ◌+◌, ◌-◌, ◌<◌, ◌≤◌, ◌==◌, ◌||◌, inr, Bool, true, false, nat_le, nat_lt, List, [], ◌∷◌, length, length-set, get_or, reverse, slice_set, Option, Some, None, is_some, Result, Ok, Err, IfOk, refl, sym, ◌∙◌, cond, subst, arith}
+use Rattle.std.proofs.lemmas.Bool.{or_parts, true≢false}
 use Rattle.std.proofs.lemmas.Bool.Decides.{nat_tests}
 use Rattle.std.proofs.lemmas.Grind.{get_or-set_at}
 use Rattle.std.proofs.lemmas.List.{length-replicate, length-reverse, reverse-reverse, get_or-reverse, get_or-set_other}
 use Rattle.std.proofs.lemmas.List.Elements.{All-nil, All-cons, All-replicate}
+use Rattle.std.proofs.lemmas.List.Kept.{AllPairs-cons}
+use Rattle.std.proofs.lemmas.Slice.Eq.{bytes_eq-Decides}
 use Rattle.std.specs.List.{All}
 use Rattle.std.specs.Option.{unwrap_or}
+use Rattle.std.specs.Str.{bytes_eq}
 use Rattle.vm_base.specs.Pages.{IsPageSize}
 use Rattle.vm_base.specs.declared.ids.ObjectKind.{ObjectKind}
 use Rattle.vm_base.specs.declared.ids.ObjectKind.TheVariants as kinds
 use Rattle.vm_model.specs.Name.{is_name}
+use Rattle.vm_model.specs.Named.{AreNamedOnce}
 use Rattle.vm_model.specs.Ranges.{IsBetween, IsCommand, RiseBelow, KeepsRanges}
 use Rattle.vm_model.specs.declared.command.Numbered.{Numbered}
 use Rattle.vm_model.specs.declared.fault.ScriptFault.{ScriptFault}
 use Rattle.vm_model.specs.declared.fault.ScriptFault.TheVariants.{UnknownWord}
+use Rattle.vm_model.specs.declared.script.Declared.{Declared}
 use Rattle.vm_model.specs.declared.script.Script.{Script}
 use Rattle.vm_text.specs.declared.error.ScriptError.{ScriptError}
 use Rattle.vm_text.specs.declared.error.ScriptError.TheVariants as errors
@@ -32,6 +38,7 @@ record HeadingKept (heading : Heading) : Type 0 where
   frames : All (IsBetween 2 4096) heading.frames
   objects : length heading.objects ≤ 8192
   pages : All (λ object. IsBetween 1 4096 object.pages) heading.objects
+  names : AreNamedOnce heading.objects
 
 record ReadingKept (number : ℕ) (reading : Reading) : Type 0 where
   heading : HeadingKept reading.heading
@@ -48,27 +55,37 @@ All-set P xs i x all is = λ k d less.
       | false ↦ λ other. let away : k ≢ i = grind (arith, nat_tests) in rw (get_or-set_other xs i k x d away) (all k d within)
     ] refl
 
-few : (stands_already : Bool) (n : ℕ) → (stands_already || nat_le 8192 n) ≡ false → n < 8192
-few true n isnt = absurd (cc)
-few false n isnt = grind (arith, nat_tests)
+few : (n : ℕ) → nat_le 8192 n ≡ false → n < 8192
+few n isnt = grind (arith, nat_tests)
 
-new_kept : (heading : Heading) (word : List ℕ) → Reads (λ name. length heading.objects < 8192) (new_name heading word)
+-- no object has a name that isn't declared
+undeclared : (name : List ℕ) (objects : List Declared) → is_some (declared_at name objects) ≡ false → All (λ older. name ≢ older.name) objects
+undeclared name [] isnt = All-nil (λ older. name ≢ older.name)
+undeclared name (object ∷ objects) isnt = by_test (bytes_eq object.name name) refl isnt (undeclared name objects)
+  where
+    by_test : (t : Bool) → bytes_eq object.name name ≡ t → is_some (cond t (Some (length objects)) (declared_at name objects)) ≡ false
+        → (is_some (declared_at name objects) ≡ false → All (λ older. name ≢ older.name) objects) → All (λ older. name ≢ older.name) (object ∷ objects)
+    by_test true is found rest = absurd (true≢false found)
+    by_test false is none rest = All-cons (λ older. name ≢ older.name) object objects (λ same. true≢false (sym ((bytes_eq-Decides object.name name).1 (sym same)) ∙ is)) (rest none)
+
+new_kept : (heading : Heading) (word : List ℕ) → Reads (λ name. (length heading.objects < 8192) × All (λ older. name ≢ older.name) heading.objects) (new_name heading word)
 new_kept heading word = tested (is_name word) _ _ λ _. untested (is_some (declared_at word heading.objects) || nat_le 8192 (length heading.objects)) _ _ λ isnt.
-    read (few (is_some (declared_at word heading.objects)) (length heading.objects) isnt)
+    let parts = or_parts (is_some (declared_at word heading.objects)) (nat_le 8192 (length heading.objects)) isnt in
+    read (few (length heading.objects) parts.1, undeclared word heading.objects parts.0)
 
 object_kept : (kind : ObjectKind) (heading : Heading) (line : List (List ℕ)) → HeadingKept heading → Reads HeadingKept (object_line kind heading line)
 object_kept kind heading line kept = any (two_words line) andthen λ w _. new_kept heading w.0 andthen λ name room. between 1 4096 w.1 andthen λ pages is.
-    read (record { size = kept.size; slots = kept.slots; hosts = kept.hosts; frames = kept.frames; objects = room; pages = All-cons (λ object. IsBetween 1 4096 object.pages) _ _ is kept.pages })
+    read (record { size = kept.size; slots = kept.slots; hosts = kept.hosts; frames = kept.frames; objects = room.0; pages = All-cons (λ object. IsBetween 1 4096 object.pages) _ _ is kept.pages; names = AllPairs-cons (λ newer older. newer.name ≢ older.name) _ heading.objects room.1 kept.names })
 
 header_kept : (heading : Heading) (word : HeaderWord) (line : List (List ℕ)) → HeadingKept heading → Reads HeadingKept (header_form heading word line)
 header_kept heading heads.Hosts line kept = any (two_words line) andthen λ w _. between 1 8 w.0 andthen λ hosts one. between 2 4096 w.1 andthen λ frames two.
-    read (record { size = kept.size; slots = kept.slots; hosts = rw length-replicate one.1; frames = All-replicate (IsBetween 2 4096) hosts frames two; objects = kept.objects; pages = kept.pages })
+    read (record { size = kept.size; slots = kept.slots; hosts = rw length-replicate one.1; frames = All-replicate (IsBetween 2 4096) hosts frames two; objects = kept.objects; pages = kept.pages; names = kept.names })
 header_kept heading heads.Frames line kept = tested (nat_lt 0 (length heading.frames)) _ _ λ _. any (two_words line) andthen λ w _. hosted heading w.0 andthen λ host one. between 2 4096 w.1 andthen λ frames two.
-    read (record { size = kept.size; slots = kept.slots; hosts = rw length-set kept.hosts; frames = All-set (IsBetween 2 4096) heading.frames host.0 frames kept.frames two; objects = kept.objects; pages = kept.pages })
+    read (record { size = kept.size; slots = kept.slots; hosts = rw length-set kept.hosts; frames = All-set (IsBetween 2 4096) heading.frames host.0 frames kept.frames two; objects = kept.objects; pages = kept.pages; names = kept.names })
 header_kept heading heads.Page line kept = any (one_word line) andthen λ w _. page_sized w andthen λ size is.
-    read (record { size = is; slots = kept.slots; hosts = kept.hosts; frames = kept.frames; objects = kept.objects; pages = kept.pages })
+    read (record { size = is; slots = kept.slots; hosts = kept.hosts; frames = kept.frames; objects = kept.objects; pages = kept.pages; names = kept.names })
 header_kept heading heads.Slots line kept = any (one_word line) andthen λ w _. upto 65536 w andthen λ slots is.
-    read (record { size = kept.size; slots = is; hosts = kept.hosts; frames = kept.frames; objects = kept.objects; pages = kept.pages })
+    read (record { size = kept.size; slots = is; hosts = kept.hosts; frames = kept.frames; objects = kept.objects; pages = kept.pages; names = kept.names })
 header_kept heading heads.File line kept = object_kept kinds.File heading line kept
 header_kept heading heads.Shared line kept = object_kept kinds.Shared heading line kept
 header_kept heading heads.Wild line kept = object_kept kinds.Wild heading line kept
@@ -121,6 +138,7 @@ record WholeKept (whole : Whole) : Type 0 where
   frames : All (IsBetween 2 4096) whole.frames
   objects : length whole.objects ≤ 8192
   pages : All (λ object. IsBetween 1 4096 object.pages) whole.objects
+  names : AreNamedOnce whole.objects
   commands : All (λ numbered. IsCommand (length whole.frames) (length whole.objects) whole.size numbered.command) whole.commands
   rising : RiseBelow (whole.lines + 1) whole.commands
   lines : whole.lines ≤ 20000
@@ -142,6 +160,7 @@ lines_kept [] number reading some few kept = tested (nat_lt 0 (length reading.he
       frames = kept.heading.frames;
       objects = kept.heading.objects;
       pages = kept.heading.pages;
+      names = kept.heading.names;
       commands = kept.commands;
       rising = subst (λ z. RiseBelow z reading.commands) (sym same) kept.rising;
       lines = omega arith;
@@ -159,6 +178,7 @@ none_kept = record {
     frames = All-nil (IsBetween 2 4096);
     objects = omega arith;
     pages = All-nil (λ object. IsBetween 1 4096 object.pages);
+    names = λ i j d before within. absurd (omega (arith, within));
   };
   commands = All-nil (λ numbered. InReach nothing_read.heading numbered.command);
   rising = tt;
@@ -186,6 +206,7 @@ script_kept (Ok script) bytes is =
       frames = subst (All (IsBetween 2 4096)) (reverse-reverse script.header.frames.items) (All-reverse (IsBetween 2 4096) (reverse script.header.frames.items) kept.frames);
       objects = kept.objects;
       pages = kept.pages;
+      names = kept.names;
       commands = subst (λ n. All (λ numbered. IsCommand n (length script.header.objects.items) script.header.size numbered.command) script.commands.items) hosts kept.commands;
       rising = kept.rising;
       lines = kept.lines;

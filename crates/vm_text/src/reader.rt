@@ -139,7 +139,8 @@ fn error_at(line: u32, stop: LineStop) -> ScriptError
 /// Reads a whole script, or answers the first line that has a fault and the first fault of that line.
 ///
 /// The bytes are passed over once and none of them are kept: what is kept are the commands, and the
-/// declared objects. Each number of a script that was read is in its range.
+/// declared objects. Each number of a script that was read is in its range, and no two objects have
+/// one name.
 pub fn read_script(alloc: Global, bytes: &[u8]) -> Result<Script, ScriptError>
     ensures exact { IsRead result (script_of bytes.now) }
     ensures ranges { IfOk result KeepsRanges }

@@ -31,18 +31,18 @@ fn is_unbuilt(line: &[u8]) -> bool
     };
     match header_word(word) {
         Some(HeaderWord::Hosts) => are_many(rest),
-        Some(HeaderWord::File | HeaderWord::Shared | HeaderWord::Wild) => true,
+        Some(HeaderWord::Shared | HeaderWord::Wild) => true,
         _ => false,
     }
 }
 
 /// The number of the first header line of a script for which nothing is built: one that declares
-/// an object, or more hosts than one. Lines are counted from 1 on.
+/// a shared or a wild object, or more hosts than one. Lines are counted from 1 on.
 ///
 /// It answers `None` where there is no such line, and for more bytes than a script may have.
 pub fn unbuilt_header(bytes: &[u8]) -> Option<u32>
     ensures exact { result ≡ unbuilt_of bytes.now }
-    // A script that is read has one host and no object then.
+    // A script that is read has one host then, and declares no object but files.
     ensures built { result ≡ None → (script : Script) → script_of bytes.now ≡ Ok (whole_script script) → IsBuilt script.header }
 {
     if bytes.len() > MOST_SCRIPT_BYTES {
