@@ -1,15 +1,16 @@
 // Two hosts, each with a task of its own: what one does is nothing to the other.
-ghost use Rattle.std.specs.Prelude.{◌≡◌, All, List, [], ℕ, true, IfOk};
+ghost use Rattle.std.specs.Prelude.{◌≡◌, All, List, [], ℕ, true, IfOk, OnOk};
 ghost use Rattle.vm_legal.specs.Outside.{Outside};
 ghost use Rattle.vm_outside.specs.Areas.{Told};
 ghost use Rattle.vm_model.specs.Ranges.{InRange, KeepsRanges};
-ghost use Rattle.vm_system.specs.Stands.{AllTold, PagingIsKept, SystemStands};
-ghost use Rattle.vm_system.specs.Steps.{Setting, system_runs};
+ghost use Rattle.vm_system.specs.Keeping.{FilesAreTold};
+ghost use Rattle.vm_system.specs.Stands.{AllTold, FilesAreKept, PagingIsKept, SystemStands};
+ghost use Rattle.vm_system.specs.Steps.{Setting};
 
 use std::alloc::Global;
 use std::test::Fail;
 use vm_base::NoMemory;
-use vm_model::{Command, History, Script};
+use vm_model::{History, Numbered, Script};
 use vm_outside::{Armed, Backing, SureBacking};
 use vm_system::{System, SystemStop};
 use vm_text::{read_script, write_event};
@@ -84,21 +85,30 @@ line 19
 refused 103
 ";
 
-fn is_run(command: &Command) -> bool
-    ensures { result ≡ true → system_runs command.now ≡ true }
+// One command's step; none where it isn't built.
+fn step_one<F: Backing, P: Backing>(
+    numbered: &Numbered,
+    system: &mut System,
+    files: &mut Armed<F>,
+    paging: &mut Armed<P>,
+) -> Result<(), SystemStop>
+    ghost given: { Setting }
+    requires stands { SystemStands given.header given.outside system.old }
+    requires kept { PagingIsKept given.header given.outside (P.area paging.old.inner) system.old }
+    requires files { FilesAreKept given.header given.outside (F.area files.old.inner) system.old }
+    requires range { InRange given.header numbered.now.command }
+    ensures stands { OnOk result (SystemStands given.header given.outside system.new) }
+    ensures kept { OnOk result (PagingIsKept given.header given.outside (P.area paging.new.inner) system.new) }
+    ensures files { OnOk result (FilesAreKept given.header given.outside (F.area files.new.inner) system.new) }
 {
-    matches!(
-        command,
-        Command::Task { .. }
-            | Command::Allocate { .. }
-            | Command::Load { .. }
-            | Command::Store { .. }
-            | Command::Take { .. }
-            | Command::Pageout { .. }
-    )
+    if system.copies_declared(&numbered.command) {
+        return Ok(());
+    }
+    system.step(numbered.line, &numbered.command, files, paging)?;
+    Ok(())
 }
 
-// Runs those of a script's commands that this test has, each in a step.
+// Runs a script's commands, each in a step.
 fn run<F: Backing, P: Backing>(
     script: &Script,
     system: &mut System,
@@ -110,12 +120,11 @@ fn run<F: Backing, P: Backing>(
     requires ranges { All (λ numbered. InRange script.now.header numbered.command) script.now.commands.items }
     requires stands { SystemStands given.header given.outside system.old }
     requires kept { PagingIsKept given.header given.outside (P.area paging.old.inner) system.old }
+    requires files { FilesAreKept given.header given.outside (F.area files.old.inner) system.old }
 {
     'commands: for i in 0..script.commands.len() {
         let numbered = script.commands.at(i);
-        if is_run(&numbered.command) {
-            system.step(numbered.line, &numbered.command, files, paging)?;
-        }
+        step_one(numbered, system, files, paging)?;
     }
     Ok(())
 }
@@ -132,6 +141,7 @@ fn run_in_memory(
     requires ranges { All (λ numbered. InRange script.now.header numbered.command) script.now.commands.items }
     requires stands { SystemStands given.header given.outside system.old }
     requires kept { PagingIsKept given.header given.outside (⟦<SureBacking as Backing>⟧.area paging.old.inner) system.old }
+    requires files { FilesAreKept given.header given.outside (⟦<SureBacking as Backing>⟧.area files.old.inner) system.old }
 {
     run(script, system, files, paging)
 }
@@ -164,6 +174,7 @@ fn started(alloc: Global, script: &Script) -> Result<System, NoMemory>
     requires plain { script.now.header.objects.items ≡ [] }
     ensures stands { (outside : Outside) → IfOk result (λ system. SystemStands script.now.header outside system) }
     ensures kept { (outside : Outside) → (areas : List ℕ → Told) → IfOk result (λ system. (outside.paging ≡ true → AllTold areas system.pagers.items) → PagingIsKept script.now.header outside areas system) }
+    ensures files { (outside : Outside) → (areas : List ℕ → Told) → IfOk result (λ system. FilesAreTold script.now.header outside areas → FilesAreKept script.now.header outside areas system) }
 {
     System::new(alloc, &script.header)
 }

@@ -1,7 +1,7 @@
 // Each call once, on a host of four frames where nothing is on its way.
-ghost use Rattle.std.specs.Prelude.{◌≡◌, IfOk};
-ghost use Rattle.vm_kernel.specs.Matches.{IsPlain};
-ghost use Rattle.vm_system.specs.Stands.{PagingIsKept, SystemStands};
+ghost use Rattle.std.specs.Prelude.{◌≡◌, IfOk, []};
+ghost use Rattle.vm_kernel.specs.Matches.{IsRanged};
+ghost use Rattle.vm_system.specs.Stands.{FilesAreKept, PagingIsKept, SystemStands};
 ghost use Rattle.vm_system.specs.Steps.{Setting};
 
 use std::alloc::Global;
@@ -12,7 +12,8 @@ use vm_outside::{Armed, Backing, SureBacking};
 use vm_system::{System, SystemStop, settle};
 
 fn header_of(alloc: Global, frames: u32) -> Result<Header, Fail>
-    ensures plain { IfOk result (λ header. IsPlain header) }
+    ensures ranged { IfOk result (λ header. IsRanged header) }
+    ensures bare { IfOk result (λ header. header.objects.items ≡ []) }
     ensures slots { IfOk result (λ header. header.slots ≡ 1) }
 {
     let size = PageSize::of(16).ok_or("16 is a page size")?;
@@ -37,6 +38,7 @@ fn settle_all(
     requires header { given.header ≡ header.now }
     requires stands { SystemStands given.header given.outside system.old }
     requires kept { PagingIsKept given.header given.outside (⟦<SureBacking as Backing>⟧.area paging.old.inner) system.old }
+    requires files { FilesAreKept given.header given.outside (⟦<SureBacking as Backing>⟧.area files.old.inner) system.old }
 {
     let command = Command::Settle { count: 2 };
     let events = system.step(1, &command, files, paging)?;

@@ -1,13 +1,16 @@
--- Lines and takings of a step, and whether a pager took a message in it.
-use Rattle.std.proofs.Common.{◌≡◌, ℕ, ◌+◌, ◌≤◌, ◌⊎◌, inl, inr, List, [], ◌∷◌, ◌++◌, true, false, None, refl, ap, sym, subst, arith}
+-- Lines and takings of a step, and whether a pager of a backing took a message in it.
+use Rattle.std.proofs.Common.{◌≡◌, ℕ, ◌+◌, ◌≤◌, ◌⊎◌, inl, inr, List, [], ◌∷◌, ◌++◌, Bool, true, false, None, refl, ap, sym, ◌∙◌, subst, arith}
+use Rattle.std.specs.Prelude.{if◌then◌else◌}
+use Rattle.vm_model.specs.declared.event.Device.{Device}
 use Rattle.vm_model.specs.declared.event.Event.{Event}
 use Rattle.vm_model.specs.declared.event.Event.TheVariants as event
 use Rattle.vm_model.specs.declared.command.Numbered.{Numbered}
 use Rattle.vm_model.specs.declared.message.Channel.TheVariants.{Up, Down}
+use Rattle.vm_model.specs.declared.script.Header.{Header}
 use Rattle.vm_model.specs.Moments.{before_last_line}
 use Rattle.vm_model.specs.Summary.{count_of, is_line}
 use Rattle.vm_legal.specs.Steps.{before_step, takings}
-use Rattle.vm_system.specs.Steps.{arms_paging, took_up}
+use Rattle.vm_system.specs.Steps.{arms, device_of, is_device, took_any, took_up}
 use Rattle.vm_top.specs.Arming.{is_untouched}
 
 -- a step that begins with a line has one line more
@@ -40,35 +43,68 @@ takings_none (event.Line line ∷ past) none = refl
 takings_none (event.Taken channel m ∷ past) none = absurd (omega arith)
 takings_none (e ∷ past) none = takings_none past none
 
--- no pager took a message in the step, and none in front of it
-pub untouched_line : (n : Numbered) (run : List Numbered) (new old : List Event) → arms_paging n.command ≡ None → before_last_line new ≡ old → is_untouched (n ∷ run) new ≡ true
-    → (took_up new ≡ false) × (is_untouched run old ≡ true)
-untouched_line n run [] old arms front un = (refl, subst (λ z. is_untouched run z ≡ true) front refl)
-untouched_line n run (event.Line line ∷ past) old arms front un = (refl, subst (λ z. is_untouched run z ≡ true) front (rw arms at un))
-untouched_line n run (event.Taken (Up host object) m ∷ past) old arms front un = absurd (cc)
-untouched_line n run (event.Taken (Down host object control) m ∷ past) old arms front un = (refl, (untouched_line n run past old arms front un).1)
-untouched_line n run (e ∷ past) old arms front un = untouched_line n run past old arms front un
+-- what is untouched behind a pager's taking is so in front of it
+unasked : (b x : Bool) → (if b then false else x) ≡ true → (b ≡ false) × (x ≡ true)
+unasked true x is = absurd (cc)
+unasked false x is = (refl, is)
 
-pub untouched_taking : (n : Numbered) (run : List Numbered) (new old : List Event) → before_step new ≡ old → takings new ≡ takings old + 1 → is_untouched (n ∷ run) new ≡ true
-    → (took_up new ≡ false) × (is_untouched (n ∷ run) old ≡ true)
-untouched_taking n run [] old front more un = absurd (omega arith)
-untouched_taking n run (event.Line line ∷ past) old front more un = absurd (omega arith)
-untouched_taking n run (event.Taken (Up host object) m ∷ past) old front more un = absurd (cc)
-untouched_taking n run (event.Taken (Down host object control) m ∷ past) old front more un = (refl, subst (λ z. is_untouched (n ∷ run) z ≡ true) front un)
-untouched_taking n run (e ∷ past) old front more un = untouched_taking n run past old front more un
+-- no pager of the backing took a message in the step, and none in front of it
+pub untouched_line : (header : Header) (who : Device) (n : Numbered) (run : List Numbered) (new old : List Event) → arms who n.command ≡ None → before_last_line new ≡ old → is_untouched header who (n ∷ run) new ≡ true
+    → (took_up header who new ≡ false) × (is_untouched header who run old ≡ true)
+untouched_line header who n run [] old unarmed front un = (refl, subst (λ z. is_untouched header who run z ≡ true) front refl)
+untouched_line header who n run (event.Line line ∷ past) old unarmed front un = (refl, subst (λ z. is_untouched header who run z ≡ true) front (rw unarmed at un))
+untouched_line header who n run (event.Taken (Up host object) m ∷ past) old unarmed front un =
+    let both = unasked (is_device who (device_of header object)) (is_untouched header who (n ∷ run) past) un in
+    (both.0, (untouched_line header who n run past old unarmed front both.1).1)
+untouched_line header who n run (event.Taken (Down host object control) m ∷ past) old unarmed front un = (refl, (untouched_line header who n run past old unarmed front un).1)
+untouched_line header who n run (e ∷ past) old unarmed front un = untouched_line header who n run past old unarmed front un
 
--- a pager took a message in the step
-pub untouched_up : (run : List Numbered) (h : List Event) → took_up h ≡ true → is_untouched run h ≡ true → ⊥
-untouched_up run [] took un = absurd (cc)
-untouched_up run (event.Line line ∷ past) took un = absurd (cc)
-untouched_up [] (event.Taken (Up host object) m ∷ past) took un = absurd (cc)
-untouched_up (n ∷ run) (event.Taken (Up host object) m ∷ past) took un = absurd (cc)
-untouched_up run (event.Taken (Down host object control) m ∷ past) took un = absurd (cc)
-untouched_up [] (e ∷ past) took un = untouched_up [] past took un
-untouched_up (n ∷ run) (e ∷ past) took un = untouched_up (n ∷ run) past took un
+pub untouched_taking : (header : Header) (who : Device) (n : Numbered) (run : List Numbered) (new old : List Event) → before_step new ≡ old → takings new ≡ takings old + 1 → is_untouched header who (n ∷ run) new ≡ true
+    → (took_up header who new ≡ false) × (is_untouched header who (n ∷ run) old ≡ true)
+untouched_taking header who n run [] old front more un = absurd (omega arith)
+untouched_taking header who n run (event.Line line ∷ past) old front more un = absurd (omega arith)
+untouched_taking header who n run (event.Taken (Up host object) m ∷ past) old front more un =
+    let both = unasked (is_device who (device_of header object)) (is_untouched header who (n ∷ run) past) un in
+    (both.0, subst (λ z. is_untouched header who (n ∷ run) z ≡ true) front both.1)
+untouched_taking header who n run (event.Taken (Down host object control) m ∷ past) old front more un = (refl, subst (λ z. is_untouched header who (n ∷ run) z ≡ true) front un)
+untouched_taking header who n run (e ∷ past) old front more un = untouched_taking header who n run past old front more un
 
--- it begins with that taking, and has no line
-pub lines_up : (new old : List Event) → before_step new ≡ old → took_up new ≡ true → count_of is_line new ≡ count_of is_line old
+-- the same, where some pager took a message in the step
+pub untouched_any : (header : Header) (who : Device) (run : List Numbered) (new old : List Event) → before_step new ≡ old → took_any new ≡ true → is_untouched header who run new ≡ true
+    → (took_up header who new ≡ false) × (is_untouched header who run old ≡ true)
+untouched_any header who run [] old front took un = absurd (cc)
+untouched_any header who run (event.Line line ∷ past) old front took un = absurd (cc)
+untouched_any header who [] (event.Taken (Up host object) m ∷ past) old front took un =
+    let both = unasked (is_device who (device_of header object)) (is_untouched header who [] past) un in
+    (both.0, subst (λ z. is_untouched header who [] z ≡ true) front both.1)
+untouched_any header who (n ∷ run) (event.Taken (Up host object) m ∷ past) old front took un =
+    let both = unasked (is_device who (device_of header object)) (is_untouched header who (n ∷ run) past) un in
+    (both.0, subst (λ z. is_untouched header who (n ∷ run) z ≡ true) front both.1)
+untouched_any header who run (event.Taken (Down host object control) m ∷ past) old front took un = absurd (cc)
+untouched_any header who [] (e ∷ past) old front took un = untouched_any header who [] past old front took un
+untouched_any header who (n ∷ run) (e ∷ past) old front took un = untouched_any header who (n ∷ run) past old front took un
+
+-- a pager of the backing took a message in the step
+untouched_up : (header : Header) (who : Device) (run : List Numbered) (h : List Event) → took_up header who h ≡ true → is_untouched header who run h ≡ true → ⊥
+untouched_up header who run [] took un = absurd (cc)
+untouched_up header who run (event.Line line ∷ past) took un = absurd (cc)
+untouched_up header who [] (event.Taken (Up host object) m ∷ past) took un =
+    let none = (unasked (is_device who (device_of header object)) (is_untouched header who [] past) un).0 in absurd (let bad : true ≡ false = sym took ∙ none in cc)
+untouched_up header who (n ∷ run) (event.Taken (Up host object) m ∷ past) took un =
+    let none = (unasked (is_device who (device_of header object)) (is_untouched header who (n ∷ run) past) un).0 in absurd (let bad : true ≡ false = sym took ∙ none in cc)
+untouched_up header who run (event.Taken (Down host object control) m ∷ past) took un = absurd (cc)
+untouched_up header who [] (e ∷ past) took un = untouched_up header who [] past took un
+untouched_up header who (n ∷ run) (e ∷ past) took un = untouched_up header who (n ∷ run) past took un
+
+pub untouched_down : (header : Header) (who : Device) (run : List Numbered) (h : List Event) → is_untouched header who run h ≡ true → took_up header who h ≡ false
+untouched_down header who run h un = by_test (took_up header who h) refl
+  where
+    by_test : (b : Bool) → took_up header who h ≡ b → took_up header who h ≡ false
+    by_test true took = absurd (untouched_up header who run h took un)
+    by_test false is = is
+
+-- some pager took one: the step begins with that taking, and has no line
+pub lines_up : (new old : List Event) → before_step new ≡ old → took_any new ≡ true → count_of is_line new ≡ count_of is_line old
 lines_up [] old front took = absurd (cc)
 lines_up (event.Line line ∷ past) old front took = absurd (cc)
 lines_up (event.Taken channel m ∷ past) old front took = let same : count_of is_line past ≡ count_of is_line old = ap (count_of is_line) front in omega arith

@@ -9,7 +9,13 @@ use Rattle.std.proofs.lemmas.Bool.Decides.{nat_tests}
 use Rattle.vm_model.specs.declared.event.Event.{Event}
 use Rattle.vm_model.specs.declared.fault.ScriptFault.{ScriptFault}
 use Rattle.vm_model.specs.declared.fault.ScriptFault.TheVariants as fault
+use Rattle.vm_model.specs.declared.script.Declared.{Declared}
+use Rattle.vm_model.specs.declared.script.Header.{Header}
 use Rattle.vm_model.specs.declared.script.Script.{Script}
+use Rattle.vm_model.specs.Named.{declared, named}
+use Rattle.vm_model.proofs.Names.{each_declared, named_once, none_temporary}
+use Rattle.vm_base.specs.declared.ids.ObjectKind.TheVariants as kinds
+use Rattle.pg_file.specs.Stands.{name_kept}
 use Rattle.std.specs.List.{All}
 use Rattle.vm_model.specs.Ranges.{IsBetween, KeepsRanges}
 use Rattle.vm_text.specs.Script.{Whole, script_of, whole_script}
@@ -22,10 +28,11 @@ use Rattle.vm_top.specs.Ending.{EndsAs, RunHasEnded, Tells, WroteStuck, status_a
 use Rattle.vm_top.specs.Reading.{ReadWhole}
 use Rattle.vm_top.specs.Run.{CutIn, IsOutOfEvents, IsRunnable, IsStuck, IsWholeRun, report_text}
 use Rattle.vm_legal.specs.Legal.{LegalSoFar}
-use Rattle.vm_legal.specs.Outside.{Outside}
+use Rattle.vm_legal.specs.Outside.{Outside, is_file, is_file_kept, is_file_kind}
 use Rattle.vm_legal.proofs.Groups.{cut_of}
 use Rattle.vm_top.specs.Top.{IsBad, IsReadFrom, IsBadFrom, IsUnbuiltFrom, IsHeaderBuilt, NothingRun, IsRunDone, IsEventLimit, IsStopped, IsNotBuilt, IsOutputFault, IsNoMemory, WroteFailed, WroteStopped, bad_text, not_built_text, stopped_text}
 use Rattle.vm_top.specs.Writing.{WroteStart}
+use Rattle.vm_top.proofs.Keeping.{file_below}
 use Rattle.vm_top.proofs.Closing.{full_so_far, none_legal, part_so_far, whole_so_far}
 use Rattle.vm_top.proofs.Readings.{no_longer}
 use Rattle.vm_top.proofs.Writings.{start_all}
@@ -82,47 +89,47 @@ ready_of told after bytes first second script read one spells two none built =
       header = record { lines = unbuilt_from told after bytes (whole_script script) None read same (ap unbuilt_of (sym two) ∙ sym none); built = built (ap script_of (two ∙ sym one) ∙ spells) };
     }
 
-stuck_stops : (told : Option (List ℕ)) (run : Script) (outside : Outside) (script : Option Script) (h : List Event) (line : ℕ) → IsReady told run → script ≡ Some run → IsStuck run outside line h
+stuck_stops : (told : Option (List ℕ)) (run : Script) (outside : Header → Outside) (script : Option Script) (h : List Event) (line : ℕ) → IsReady told run → script ≡ Some run → IsStuck run (outside run.header) line h
     → IsStopped told outside line script h
 stuck_stops told run outside script h line ready held stuck = record {
   run = run;
   held = record { held = held; read = ready.read };
   stops = inr (ready.header, stuck);
-  legal = part_so_far run outside _ _ h stuck.part;
+  legal = part_so_far run (outside run.header) _ _ h stuck.part;
 }
 
-stuck_wrote : (told : Option (List ℕ)) (run : Script) (outside : Outside) (script : Option Script) (h : List Event) (before after : Option (List ℕ)) → IsReady told run → script ≡ Some run → WroteStuck run outside h before after
+stuck_wrote : (told : Option (List ℕ)) (run : Script) (outside : Header → Outside) (script : Option Script) (h : List Event) (before after : Option (List ℕ)) → IsReady told run → script ≡ Some run → WroteStuck run (outside run.header) h before after
     → WroteStopped told outside script h before after
 stuck_wrote told run outside script h before after ready held wrote = (wrote.0, stuck_stops told run outside script h wrote.0 ready held wrote.1, wrote.2)
 
-pub done_of : (told before after : Option (List ℕ)) (outside : Outside) (report : Report) (run : Script) (script : Option Script) (h : List Event) (s : Status)
-    → IsReady told run → RunHasEnded report run outside script h before after s → s ≡ status.Done → IsRunDone told outside report script h before after
+pub done_of : (told before after : Option (List ℕ)) (outside : Header → Outside) (report : Report) (run : Script) (script : Option Script) (h : List Event) (s : Status)
+    → IsReady told run → RunHasEnded report run (outside run.header) script h before after s → s ≡ status.Done → IsRunDone told outside report script h before after
 done_of told before after outside report run script h s ready has is =
-    let ends = subst (EndsAs report run outside h before after) is has.ends in
+    let ends = subst (EndsAs report run (outside run.header) h before after) is has.ends in
     record { run = run; held = record { held = has.held; read = ready.read }; header = ready.header; whole = ends.0; written = ends.1 }
 
-pub full_of : (told before after : Option (List ℕ)) (outside : Outside) (report : Report) (run : Script) (script : Option Script) (h : List Event) (s : Status)
-    → IsReady told run → RunHasEnded report run outside script h before after s → s ≡ status.EventLimit → IsEventLimit told outside report script h before after
+pub full_of : (told before after : Option (List ℕ)) (outside : Header → Outside) (report : Report) (run : Script) (script : Option Script) (h : List Event) (s : Status)
+    → IsReady told run → RunHasEnded report run (outside run.header) script h before after s → s ≡ status.EventLimit → IsEventLimit told outside report script h before after
 full_of told before after outside report run script h s ready has is =
-    let ends = subst (EndsAs report run outside h before after) is has.ends in
+    let ends = subst (EndsAs report run (outside run.header) h before after) is has.ends in
     record { run = run; held = record { held = has.held; read = ready.read }; header = ready.header; full = ends.0; written = ends.1 }
 
-pub not_built_of : (told before after : Option (List ℕ)) (outside : Outside) (report : Report) (run : Script) (script : Option Script) (h : List Event) (s : Status) (line : ℕ)
-    → IsReady told run → RunHasEnded report run outside script h before after s → s ≡ status.NotBuilt line → IsNotBuilt told outside line script h before after
+pub not_built_of : (told before after : Option (List ℕ)) (outside : Header → Outside) (report : Report) (run : Script) (script : Option Script) (h : List Event) (s : Status) (line : ℕ)
+    → IsReady told run → RunHasEnded report run (outside run.header) script h before after s → s ≡ status.NotBuilt line → IsNotBuilt told outside line script h before after
 not_built_of told before after outside report run script h s line ready has is =
-    let ends = subst (EndsAs report run outside h before after) is has.ends in
+    let ends = subst (EndsAs report run (outside run.header) h before after) is has.ends in
     record { stopped = stuck_stops told run outside script h line ready has.held ends.0; written = ends.1 }
 
-pub output_of : (told before after : Option (List ℕ)) (outside : Outside) (report : Report) (run : Script) (script : Option Script) (h : List Event) (s : Status)
-    → IsReady told run → RunHasEnded report run outside script h before after s → s ≡ status.OutputFault → IsOutputFault told outside report script h before after
-output_of told before after outside report run script h s ready has is = elim (subst (EndsAs report run outside h before after) is has.ends) [
+pub output_of : (told before after : Option (List ℕ)) (outside : Header → Outside) (report : Report) (run : Script) (script : Option Script) (h : List Event) (s : Status)
+    → IsReady told run → RunHasEnded report run (outside run.header) script h before after s → s ≡ status.OutputFault → IsOutputFault told outside report script h before after
+output_of told before after outside report run script h s ready has is = elim (subst (EndsAs report run (outside run.header) h before after) is has.ends) [
   | inl failed ↦ inl (record { run = run; held = record { held = has.held; read = ready.read }; header = ready.header; failed = failed })
   | inr stuck ↦ inr (inl (stuck_wrote told run outside script h before after ready has.held stuck))
 ]
 
-pub memory_of : (told before after : Option (List ℕ)) (outside : Outside) (report : Report) (run : Script) (script : Option Script) (h : List Event) (s : Status)
-    → IsReady told run → RunHasEnded report run outside script h before after s → s ≡ status.NoMemory → IsNoMemory told outside report script h before after
-memory_of told before after outside report run script h s ready has is = elim (subst (EndsAs report run outside h before after) is has.ends) [
+pub memory_of : (told before after : Option (List ℕ)) (outside : Header → Outside) (report : Report) (run : Script) (script : Option Script) (h : List Event) (s : Status)
+    → IsReady told run → RunHasEnded report run (outside run.header) script h before after s → s ≡ status.NoMemory → IsNoMemory told outside report script h before after
+memory_of told before after outside report run script h s ready has is = elim (subst (EndsAs report run (outside run.header) h before after) is has.ends) [
   | inl cut ↦ inr (inl (record { run = run; held = record { held = has.held; read = ready.read }; header = ready.header; cut = cut.0 }, cut.1))
   | inr stuck ↦ inr (inr (inl (stuck_wrote told run outside script h before after ready has.held stuck)))
 ]
@@ -152,13 +159,13 @@ pub never_bad : (report : Report) (run : Script) (outside : Outside) (script : O
 never_bad report run outside script h before after s line kind has is = subst (EndsAs report run outside h before after) is has.ends
 
 -- a script was read whose header has a line that isn't built
-pub header_stops : (told : Option (List ℕ)) (run : Script) (outside : Outside) (script : Option Script) (h : List Event) (line : ℕ) → IsReadFrom told run → IsUnbuiltFrom told (Some line) → script ≡ Some run → h ≡ []
+pub header_stops : (told : Option (List ℕ)) (run : Script) (outside : Header → Outside) (script : Option Script) (h : List Event) (line : ℕ) → IsReadFrom told run → IsUnbuiltFrom told (Some line) → script ≡ Some run → h ≡ []
     → IsStopped told outside line script h
 header_stops told run outside script h line read unbuilt held empty = record {
   run = run;
   held = record { held = held; read = read };
   stops = inl (unbuilt, empty);
-  legal = rw empty (none_legal run outside);
+  legal = rw empty (none_legal run (outside run.header));
 }
 
 -- whatever telling a text ends with, a first part of it was written
@@ -170,7 +177,7 @@ tells_start told status text before after (inr wrote) = wrote.1
 header_text : (h : List Event) (line : ℕ) → h ≡ [] → not_built_text line ≡ stopped_text h line
 header_text h line empty = rw empty refl
 
-pub header_not_built : (told : Option (List ℕ)) (outside : Outside) (script : Option Script) (h : List Event) (line named : ℕ) (before after : Option (List ℕ)) (s : Status)
+pub header_not_built : (told : Option (List ℕ)) (outside : Header → Outside) (script : Option Script) (h : List Event) (line named : ℕ) (before after : Option (List ℕ)) (s : Status)
     → IsStopped told outside line script h → h ≡ [] → Tells (status.NotBuilt line) (not_built_text line) before after s → s ≡ status.NotBuilt named → IsNotBuilt told outside named script h before after
 header_not_built told outside script h line named before after s stopped empty (inl wrote) is =
     let same : line ≡ named = cc in
@@ -178,24 +185,43 @@ header_not_built told outside script h line named before after s stopped empty (
 header_not_built told outside script h line named before after s stopped empty (inr (inl failed, wrote)) is = absurd (cc)
 header_not_built told outside script h line named before after s stopped empty (inr (inr none, wrote)) is = absurd (cc)
 
-pub header_wrote : (told : Option (List ℕ)) (outside : Outside) (script : Option Script) (h : List Event) (line : ℕ) (before after : Option (List ℕ)) (s : Status)
+pub header_wrote : (told : Option (List ℕ)) (outside : Header → Outside) (script : Option Script) (h : List Event) (line : ℕ) (before after : Option (List ℕ)) (s : Status)
     → IsStopped told outside line script h → h ≡ [] → Tells (status.NotBuilt line) (not_built_text line) before after s → WroteStopped told outside script h before after
 header_wrote told outside script h line before after s stopped empty tells =
     let start = tells_start (status.NotBuilt line) s (not_built_text line) before after tells in
     (line, stopped, (start.0, rw (← header_text h line empty) start.1))
 
--- a script that keeps its ranges and has one host and no objects can be run
+-- a script that keeps its ranges and has one host, and whose objects are files, can be run
+file_kept : (object : Option Declared) (one : Declared) → object ≡ Some one → one.kind ≡ kinds.File → is_file_kept object ≡ true
+file_kept object one is file = rw is (ap is_file_kind file)
+
+file_at : (header : Header) → All (λ object. object.kind ≡ kinds.File) header.objects.items → (o : ℕ) → o < named header → is_file header o ≡ true
+file_at header files o below =
+    let found = each_declared (λ object. object.kind ≡ kinds.File) header o files below in
+    let kept = file_kept (declared header o) found.0 found.1 found.2 in
+    let within : nat_lt o (named header) ≡ true = grind (arith, nat_tests) in
+    rw (within, kept) refl
+
+few_frames : (frames : List ℕ) → All (IsBetween 2 4096) frames → All (λ f. f < 2 ^ 32) frames
+few_frames frames within i d below = let most = (within i d below).1 in omega arith
+
 pub runnable : (script : Script) → KeepsRanges script → IsBuilt script.header → IsRunnable script
-runnable script keeps built =
-    record {
-      plain = record { size = keeps.size; hosts = keeps.hosts; few = few_all script.header.frames.items keeps.frames; objects = built.no_object };
-      one_host = built.one_host;
-      slots = keeps.slots;
-      ranges = keeps.commands;
-    }
-  where
-    few_all : (frames : List ℕ) → All (IsBetween 2 4096) frames → All (λ f. f < 2 ^ 32) frames
-    few_all frames within i d below = let most = (within i d below).1 in omega arith
+runnable script keeps built = record {
+  built = record {
+    ranged = record {
+      size = keeps.size;
+      hosts = keeps.hosts;
+      few = few_frames script.header.frames.items keeps.frames;
+      objects = keeps.objects;
+      kinds = none_temporary script.header.objects.items built.files;
+    };
+    paged = file_at script.header built.files;
+    names = λ one other first second same. named_once script.header name_kept (λ object. refl) keeps.names one other (file_below script.header one first) (file_below script.header other second) same;
+  };
+  one_host = built.one_host;
+  slots = keeps.slots;
+  ranges = keeps.commands;
+}
 
 -- the history of a run that has ended is also one whose last step is not cut
 uncut : (run : Script) (outside : Outside) (h : List Event) → LegalSoFar run outside h → CutIn run outside h

@@ -1,22 +1,29 @@
--- What the paging area keeps, in terms of the history alone.
+-- What the paging area and the files keep, in terms of the history alone.
 use Rattle.std.proofs.Common.{◌≡◌, ℕ, ◌*◌, ◌<◌, Bool, true, false, List, [], ◌∷◌, Option, Some, None, refl, ap, sym, ◌∙◌, subst, arith, nat_lt}
-use Rattle.std.specs.Prelude.{IsSome, length, is_some, slice_get, unwrap_or}
+use Rattle.std.specs.Prelude.{IsSome, ◌&&◌, if◌then◌else◌, length, is_some, not, slice_get, unwrap_or}
+use Rattle.std.specs.List.{All}
+use Rattle.std.proofs.lemmas.List.Elements.{All-nil, All-cons}
+use Rattle.std.proofs.lemmas.Bool.{and_parts}
 use Rattle.std.proofs.lemmas.Bool.Decides.{nat_tests}
 use Rattle.std.proofs.lemmas.Option.{slice_get_within}
 use Rattle.vm_model.specs.declared.event.Event.{Event}
+use Rattle.vm_model.specs.declared.script.Declared.{Declared}
 use Rattle.vm_model.specs.declared.script.Header.{Header}
-use Rattle.vm_model.specs.Named.{named}
-use Rattle.vm_legal.specs.Outside.{Outside}
+use Rattle.vm_model.specs.Named.{declared, named}
+use Rattle.vm_model.proofs.Names.{each_declared}
+use Rattle.vm_legal.specs.Licences.{tells}
+use Rattle.vm_legal.specs.Outside.{Outside, Told as FilesTold, Untold, are_untold, is_file, is_file_kept}
 use Rattle.vm_legal.specs.Pagers.{is_lost, last_return, slot_at}
 use Rattle.vm_outside.specs.Areas.{Told, read_at}
+use Rattle.pg_file.specs.Stands.{IsStartTold, name_kept, name_of}
 use Rattle.pg_slots.specs.Contents.{IsHeldAs, Kept, area_name}
 use Rattle.pg_slots.specs.Slots.{SlotTable, held_at, held_slot}
 use Rattle.pg_slots.specs.declared.slot_row.Held.{Held}
 use Rattle.pg_slots.specs.declared.slot_row.Held.TheVariants as held
 use Rattle.pg_default.specs.Stands.{PagerStands, content_of, is_ended}
-use Rattle.vm_system.specs.Keeping.{PagingHasPages, PagingKeepsPages}
+use Rattle.vm_system.specs.Keeping.{FilesAreTold, FilesCarry, PagingHasPages, PagingKeepsPages}
 use Rattle.vm_system.specs.Stands.{AllTold, AreNumbered, PagingIsKept as SystemKept}
-use Rattle.vm_top.specs.Run.{only_host, outside_of}
+use Rattle.vm_top.specs.Run.{are_told, only_host, outside_of, told_of as bytes_told}
 use Rattle.vm_system.specs.declared.state.State.{State}
 
 -- a page that has a slot, and of which bytes were stored, is kept there
@@ -70,16 +77,77 @@ pager_of [] one = absurd (let bad : 0 ≡ 1 = one in omega (arith, bad))
 pager_of (pager ∷ more) one = (pager, refl)
 
 -- the paging areas of the pagers are told, where the outside says so of the only host's
-pub told_of : (header : Header) (areas : List ℕ → Told) (pagers : List SlotTable) → length header.frames.items ≡ 1 → AreNumbered header pagers → (outside_of areas).paging ≡ true → AllTold areas pagers
-told_of header areas pagers one numbered paging h pager found =
+pub all_told : (header : Header) (files areas : List ℕ → Told) (pagers : List SlotTable) → length header.frames.items ≡ 1 → AreNumbered header pagers → (outside_of files areas header).paging ≡ true → AllTold areas pagers
+all_told header files areas pagers one numbered paging h pager found =
     let below : h < length pagers = slice_get_within pagers h pager found in
     let zero : h ≡ only_host = let count = numbered.count in omega (arith, below, one, count) in
     subst (λ z. IsSome (areas (area_name z))) (sym (numbered.hosts h pager found ∙ zero)) paging
 
 -- nothing was returned yet
-pub kept_none : (header : Header) (areas : List ℕ → Told) (h : List Event) → h ≡ [] → PagingKeepsPages header only_host (outside_of areas) areas h
-kept_none header areas h none = subst (PagingKeepsPages header only_host (outside_of areas) areas) (sym none) (record { at = λ paging. by (areas (area_name only_host)) refl paging })
+pub kept_none : (header : Header) (files areas : List ℕ → Told) (h : List Event) → h ≡ [] → PagingKeepsPages header only_host (outside_of files areas header) areas h
+kept_none header files areas h none = subst (PagingKeepsPages header only_host (outside_of files areas header) areas) (sym none) (record { at = λ paging. by (areas (area_name only_host)) refl paging })
   where
     by : (t : Option (Option (List ℕ))) → areas (area_name only_host) ≡ t → is_some (areas (area_name only_host)) ≡ true → PagingHasPages header only_host areas []
     by None is some = absurd (let bad : false ≡ true = ap is_some (sym is) ∙ some in cc)
     by (Some was) is some = (was, is, λ o p s bytes slotted. absurd (cc))
+
+carried_none : (header : Header) (areas : List ℕ → Told) → FilesCarry header areas areas []
+carried_none header areas = record {
+  kept = λ object was file told. (was, told, λ host may. record { page = λ p fine. refl; least = omega arith });
+  others = λ name was other told. told;
+}
+
+pub files_none : (header : Header) (areas : List ℕ → Told) (h : List Event) → h ≡ [] → FilesCarry header areas areas h
+files_none header areas h none = subst (FilesCarry header areas areas) (sym none) (carried_none header areas)
+
+-- each declared file tells, where all do
+all_tell : (areas : List ℕ → Told) (objects : List Declared) → are_told areas objects ≡ true → All (λ object. is_some (areas object.name) ≡ true) objects
+all_tell areas [] is = All-nil (λ object. is_some (areas object.name) ≡ true)
+all_tell areas (object ∷ objects) is =
+    let parts = and_parts (is_some (areas object.name)) (are_told areas objects) is in
+    All-cons (λ older. is_some (areas older.name) ≡ true) object objects parts.0 (all_tell areas objects parts.1)
+
+-- a file is declared
+pub file_below : (header : Header) (o : ℕ) → is_file header o ≡ true → o < named header
+file_below header o file = let test = (and_parts (nat_lt o (named header)) (is_file_kept (declared header o)) file).0 in grind (arith, nat_tests)
+
+told_some : (t : Told) → is_some t ≡ true → (was : Option (List ℕ)) × (t ≡ Some was)
+told_some None some = absurd (cc)
+told_some (Some was) some = (was, refl)
+
+file_told : (header : Header) (areas : List ℕ → Told) (o : ℕ) → are_told areas header.objects.items ≡ true → is_file header o ≡ true → (was : Option (List ℕ)) × (areas (name_of header o) ≡ Some was)
+file_told header areas o told file =
+    let found = each_declared (λ object. is_some (areas object.name) ≡ true) header o (all_tell areas header.objects.items told) (file_below header o file) in
+    let named_so : name_of header o ≡ found.0.name = ap name_kept found.1 in
+    told_some (areas (name_of header o)) (subst (λ z. is_some (areas z) ≡ true) (sym named_so) found.2)
+
+-- what is told where
+told_apart : (told file paging : Bool) (pages : ℕ → ℕ → List ℕ) → file ≡ true → told ≡ false → (if file then not (are_untold (if told then FilesTold pages else Untold) && file) else paging) ≡ true → ⊥
+told_apart true file paging pages is none tells = absurd (cc)
+told_apart false false paging pages is none tells = absurd (cc)
+told_apart false true paging pages is none tells = absurd (cc)
+
+told_same : (told : Bool) (pages : ℕ → ℕ → List ℕ) → told ≡ true → (if told then FilesTold pages else Untold) ≡ FilesTold pages
+told_same true pages is = refl
+told_same false pages is = absurd (cc)
+
+-- what is told of the files at the start is what they held
+pub files_told : (header : Header) (files areas : List ℕ → Told) → FilesAreTold header (outside_of files areas header) files
+files_told header files areas = record { at = λ o tells file. by (are_told files header.objects.items) refl o tells file }
+  where
+    pages : ℕ → ℕ → List ℕ
+    pages object page = read_at (unwrap_or (bytes_told (files (name_of header object))) []) (page * header.size) header.size
+
+    by : (b : Bool) → are_told files header.objects.items ≡ b → (o : ℕ) → tells header (outside_of files areas header) o ≡ true → is_file header o ≡ true
+        → (was : Option (List ℕ)) × (files (name_of header o) ≡ Some was) × IsStartTold header (outside_of files areas header) o was
+    by false none o says file = absurd (told_apart (are_told files header.objects.items) (is_file header o) (outside_of files areas header).paging pages file none says)
+    by true all o says file =
+        let found = file_told header files o all file in (
+          found.0,
+          found.1,
+          record {
+            pages = pages;
+            told = told_same (are_told files header.objects.items) pages all;
+            page = λ p. ap (λ z. read_at (unwrap_or (bytes_told z) []) (p * header.size) header.size) found.1;
+          },
+        )

@@ -1,18 +1,15 @@
 -- A run that ended, and whose last step isn't cut, is legal as far as it goes; so the laws of who waits and of what is on its way hold.
-use Rattle.std.proofs.Common.{◌≡◌, ℕ, inl, inr, List, [], ◌∷◌, length, refl, ap, arith, Some, None, Option}
+use Rattle.std.proofs.Common.{◌≡◌, ℕ, inl, inr, List, [], ◌∷◌, refl, Some, None, Option}
 use Rattle.std.specs.Prelude.{◌≢◌}
 use Rattle.vm_model.specs.declared.event.Event.{Event}
 use Rattle.vm_model.specs.declared.script.Header.{Header}
 use Rattle.vm_model.specs.declared.script.Script.{Script}
 use Rattle.vm_model.specs.Moments.{EachEvent}
-use Rattle.vm_model.specs.Named.{named}
-use Rattle.vm_kernel.specs.Matches.{IsPlain}
 use Rattle.vm_legal.specs.Legal.{LegalSoFar}
 use Rattle.vm_legal.specs.Licences.{HasCause}
 use Rattle.vm_legal.specs.Outside.{Outside}
 use Rattle.vm_legal.proofs.Groups.{so_far}
 use Rattle.vm_quiet.specs.Carried.{IsCarried}
-use Rattle.vm_quiet.specs.Places.{AllPaged}
 use Rattle.vm_quiet.specs.Quiet.{NobodyWaitsInVain}
 use Rattle.vm_quiet.proofs.Carried.{carried}
 use Rattle.vm_quiet.proofs.Quiet.{quiet}
@@ -51,10 +48,6 @@ ends_legal report run outside h before after status.Usage ends uncut = absurd en
 ends_legal report run outside h before after status.ReadFault ends uncut = absurd ends
 ends_legal report run outside h before after (status.BadScript line kind) ends uncut = absurd ends
 
--- no object is declared
-all_paged : (header : Header) → IsPlain header → AllPaged header
-all_paged header plain o below = let none : named header ≡ 0 = ap length plain.objects in absurd (omega (arith, below, none))
-
 causes_of : (run : Script) (outside : Outside) (h : List Event) → LegalSoFar run outside h → EachEvent (HasCause run.header outside) h
 causes_of run outside h legal = so_far run.header outside legal.run h legal.follows
 
@@ -62,13 +55,13 @@ pub waits_for_frames : (report : Report) (run : Script) (outside : Outside) (h :
     → WaitsForFramesAlone (Some run) h
 waits_for_frames report run outside h before after s runs ends uncut delivered =
     let legal = ends_legal report run outside h before after s ends uncut in
-    quiet run.header outside h (all_paged run.header runs.plain) (causes_of run outside h legal) legal.holds.paid legal.rests.paid legal.rests.prompt delivered
+    quiet run.header outside h runs.built.paged (causes_of run outside h legal) legal.holds.paid legal.rests.paid legal.rests.prompt delivered
 
 pub carries_all : (report : Report) (run : Script) (outside : Outside) (h : List Event) (before after : Option (List ℕ)) (s : Status) → IsRunnable run → EndsAs report run outside h before after s → s ≢ status.NoMemory
     → CarriesAll (Some run) h
 carries_all report run outside h before after s runs ends uncut =
     let legal = ends_legal report run outside h before after s ends uncut in
-    carried run.header outside h (all_paged run.header runs.plain) (causes_of run outside h legal) legal.rests.paid legal.holds.paid
+    carried run.header outside h runs.built.paged (causes_of run outside h legal) legal.rests.paid legal.holds.paid
 
 -- nothing has happened: nobody waits, and nothing is asked
 none_waits : (header : Header) → NobodyWaitsInVain header []

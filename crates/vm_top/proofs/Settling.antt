@@ -1,8 +1,10 @@
 -- A taking of a settle keeps what a run keeps inside it, or stops the run.
-use Rattle.std.proofs.Common.{◌≡◌, ℕ, ◌-◌, ◌<◌, ◌≤◌, ◌⊎◌, inl, inr, List, [], ◌∷◌, ◌++◌, length, take, true, false, Option, Some, None, ap, sym, ◌∙◌, subst}
+use Rattle.std.proofs.Common.{◌≡◌, ℕ, ◌-◌, ◌<◌, ◌≤◌, ◌⊎◌, inl, inr, List, [], ◌∷◌, ◌++◌, length, take, true, false, Option, Some, None, refl, ap, sym, ◌∙◌, subst}
 use Rattle.std.specs.Prelude.{◌≢◌}
 use Rattle.std.specs.Io.KnownBytes.{Appends}
 use Rattle.vm_model.specs.Limits.{most_events}
+use Rattle.vm_model.specs.declared.event.Device.{Device}
+use Rattle.vm_model.specs.declared.event.Device.TheVariants as device
 use Rattle.vm_model.specs.declared.event.Event.{Event}
 use Rattle.vm_model.specs.declared.command.Command.TheVariants as command
 use Rattle.vm_model.specs.declared.command.Numbered.{Numbered}
@@ -17,16 +19,16 @@ use Rattle.vm_legal.specs.Undelivered.{undelivered}
 use Rattle.vm_outside.specs.Arming.{Arming, ArmedLater}
 use Rattle.vm_system.proofs.Settled.{may_be_cut}
 use Rattle.vm_system.specs.Steps.{DevicesHaveCause, GrowsWithinLimit, HasMore, IsMemoryStop, KeepsOpen, LegalCut, LegalOpen, MayCutOpen, TakesMore, settles, took_up}
-use Rattle.vm_top.specs.Arming.{FilesLeft, is_untouched, ran_of}
-use Rattle.vm_top.specs.Run.{CutIn, RanAs, front_of, text_so_far, unbuilt_line}
-use Rattle.vm_top.specs.Running.{Arms, IsBetweenCommands, PagingRuns, RunStops, RunTaking, Running, Settles, Turned}
+use Rattle.vm_top.specs.Arming.{is_untouched, ran_of}
+use Rattle.vm_top.specs.Run.{CutIn, RanAs, front_of, text_so_far}
+use Rattle.vm_top.specs.Running.{BackingRuns, FaultCounts, IsBetweenCommands, RunStops, RunTaking, Running, Settles, Turned, counted}
 use Rattle.vm_top.specs.Writing.{WroteBeyond, oldest_items}
 use Rattle.vm_top.specs.declared.run.RunEnd.{RunEnd}
 use Rattle.vm_top.specs.declared.run.RunEnd.TheVariants as ends
 use Rattle.vm_top.specs.declared.words.Report.{Report}
 use Rattle.vm_top.specs.declared.words.Report.TheVariants as reports
-use Rattle.vm_top.proofs.Arms.{arms_later, arms_of, failures_step, paging_taking}
-use Rattle.vm_top.proofs.Counting.{lines_same, lines_up, untouched_up}
+use Rattle.vm_top.proofs.Arms.{backing_later, backing_taking, arms_of, failures_of}
+use Rattle.vm_top.proofs.Counting.{lines_same, lines_up, untouched_any}
 use Rattle.vm_top.proofs.Starts.{order_at}
 use Rattle.vm_top.proofs.Turns.{Left, shown_grown}
 
@@ -34,26 +36,29 @@ use Rattle.vm_top.proofs.Turns.{Left, shown_grown}
 abbrev pub settle_at : {F P : Type 0} → RunTaking F P → ℕ → Numbered
 settle_at given line = record { line = line; command = given.command }
 
--- what the taking of a message does, where it is made
-pub record Took {F P : Type 0} (given : RunTaking F P) (old new : List Event) (f0 f1 : Arming F) (p0 p1 : Arming P) (e0 e1 : ℕ) : Type 0 where
+-- what the taking of a message does to a backing
+pub record BackingTook {B : Type 0} (header : Header) (who : Device) (new : List Event) (before after : Arming B) : Type 0 where
+  pub later : ArmedLater before.left before.reached after.left after.reached
+  pub unasked : took_up header who new ≡ false → after ≡ before
+
+-- what it does, where it is made
+pub record Took {F P : Type 0} (given : RunTaking F P) (old new : List Event) (f0 f1 : Arming F) (p0 p1 : Arming P) (e0 e1 : FaultCounts) : Type 0 where
   pub legal : KeepsOpen given.running.script.header given.running.outside given.command old new
   pub grew : GrowsWithinLimit old new
   pub front : before_step new ≡ old
   pub below : length old < most_events
-  pub files : f1 ≡ f0
-  pub later : ArmedLater p0.left p0.reached p1.left p1.reached
-  pub unasked : took_up new ≡ false → p1 ≡ p0
-  pub devices : DevicesHaveCause e0 e1 old new
+  pub files : BackingTook given.running.script.header device.Files new f0 f1
+  pub paging : BackingTook given.running.script.header device.Paging new p0 p1
+  pub devices : (who : Device) → DevicesHaveCause who (counted who e0) (counted who e1) old new
 
 -- a taking was made
-pub record Held {F P : Type 0} (given : RunTaking F P) (line : ℕ) (run : List Numbered) (old new : List Event) (f1 : Arming F) (p1 : Arming P) (e1 : ℕ) : Type 0 where
+pub record Held {F P : Type 0} (given : RunTaking F P) (line : ℕ) (run : List Numbered) (old new : List Event) (f1 : Arming F) (p1 : Arming P) (e1 : FaultCounts) : Type 0 where
   pub lines : count_of is_line new ≡ count_of is_line old
   pub here : ran_of given.running.script new ≡ settle_at given line ∷ run
   pub legal : TakesMore given.running.script.header given.running.outside (settle_at given line) run old new
-  pub built : unbuilt_line (ran_of given.running.script new) ≡ None
   pub left : Left given.running new f1 p1 e1
 
-pub held : {F P : Type 0} (report : Report) (given : RunTaking F P) (old new : List Event) (was : Option (List ℕ)) (f0 f1 : Arming F) (p0 p1 : Arming P) (e0 e1 : ℕ)
+pub held : {F P : Type 0} (report : Report) (given : RunTaking F P) (old new : List Event) (was : Option (List ℕ)) (f0 f1 : Arming F) (p0 p1 : Arming P) (e0 e1 : FaultCounts)
     → (settles : Settles report given old was f0 p0 e0) → Took given old new f0 f1 p0 p1 e0 e1 → Held given settles.line settles.run old new f1 p1 e1
 held report given old new was f0 f1 p0 p1 e0 e1 settles took =
     let n = settle_at given settles.line in
@@ -62,25 +67,29 @@ held report given old new was f0 f1 p0 p1 e0 e1 settles took =
     let lines = lines_same new old took.front legal.more in
     let same : ran_of given.running.script new ≡ ran_of given.running.script old = ap (λ z. oldest_items z given.running.script.commands.items) lines in
     let here : ran_of given.running.script new ≡ n ∷ run = same ∙ settles.here in
-    let files = subst (λ z. FilesLeft z given.running.files f1) settles.here (subst (FilesLeft (ran_of given.running.script old) given.running.files) (sym took.files) settles.keeps.arms.files) in
-    let paging = paging_taking n run old new given.running.paging p0 p1 took.later took.unasked took.front legal.more (subst (λ z. PagingRuns z old given.running.paging p0) settles.here settles.keeps.arms.paging) in
+    let header = given.running.script.header in
+    let files =
+    backing_taking header device.Files n run old new given.running.files f0 f1 took.files.later took.files.unasked took.front legal.more
+    (subst (λ z. BackingRuns header device.Files z old given.running.files f0) settles.here settles.keeps.arms.files) in
+    let paging =
+    backing_taking header device.Paging n run old new given.running.paging p0 p1 took.paging.later took.paging.unasked took.front legal.more
+    (subst (λ z. BackingRuns header device.Paging z old given.running.paging p0) settles.here settles.keeps.arms.paging) in
     record {
       lines = lines;
       here = here;
       legal = legal;
-      built = ap unbuilt_line same ∙ settles.keeps.built;
       left = record {
         below = took.grew.limit took.below settles.keeps.below;
         arms = arms_of given.running (n ∷ run) new f1 p1 here files paging;
-        failed = failures_step given.running.faults e0 e1 old new took.grew took.devices settles.keeps.failed;
+        failed = failures_of given.running.faults e0 e1 old new took.grew took.devices settles.keeps.failed;
       };
     }
 
 -- the settle goes on, where the taking was shown
-pub settles_on : {F P : Type 0} (report : Report) (given : RunTaking F P) (line : ℕ) (run : List Numbered) (old new : List Event) (now : Option (List ℕ)) (f1 : Arming F) (p1 : Arming P) (e1 : ℕ)
+pub settles_on : {F P : Type 0} (report : Report) (given : RunTaking F P) (line : ℕ) (run : List Numbered) (old new : List Event) (now : Option (List ℕ)) (f1 : Arming F) (p1 : Arming P) (e1 : FaultCounts)
     → Held given line run old new f1 p1 e1 → Appends given.running.start now (text_so_far report new) → Settles report given new now f1 p1 e1
 settles_on report given line run old new now f1 p1 e1 step wrote = record {
-  keeps = record { built = step.built; below = step.left.below; written = wrote; arms = step.left.arms; failed = step.left.failed };
+  keeps = record { below = step.left.below; written = wrote; arms = step.left.arms; failed = step.left.failed };
   line = line;
   run = run;
   here = step.here;
@@ -95,7 +104,7 @@ order_of : {F P : Type 0} (given : RunTaking F P) (n : Numbered) (run : List Num
 order_of given n run h here = order_at given.running.script.commands.items (count_of is_line h) ∙ ap (λ z. behind given h ++ z) here
 
 -- a write failed behind the taking
-take_failed : {F P : Type 0} (report : Report) (given : RunTaking F P) (line : ℕ) (run : List Numbered) (old new : List Event) (now : Option (List ℕ)) (f1 : Arming F) (p1 : Arming P) (e1 : ℕ)
+take_failed : {F P : Type 0} (report : Report) (given : RunTaking F P) (line : ℕ) (run : List Numbered) (old new : List Event) (now : Option (List ℕ)) (f1 : Arming F) (p1 : Arming P) (e1 : FaultCounts)
     → HasMore given.command old → before_step new ≡ old → Held given line run old new f1 p1 e1 → (report ≡ reports.History) × WroteBeyond given.running.start now (text old) (text new)
     → RanAs report given.running.script given.running.outside new ends.Failed given.running.start now
 take_failed report given line run old new now f1 p1 e1 more front step wrote =
@@ -112,7 +121,7 @@ take_failed report given line run old new now f1 p1 e1 more front step wrote =
     )
 
 -- memory ended behind the taking
-take_unshown : {F P : Type 0} (report : Report) (given : RunTaking F P) (line : ℕ) (run : List Numbered) (old new : List Event) (now : Option (List ℕ)) (f1 : Arming F) (p1 : Arming P) (e1 : ℕ)
+take_unshown : {F P : Type 0} (report : Report) (given : RunTaking F P) (line : ℕ) (run : List Numbered) (old new : List Event) (now : Option (List ℕ)) (f1 : Arming F) (p1 : Arming P) (e1 : FaultCounts)
     → GrowsWithinLimit old new → Held given line run old new f1 p1 e1 → Appends given.running.start now (text_so_far report old) → RanAs report given.running.script given.running.outside new ends.NoMemory given.running.start now
 take_unshown report given line run old new now f1 p1 e1 grew step wrote = (
   record {
@@ -125,7 +134,7 @@ take_unshown report given line run old new now f1 p1 e1 grew step wrote = (
 )
 
 -- how the run stops behind a taking: a write failed, or memory ended
-pub held_stops : {F P : Type 0} (report : Report) (given : RunTaking F P) (line : ℕ) (run : List Numbered) (old new : List Event) (now : Option (List ℕ)) (f1 : Arming F) (p1 : Arming P) (e1 : ℕ) (how : RunEnd)
+pub held_stops : {F P : Type 0} (report : Report) (given : RunTaking F P) (line : ℕ) (run : List Numbered) (old new : List Event) (now : Option (List ℕ)) (f1 : Arming F) (p1 : Arming P) (e1 : FaultCounts) (how : RunEnd)
     → HasMore given.command old → before_step new ≡ old → GrowsWithinLimit old new → Held given line run old new f1 p1 e1
     → (how ≡ ends.Failed → (report ≡ reports.History) × WroteBeyond given.running.start now (text old) (text new)) → (how ≡ ends.NoMemory → Appends given.running.start now (text_so_far report old))
     → (how ≡ ends.Failed) ⊎ (how ≡ ends.NoMemory) → RunStops report given.running new now f1 p1 e1 how
@@ -136,26 +145,42 @@ held_stops report given line run old new now f1 p1 e1 how more front grew step f
     subst (RunStops report given.running new now f1 p1 e1) (sym is)
     (record { ran = take_unshown report given line run old new now f1 p1 e1 grew step (none is); below = step.left.below; arms = step.left.arms; failed = step.left.failed })
 
+-- how a backing is armed where memory ended in the taking
+pub record BackingStops {B : Type 0} (header : Header) (who : Device) (old new : List Event) (before after : Arming B) : Type 0 where
+  pub later : ArmedLater before.left before.reached after.left after.reached
+  pub stops : IsMemoryStop header who before_step old new before after
+
+backing_stopped : {B : Type 0} (header : Header) (who : Device) (commands : List Numbered) (old new : List Event) (start before after : Arming B) → BackingStops header who old new before after
+    → BackingRuns header who (oldest_items (count_of is_line old) commands) old start before → BackingRuns header who (oldest_items (count_of is_line new) commands) new start after
+backing_stopped header who commands old new start before after stopped was = by_stop stopped.stops
+  where
+    at_run : count_of is_line new ≡ count_of is_line old → BackingRuns header who (oldest_items (count_of is_line old) commands) new start after → BackingRuns header who (oldest_items (count_of is_line new) commands) new start after
+    at_run lines runs = subst (λ z. BackingRuns header who (oldest_items z commands) new start after) (sym lines) runs
+
+    by_stop : IsMemoryStop header who before_step old new before after → BackingRuns header who (oldest_items (count_of is_line new) commands) new start after
+    by_stop (inl same) =
+        let run = oldest_items (count_of is_line old) commands in
+        at_run (ap (count_of is_line) same.0) (backing_later header who run run old new start before after refl refl stopped.later (λ un. (same.1, subst (λ z. is_untouched header who run z ≡ true) same.0 un)) was)
+    by_stop (inr took) =
+        let run = oldest_items (count_of is_line old) commands in
+        at_run (lines_up new old took.0 took.1)
+        (backing_later header who run run old new start before after refl refl stopped.later (λ un. let both = untouched_any header who run new old took.0 took.1 un in (ap (λ z. z.left) (took.2 both.0), both.1)) was)
+
 -- memory ended in the taking
-pub take_stops : {F P : Type 0} (report : Report) (given : RunTaking F P) (old new : List Event) (now : Option (List ℕ)) (f0 f1 : Arming F) (p0 p1 : Arming P) (e0 e1 : ℕ)
-    → Settles report given old now f0 p0 e0 → GrowsWithinLimit old new → length old < most_events → MayCutOpen given.running.script.header given.running.outside given.command old new → f1 ≡ f0
-    → ArmedLater p0.left p0.reached p1.left p1.reached → IsMemoryStop before_step old new p0 p1 → DevicesHaveCause e0 e1 old new → RunStops report given.running new now f1 p1 e1 ends.NoMemory
-take_stops report given old new now f0 f1 p0 p1 e0 e1 settles grew below may files later stops devices = record {
+pub take_stops : {F P : Type 0} (report : Report) (given : RunTaking F P) (old new : List Event) (now : Option (List ℕ)) (f0 f1 : Arming F) (p0 p1 : Arming P) (e0 e1 : FaultCounts)
+    → Settles report given old now f0 p0 e0 → GrowsWithinLimit old new → length old < most_events → MayCutOpen given.running.script.header given.running.outside given.command old new
+    → BackingStops given.running.script.header device.Files old new f0 f1 → BackingStops given.running.script.header device.Paging old new p0 p1 → ((who : Device) → DevicesHaveCause who (counted who e0) (counted who e1) old new)
+    → RunStops report given.running new now f1 p1 e1 ends.NoMemory
+take_stops report given old new now f0 f1 p0 p1 e0 e1 settles grew below may files paging devices = record {
   ran = (by_way may, shown_grown report given.running.start now old new grew settles.keeps.written);
   below = grew.limit below settles.keeps.below;
-  arms = by_stop stops;
-  failed = failures_step given.running.faults e0 e1 old new grew devices settles.keeps.failed;
+  arms = record {
+    files = backing_stopped given.running.script.header device.Files given.running.script.commands.items old new given.running.files f0 f1 files settles.keeps.arms.files;
+    paging = backing_stopped given.running.script.header device.Paging given.running.script.commands.items old new given.running.paging p0 p1 paging settles.keeps.arms.paging;
+  };
+  failed = failures_of given.running.faults e0 e1 old new grew devices settles.keeps.failed;
 }
   where
-    ran : count_of is_line new ≡ count_of is_line old → ran_of given.running.script new ≡ ran_of given.running.script old
-    ran lines = ap (λ z. oldest_items z given.running.script.commands.items) lines
-
-    by_stop : IsMemoryStop before_step old new p0 p1 → Arms given.running new f1 p1
-    by_stop (inl same) =
-        arms_later given.running old new f0 f1 p0 p1 (ran (ap (count_of is_line) same.0)) files later (λ un. (same.1, subst (λ z. is_untouched (ran_of given.running.script old) z ≡ true) same.0 un)) settles.keeps.arms
-    by_stop (inr took) =
-        arms_later given.running old new f0 f1 p0 p1 (ran (lines_up new old took.0 took.1)) files later (λ un. absurd (untouched_up (ran_of given.running.script old) new took.1 un)) settles.keeps.arms
-
     by_way : MayCutOpen given.running.script.header given.running.outside given.command old new → CutIn given.running.script given.running.outside new
     by_way (inl same) = record {
       later = behind given old;
@@ -172,7 +197,7 @@ take_stops report given old new now f0 f1 p0 p1 e0 e1 settles grew below may fil
     }
 
 -- the history is full, and something is there to take
-pub take_full : {F P : Type 0} (report : Report) (given : RunTaking F P) (h : List Event) (now : Option (List ℕ)) (f : Arming F) (p : Arming P) (e : ℕ)
+pub take_full : {F P : Type 0} (report : Report) (given : RunTaking F P) (h : List Event) (now : Option (List ℕ)) (f : Arming F) (p : Arming P) (e : FaultCounts)
     → Settles report given h now f p e → HasMore given.command h → most_events ≤ length h → undelivered h ≢ [] → RunStops report given.running h now f p e ends.EventLimit
 take_full report given h now f p e settles more full some = record {
   ran = (
@@ -183,7 +208,6 @@ take_full report given h now f p e settles more full some = record {
         next = settle_at given settles.line;
         run = settles.run;
         order = order_of given (settle_at given settles.line) settles.run h settles.here;
-        built = sym (ap unbuilt_line settles.here) ∙ settles.keeps.built;
         legal = settles.legal;
         more = more;
         some = some;
@@ -196,8 +220,15 @@ take_full report given h now f p e settles more full some = record {
   failed = settles.keeps.failed;
 }
 
+-- the counts of faults of both backings
+abbrev pub counts_of : ℕ → ℕ → FaultCounts
+counts_of files paging = record { files = files; paging = paging }
+
+pub counts_same : (a b c d : ℕ) → a ≡ c → b ≡ d → counts_of a b ≡ counts_of c d
+counts_same a b c d files paging = ap (λ z. counts_of z b) files ∙ ap (counts_of c) paging
+
 -- nothing has changed
-pub stops_same : {F P : Type 0} (report : Report) (given : RunTaking F P) (old new : List Event) (now : Option (List ℕ)) (f0 f1 : Arming F) (p0 p1 : Arming P) (e0 e1 : ℕ) (how end : RunEnd)
+pub stops_same : {F P : Type 0} (report : Report) (given : RunTaking F P) (old new : List Event) (now : Option (List ℕ)) (f0 f1 : Arming F) (p0 p1 : Arming P) (e0 e1 : FaultCounts) (how end : RunEnd)
     → new ≡ old → f1 ≡ f0 → p1 ≡ p0 → e1 ≡ e0 → end ≡ how → RunStops report given.running old now f0 p0 e0 how → RunStops report given.running new now f1 p1 e1 end
 stops_same report given old new now f0 f1 p0 p1 e0 e1 how end h f p e is was =
     subst (λ z. RunStops report given.running z now f1 p1 e1 end) (sym h)
@@ -215,7 +246,7 @@ settled header outside line count run h end legal = record { follows = whole_of 
     whole_of (past, group, is, made, done, follows) = (past, group, is, made, subst (λ z. (takings z ≡ count) ⊎ (undelivered z ≡ [])) is end, follows)
 
 -- a settle has ended
-pub settle_runs : {F P : Type 0} (report : Report) (given : RunTaking F P) (count : ℕ) (h : List Event) (now : Option (List ℕ)) (f : Arming F) (p : Arming P) (e : ℕ) → given.command ≡ command.Settle count
+pub settle_runs : {F P : Type 0} (report : Report) (given : RunTaking F P) (count : ℕ) (h : List Event) (now : Option (List ℕ)) (f : Arming F) (p : Arming P) (e : FaultCounts) → given.command ≡ command.Settle count
     → Settles report given h now f p e → (takings h ≡ count) ⊎ (undelivered h ≡ []) → IsBetweenCommands report given.running h now f p e
 settle_runs report given count h now f p e is settles end =
     let header = given.running.script.header in
@@ -228,7 +259,7 @@ settle_runs report given count h now f p e is settles end =
     }
 
 -- behind its line a settle has taken nothing
-pub turned_settles : {F P : Type 0} (report : Report) (given : Running F P) (n : Numbered) (count : ℕ) (h : List Event) (now : Option (List ℕ)) (f : Arming F) (p : Arming P) (e : ℕ) → n.command ≡ command.Settle count
+pub turned_settles : {F P : Type 0} (report : Report) (given : Running F P) (n : Numbered) (count : ℕ) (h : List Event) (now : Option (List ℕ)) (f : Arming F) (p : Arming P) (e : FaultCounts) → n.command ≡ command.Settle count
     → Turned report given n h now f p e → Settles report (record { running = given; command = command.Settle count }) h now f p e
 turned_settles report given n count h now f p e is turned = record {
   keeps = turned.keeps;
@@ -238,7 +269,7 @@ turned_settles report given n count h now f p e is turned = record {
   legal = subst (λ z. LegalOpen given.script.header given.outside (record { line = n.line; command = z } ∷ turned.run) h) is turned.next.so_far;
 }
 
-pub turned_none : {F P : Type 0} (report : Report) (given : Running F P) (n : Numbered) (count : ℕ) (h : List Event) (now : Option (List ℕ)) (f : Arming F) (p : Arming P) (e : ℕ) → n.command ≡ command.Settle count
+pub turned_none : {F P : Type 0} (report : Report) (given : Running F P) (n : Numbered) (count : ℕ) (h : List Event) (now : Option (List ℕ)) (f : Arming F) (p : Arming P) (e : FaultCounts) → n.command ≡ command.Settle count
     → Turned report given n h now f p e → takings h ≡ 0
 turned_none report given n count h now f p e is turned = elim turned.next.none [
   | inl none ↦ none

@@ -1,5 +1,5 @@
 -- A run begins with nothing, is given the commands one after another, and stays legal as far as it goes.
-use Rattle.std.proofs.Common.{◌≡◌, ℕ, ◌+◌, ◌-◌, ◌<◌, ◌≤◌, List, [], ◌∷◌, ◌++◌, length, drop, take, get_or, reverse, refl, ap, sym, ◌∙◌, subst, arith, slice_get, None, Some, Option, append_assoc, true, false}
+use Rattle.std.proofs.Common.{◌≡◌, ℕ, ◌+◌, ◌-◌, ◌<◌, ◌≤◌, List, [], ◌∷◌, ◌++◌, length, drop, take, get_or, reverse, refl, ap, sym, ◌∙◌, subst, arith, slice_get, None, Some, Option, append_assoc}
 use Rattle.std.specs.Prelude.{IfSome}
 use Rattle.std.proofs.lemmas.List.Elements.{All-get_or}
 use Rattle.std.proofs.lemmas.List.{take-append-drop, get_or-reverse, length-reverse}
@@ -12,8 +12,7 @@ use Rattle.vm_legal.specs.Debts.{IsPaid}
 use Rattle.vm_legal.specs.Legal.{LegalFor}
 use Rattle.vm_legal.specs.Outside.{Outside}
 use Rattle.vm_legal.specs.Prompt.{NoneInVain}
-use Rattle.vm_top.specs.Run.{IsRunnable, unbuilt_line}
-use Rattle.vm_system.specs.Steps.{system_runs}
+use Rattle.vm_top.specs.Run.{IsRunnable}
 use Rattle.vm_top.specs.Writing.{oldest_items}
 
 some_frames : (frames : Option ℕ) → IfSome frames (λ count. 0 ≤ count)
@@ -74,14 +73,6 @@ range_at script i n runs found =
     let here : get_or items (length items - 1 - i) n ≡ n = sym (get_or-reverse items i n below) ∙ get_or_from_slice_get (reverse items) i n n found in
     let P : Numbered → Type 0 = λ z. InRange script.header z.command in
     subst P here (All-get_or P items (length items - 1 - i) n (omega arith) runs.ranges)
-
--- one more command that is built, or the first that isn't
-
-pub next_built : (n : Numbered) (before : List Numbered) → unbuilt_line before ≡ None → system_runs n.command ≡ true → unbuilt_line (n ∷ before) ≡ None
-next_built n before none is = rw (none, is) refl
-
-pub next_unbuilt : (n : Numbered) (before : List Numbered) → unbuilt_line before ≡ None → system_runs n.command ≡ false → unbuilt_line (n ∷ before) ≡ Some n.line
-next_unbuilt n before none is = rw (none, is) refl
 
 -- the commands behind so many
 pub order_at : {A : Type 0} (items : List A) (i : ℕ) → items ≡ take (length items - i) items ++ oldest_items i items

@@ -1,9 +1,11 @@
 -- A command's step keeps what a run keeps, or stops it.
 use Rattle.std.proofs.Common.{◌≡◌, ℕ, ◌+◌, ◌-◌, ◌<◌, ◌≤◌, ◌⊎◌, inl, inr, List, [], ◌∷◌, ◌++◌, Bool, length, reverse, slice_get, take, true, false, Option, Some, None, Err, refl, ap, sym, ◌∙◌, subst, arith, append_assoc, append-nil}
-use Rattle.std.specs.Prelude.{IsErrOf}
+use Rattle.std.specs.Prelude.{◌&&◌, IsErrOf, IsSome, is_none}
 use Rattle.std.specs.Io.KnownBytes.{Appends}
 use Rattle.std.proofs.KnownBytes.{Appends-nil}
 use Rattle.vm_model.specs.Limits.{most_events}
+use Rattle.vm_model.specs.declared.event.Device.{Device}
+use Rattle.vm_model.specs.declared.event.Device.TheVariants as device
 use Rattle.vm_model.specs.declared.event.Event.{Event}
 use Rattle.vm_model.specs.declared.command.Command.{Command}
 use Rattle.vm_model.specs.declared.command.Command.TheVariants as command
@@ -18,34 +20,40 @@ use Rattle.vm_legal.specs.Legal.{LegalFor}
 use Rattle.vm_legal.specs.Outside.{Outside}
 use Rattle.vm_legal.specs.Steps.{takings}
 use Rattle.vm_legal.proofs.Groups.{cut_of as follows_cut, open_of}
+use Rattle.vm_legal.specs.Follows.{head}
+use Rattle.vm_legal.specs.Refusal.{refusal}
 use Rattle.vm_outside.specs.Arming.{Arming, ArmedLater}
 use Rattle.vm_system.proofs.Settled.{may_be_cut}
-use Rattle.vm_system.specs.Steps.{DevicesHaveCause, GrowsWithinLimit, IsNextLegal, KeepsLegal, LeavesFiles, LeavesPaging, LegalCut, LegalOpen, MayCut, IsBelowLimit, IsMemoryStop, arms_paging, system_runs, settles, takes_up, took_up}
+use Rattle.vm_system.specs.Steps.{DevicesHaveCause, GrowsWithinLimit, IsNextLegal, KeepsLegal, LeavesBacking, LegalCut, LegalOpen, MayCut, IsBelowLimit, IsMemoryStop, arms, settles, takes_any, took_up}
 use Rattle.vm_system.specs.declared.stop.SystemStop.{SystemStop}
 use Rattle.vm_system.specs.declared.stop.SystemStop.TheVariants as stops
-use Rattle.vm_top.specs.Arming.{FailuresCounted, is_untouched, ran_of}
-use Rattle.vm_top.specs.Run.{CutIn, IsPart, IsRunnable, RanAs, front_of, text_so_far, unbuilt_line}
-use Rattle.vm_top.specs.Running.{Arms, IsBetweenCommands, IsNextOf, RunStops, Running, Turned}
+use Rattle.vm_top.specs.Arming.{BackingLeft, FailuresCounted, is_untouched, ran_of}
+use Rattle.vm_top.specs.Run.{CutIn, IsPart, IsRunnable, RanAs, front_of, text_so_far}
+use Rattle.vm_top.specs.Running.{Arms, BackingRuns, FaultCounts, IsBetweenCommands, IsNextOf, RunStops, Running, Turned, counted}
 use Rattle.vm_top.specs.Writing.{WroteBeyond, WroteStart, oldest_items}
 use Rattle.vm_top.specs.declared.run.RunEnd.{RunEnd}
 use Rattle.vm_top.specs.declared.run.RunEnd.TheVariants as ends
 use Rattle.vm_top.specs.declared.words.Report.{Report}
 use Rattle.vm_top.specs.declared.words.Report.TheVariants as reports
-use Rattle.vm_top.proofs.Arms.{arms_later, arms_of, arms_up, failures_step, files_step, paging_step, up_unarmed}
-use Rattle.vm_top.proofs.Counting.{lines_more, takings_none, untouched_up}
-use Rattle.vm_top.proofs.Starts.{legal_start, next_built, next_unbuilt, oldest_all, oldest_none, order_at, order_left, order_next, range_at}
+use Rattle.vm_top.proofs.Arms.{arms_of, backing_behind, backing_later, backing_step, failures_of, up_unarmed}
+use Rattle.vm_top.proofs.Counting.{lines_more, takings_none, untouched_down, untouched_line}
+use Rattle.vm_top.proofs.Starts.{legal_start, oldest_all, oldest_none, order_at, order_left, order_next, range_at}
 use Rattle.vm_top.proofs.Writings.{front_start, oldest_step, start_all}
 
+-- what a command's step does to a backing
+pub record BackingStep {B : Type 0} (header : Header) (who : Device) (n : Numbered) (new : List Event) (before after : Arming B) : Type 0 where
+  pub leaves : LeavesBacking header who n.command before after
+  pub later : arms who n.command ≡ None → ArmedLater before.left before.reached after.left after.reached
+  pub unasked : arms who n.command ≡ None → took_up header who new ≡ false → after ≡ before
+
 -- what a command's step does, where it is made
-pub record Stepped {F P : Type 0} (header : Header) (outside : Outside) (n : Numbered) (old new : List Event) (f0 f1 : Arming F) (p0 p1 : Arming P) (e0 e1 : ℕ) : Type 0 where
+pub record Stepped {F P : Type 0} (header : Header) (outside : Outside) (n : Numbered) (old new : List Event) (f0 f1 : Arming F) (p0 p1 : Arming P) (e0 e1 : FaultCounts) : Type 0 where
   pub legal : KeepsLegal header outside n old new
   pub grew : GrowsWithinLimit old new
   pub front : before_last_line new ≡ old
-  pub files : LeavesFiles n.command f0 f1
-  pub paging : LeavesPaging n.command p0 p1
-  pub later : arms_paging n.command ≡ None → ArmedLater p0.left p0.reached p1.left p1.reached
-  pub unasked : arms_paging n.command ≡ None → took_up new ≡ false → p1 ≡ p0
-  pub devices : DevicesHaveCause e0 e1 old new
+  pub files : BackingStep header device.Files n new f0 f1
+  pub paging : BackingStep header device.Paging n new p0 p1
+  pub devices : (who : Device) → DevicesHaveCause who (counted who e0) (counted who e1) old new
 
 -- the command's line is one more
 pub lines_step : (header : Header) (outside : Outside) (n : Numbered) (run : List Numbered) (old new : List Event) → before_last_line new ≡ old → IsNextLegal header outside n run new
@@ -56,38 +64,36 @@ lines_step header outside n run old new front next = by_group next.so_far
     by_group legal = let follows = legal.follows in lines_more new old follows.1 follows.0 n.line front follows.2
 
 -- what a step leaves, whatever is written of it
-pub record Left {F P : Type 0} (given : Running F P) (new : List Event) (f1 : Arming F) (p1 : Arming P) (e1 : ℕ) : Type 0 where
+pub record Left {F P : Type 0} (given : Running F P) (new : List Event) (f1 : Arming F) (p1 : Arming P) (e1 : FaultCounts) : Type 0 where
   pub below : IsBelowLimit new
   pub arms : Arms given new f1 p1
-  pub failed : FailuresCounted given.faults e1 new
+  pub failed : (who : Device) → FailuresCounted who (counted who given.faults) (counted who e1) new
 
 -- a command's step was made
-pub record Made {F P : Type 0} (given : Running F P) (n : Numbered) (old new : List Event) (f1 : Arming F) (p1 : Arming P) (e1 : ℕ) : Type 0 where
+pub record Made {F P : Type 0} (given : Running F P) (n : Numbered) (old new : List Event) (f1 : Arming F) (p1 : Arming P) (e1 : FaultCounts) : Type 0 where
   pub lines : count_of is_line new ≡ count_of is_line old + 1
   pub here : ran_of given.script new ≡ n ∷ ran_of given.script old
   pub next : IsNextLegal given.script.header given.outside n (ran_of given.script old) new
-  pub built : unbuilt_line (ran_of given.script new) ≡ None
   pub left : Left given new f1 p1 e1
 
-pub made : {F P : Type 0} (report : Report) (given : Running F P) (n : Numbered) (old new : List Event) (was : Option (List ℕ)) (f0 f1 : Arming F) (p0 p1 : Arming P) (e0 e1 : ℕ)
-    → IsBetweenCommands report given old was f0 p0 e0 → IsNextOf given.script n old → system_runs n.command ≡ true → InRange given.script.header n.command → length old < most_events
+pub made : {F P : Type 0} (report : Report) (given : Running F P) (n : Numbered) (old new : List Event) (was : Option (List ℕ)) (f0 f1 : Arming F) (p0 p1 : Arming P) (e0 e1 : FaultCounts)
+    → IsBetweenCommands report given old was f0 p0 e0 → IsNextOf given.script n old → InRange given.script.header n.command → length old < most_events
     → Stepped given.script.header given.outside n old new f0 f1 p0 p1 e0 e1 → Made given n old new f1 p1 e1
-made {F = F} {P = P} report given n old new was f0 f1 p0 p1 e0 e1 runs follows built range below step =
+made {F = F} {P = P} report given n old new was f0 f1 p0 p1 e0 e1 runs follows range below step =
     let run = ran_of given.script old in
     let next = step.legal run runs.legal in
     let lines = lines_step given.script.header given.outside n run old new step.front next in
     let here : ran_of given.script new ≡ n ∷ run = ap (λ z. oldest_items z given.script.commands.items) lines ∙ follows in
-    let files = files_step n run given.files f0 f1 step.files runs.keeps.arms.files in
-    let paging = paging_step given.script.header n run old new given.paging p0 p1 range step.paging step.later step.unasked step.front runs.keeps.arms.paging in
+    let files = backing_step given.script.header device.Files n run old new given.files f0 f1 range step.files.leaves step.files.later step.files.unasked step.front runs.keeps.arms.files in
+    let paging = backing_step given.script.header device.Paging n run old new given.paging p0 p1 range step.paging.leaves step.paging.later step.paging.unasked step.front runs.keeps.arms.paging in
     record {
       lines = lines;
       here = here;
       next = next;
-      built = ap unbuilt_line here ∙ next_built n run runs.keeps.built built;
       left = record {
         below = step.grew.limit below runs.keeps.below;
         arms = arms_of given (n ∷ run) new f1 p1 here files paging;
-        failed = failures_step given.faults e0 e1 old new step.grew step.devices runs.keeps.failed;
+        failed = failures_of given.faults e0 e1 old new step.grew step.devices runs.keeps.failed;
       };
     }
 
@@ -121,7 +127,7 @@ order_made : {F P : Type 0} (given : Running F P) (n : Numbered) (old : List Eve
 order_made given n old follows = order_next given.script.commands.items (count_of is_line old) n follows
 
 -- a write failed behind a whole step
-pub turn_failed : {F P : Type 0} (report : Report) (given : Running F P) (n : Numbered) (old new : List Event) (now : Option (List ℕ)) (f1 : Arming F) (p1 : Arming P) (e1 : ℕ)
+pub turn_failed : {F P : Type 0} (report : Report) (given : Running F P) (n : Numbered) (old new : List Event) (now : Option (List ℕ)) (f1 : Arming F) (p1 : Arming P) (e1 : FaultCounts)
     → IsNextOf given.script n old → before_last_line new ≡ old → Made given n old new f1 p1 e1 → (report ≡ reports.History) × WroteBeyond given.start now (text old) (text new)
     → RanAs report given.script given.outside new ends.Failed given.start now
 turn_failed report given n old new now f1 p1 e1 follows front step wrote = (
@@ -137,7 +143,7 @@ turn_failed report given n old new now f1 p1 e1 follows front step wrote = (
 )
 
 -- memory ended behind a whole step
-pub turn_unshown : {F P : Type 0} (report : Report) (given : Running F P) (n : Numbered) (old new : List Event) (now : Option (List ℕ)) (f1 : Arming F) (p1 : Arming P) (e1 : ℕ)
+pub turn_unshown : {F P : Type 0} (report : Report) (given : Running F P) (n : Numbered) (old new : List Event) (now : Option (List ℕ)) (f1 : Arming F) (p1 : Arming P) (e1 : FaultCounts)
     → IsNextOf given.script n old → GrowsWithinLimit old new → Made given n old new f1 p1 e1 → Appends given.start now (text_so_far report old)
     → RanAs report given.script given.outside new ends.NoMemory given.start now
 turn_unshown report given n old new now f1 p1 e1 follows grew step wrote = (
@@ -171,7 +177,7 @@ turn_cut report given n old new now follows grew legal may wrote = (by_way may, 
     }
 
 -- how a turn stops behind its step: a write failed, or memory ended
-pub shown_stops : {F P : Type 0} (report : Report) (given : Running F P) (n : Numbered) (old new : List Event) (now : Option (List ℕ)) (f1 : Arming F) (p1 : Arming P) (e1 : ℕ) (how : RunEnd)
+pub shown_stops : {F P : Type 0} (report : Report) (given : Running F P) (n : Numbered) (old new : List Event) (now : Option (List ℕ)) (f1 : Arming F) (p1 : Arming P) (e1 : FaultCounts) (how : RunEnd)
     → IsNextOf given.script n old → before_last_line new ≡ old → GrowsWithinLimit old new → Made given n old new f1 p1 e1
     → (how ≡ ends.Failed → (report ≡ reports.History) × WroteBeyond given.start now (text old) (text new)) → (how ≡ ends.NoMemory → Appends given.start now (text_so_far report old))
     → (how ≡ ends.Failed) ⊎ (how ≡ ends.NoMemory) → RunStops report given new now f1 p1 e1 how
@@ -180,50 +186,78 @@ shown_stops report given n old new now f1 p1 e1 how follows front grew step fail
 shown_stops report given n old new now f1 p1 e1 how follows front grew step failed none (inr is) =
     subst (RunStops report given new now f1 p1 e1) (sym is) (record { ran = turn_unshown report given n old new now f1 p1 e1 follows grew step (none is); below = step.left.below; arms = step.left.arms; failed = step.left.failed })
 
--- how the backings are armed where memory ended in the step
-pub record Halted {F P : Type 0} (n : Numbered) (old new : List Event) (f0 f1 : Arming F) (p0 p1 : Arming P) : Type 0 where
-  pub unarmed : f1 ≡ f0
-  pub later : arms_paging n.command ≡ None → ArmedLater p0.left p0.reached p1.left p1.reached
-  pub calm : takes_up n.command ≡ false → (new ≡ old) × (p1 ≡ p0)
-  pub stops : IsMemoryStop before_last_line old new p0 p1
+-- how a backing is armed where memory ended in the step
+pub record BackingHalts {B : Type 0} (header : Header) (who : Device) (n : Numbered) (old new : List Event) (before after : Arming B) : Type 0 where
+  pub later : arms who n.command ≡ None → ArmedLater before.left before.reached after.left after.reached
+  pub calm : takes_any n.command ≡ false → (new ≡ old) × (after ≡ before)
+  pub stops : IsMemoryStop header who before_last_line old new before after
 
-arms_halted : {F P : Type 0} (given : Running F P) (n : Numbered) (old new : List Event) (f0 f1 : Arming F) (p0 p1 : Arming P) → IsNextOf given.script n old → LegalFor given.script.header given.outside (ran_of given.script old) old
-    → MayCut given.script.header given.outside n old new → Halted n old new f0 f1 p0 p1 → Arms given old f0 p0 → Arms given new f1 p1
-arms_halted given n old new f0 f1 p0 p1 follows legal may halted was = by (takes_up n.command) refl
+backing_halted : {B : Type 0} (header : Header) (outside : Outside) (who : Device) (commands : List Numbered) (n : Numbered) (old new : List Event) (start before after : Arming B)
+    → oldest_items (count_of is_line old + 1) commands ≡ n ∷ oldest_items (count_of is_line old) commands → LegalFor header outside (oldest_items (count_of is_line old) commands) old
+    → MayCut header outside n old new → BackingHalts header who n old new before after → BackingRuns header who (oldest_items (count_of is_line old) commands) old start before
+    → BackingRuns header who (oldest_items (count_of is_line new) commands) new start after
+backing_halted header outside who commands n old new start before after follows legal may halted was = by (takes_any n.command) refl
   where
-    same_ran : new ≡ old → ran_of given.script new ≡ ran_of given.script old
-    same_ran same = ap (ran_of given.script) same
+    run : List Numbered
+    run = oldest_items (count_of is_line old) commands
 
-    here : before_last_line new ≡ old → LegalCut given.script.header given.outside (n ∷ ran_of given.script old) new → ran_of given.script new ≡ n ∷ ran_of given.script old
+    same_ran : new ≡ old → oldest_items (count_of is_line new) commands ≡ run
+    same_ran same = ap (λ z. oldest_items (count_of is_line z) commands) same
+
+    here : before_last_line new ≡ old → LegalCut header outside (n ∷ run) new → oldest_items (count_of is_line new) commands ≡ n ∷ run
     here front cut =
         let made = cut.follows in
-        ap (λ z. oldest_items z given.script.commands.items) (lines_more new old made.1 made.0 n.line front made.2) ∙ follows
+        ap (λ z. oldest_items z commands) (lines_more new old made.1 made.0 n.line front made.2) ∙ follows
 
-    at : takes_up n.command ≡ true → ArmedLater p0.left p0.reached p1.left p1.reached → IsMemoryStop before_last_line old new p0 p1 → MayCut given.script.header given.outside n old new → Arms given new f1 p1
-    at up later (inl same) cut = arms_later given old new f0 f1 p0 p1 (same_ran same.0) halted.unarmed later (λ un. (same.1, subst (λ z. is_untouched (ran_of given.script old) z ≡ true) same.0 un)) was
-    at up later (inr took) (inl same) = arms_later given old new f0 f1 p0 p1 (same_ran same) halted.unarmed later (λ un. absurd (untouched_up (ran_of given.script old) new took.1 un)) was
-    at up later (inr took) (inr cut) = arms_up given n old new f0 f1 p0 p1 (here took.0 (cut (ran_of given.script old) legal)) up halted.unarmed later took.1 was
+    at_run : (more : List Numbered) → oldest_items (count_of is_line new) commands ≡ more → BackingRuns header who more new start after → BackingRuns header who (oldest_items (count_of is_line new) commands) new start after
+    at_run more is runs = subst (λ z. BackingRuns header who z new start after) (sym is) runs
 
-    by : (b : Bool) → takes_up n.command ≡ b → Arms given new f1 p1
-    by false down = let both = halted.calm down in subst (λ z. Arms given z f1 p1) (sym both.0) (subst (λ z. Arms given old z p1) (sym halted.unarmed) (subst (λ z. Arms given old f0 z) (sym both.1) was))
-    by true up = at up (halted.later (up_unarmed n.command up).0) halted.stops may
+    at : arms who n.command ≡ None → ArmedLater before.left before.reached after.left after.reached → IsMemoryStop header who before_last_line old new before after → MayCut header outside n old new
+        → BackingRuns header who (oldest_items (count_of is_line new) commands) new start after
+    at unarmed later (inl same) cut =
+        at_run run (same_ran same.0) (backing_later header who run run old new start before after refl refl later (λ un. (same.1, subst (λ z. is_untouched header who run z ≡ true) same.0 un)) was)
+    at unarmed later (inr took) (inl same) =
+        at_run run (same_ran same)
+        (backing_later header who run run old new start before after refl refl later (λ un. (ap (λ z. z.left) (took.2 (untouched_down header who run new un)), subst (λ z. is_untouched header who run z ≡ true) same un)) was)
+    at unarmed later (inr took) (inr cut) =
+        at_run (n ∷ run) (here took.0 (cut run legal))
+        (backing_behind header who n run old new start before after unarmed later (λ un. let both = untouched_line header who n run new old unarmed took.0 un in (ap (λ z. z.left) (took.2 both.0), both.1)) was)
+
+    by : (b : Bool) → takes_any n.command ≡ b → BackingRuns header who (oldest_items (count_of is_line new) commands) new start after
+    by false down =
+        let both = halted.calm down in
+        subst (λ z. BackingRuns header who (oldest_items (count_of is_line z) commands) z start after) (sym both.0) (subst (λ z. BackingRuns header who run old start z) (sym both.1) was)
+    by true up = let unarmed = up_unarmed who n.command up in at unarmed (halted.later unarmed) halted.stops may
+
+-- how both backings are armed there
+pub record Halted {F P : Type 0} (header : Header) (n : Numbered) (old new : List Event) (f0 f1 : Arming F) (p0 p1 : Arming P) : Type 0 where
+  pub files : BackingHalts header device.Files n old new f0 f1
+  pub paging : BackingHalts header device.Paging n old new p0 p1
+
+arms_halted : {F P : Type 0} (given : Running F P) (n : Numbered) (old new : List Event) (f0 f1 : Arming F) (p0 p1 : Arming P) → IsNextOf given.script n old → LegalFor given.script.header given.outside (ran_of given.script old) old
+    → MayCut given.script.header given.outside n old new → Halted given.script.header n old new f0 f1 p0 p1 → Arms given old f0 p0 → Arms given new f1 p1
+arms_halted given n old new f0 f1 p0 p1 follows legal may halted was = record {
+  files = backing_halted given.script.header given.outside device.Files given.script.commands.items n old new given.files f0 f1 follows legal may halted.files was.files;
+  paging = backing_halted given.script.header given.outside device.Paging given.script.commands.items n old new given.paging p0 p1 follows legal may halted.paging was.paging;
+}
 
 -- how a turn stops in its step
-pub step_stops : {F P : Type 0} (report : Report) (given : Running F P) (n : Numbered) (old new : List Event) (now : Option (List ℕ)) (f0 f1 : Arming F) (p0 p1 : Arming P) (e0 e1 : ℕ)
-    → IsBetweenCommands report given old now f0 p0 e0 → IsNextOf given.script n old → GrowsWithinLimit old new → length old < most_events → MayCut given.script.header given.outside n old new → Halted n old new f0 f1 p0 p1 → DevicesHaveCause e0 e1 old new
+pub step_stops : {F P : Type 0} (report : Report) (given : Running F P) (n : Numbered) (old new : List Event) (now : Option (List ℕ)) (f0 f1 : Arming F) (p0 p1 : Arming P) (e0 e1 : FaultCounts)
+    → IsBetweenCommands report given old now f0 p0 e0 → IsNextOf given.script n old → GrowsWithinLimit old new → length old < most_events → MayCut given.script.header given.outside n old new → Halted given.script.header n old new f0 f1 p0 p1
+    → ((who : Device) → DevicesHaveCause who (counted who e0) (counted who e1) old new)
     → RunStops report given new now f1 p1 e1 ends.NoMemory
 step_stops report given n old new now f0 f1 p0 p1 e0 e1 runs follows grew below may halted devices = record {
   ran = turn_cut report given n old new now follows grew runs.legal may runs.keeps.written;
   below = grew.limit below runs.keeps.below;
   arms = arms_halted given n old new f0 f1 p0 p1 follows runs.legal may halted runs.keeps.arms;
-  failed = failures_step given.faults e0 e1 old new grew devices runs.keeps.failed;
+  failed = failures_of given.faults e0 e1 old new grew devices runs.keeps.failed;
 }
 
 -- behind the step, where it was shown
-pub turned : {F P : Type 0} (report : Report) (given : Running F P) (n : Numbered) (old new : List Event) (now : Option (List ℕ)) (f1 : Arming F) (p1 : Arming P) (e1 : ℕ) → Made given n old new f1 p1 e1
+pub turned : {F P : Type 0} (report : Report) (given : Running F P) (n : Numbered) (old new : List Event) (now : Option (List ℕ)) (f1 : Arming F) (p1 : Arming P) (e1 : FaultCounts) → Made given n old new f1 p1 e1
     → Appends given.start now (text_so_far report new) → Turned report given n new now f1 p1 e1
 turned report given n old new now f1 p1 e1 step wrote = record {
-  keeps = record { built = step.built; below = step.left.below; written = wrote; arms = step.left.arms; failed = step.left.failed };
+  keeps = record { below = step.left.below; written = wrote; arms = step.left.arms; failed = step.left.failed };
   run = ran_of given.script old;
   here = step.here;
   next = step.next;
@@ -235,26 +269,43 @@ pub step_ends : (stop : SystemStop) (got end : RunEnd) → (stop ≡ stops.Event
 step_ends stops.EventLimit got end full none is = inl (refl, sym is ∙ full refl)
 step_ends stops.NoMemory got end full none is = inr (refl, sym is ∙ none refl)
 
+-- and that no write failed in it
+pub step_wrote : (stop : SystemStop) (got : RunEnd) → (stop ≡ stops.EventLimit → got ≡ ends.EventLimit) → (stop ≡ stops.NoMemory → got ≡ ends.NoMemory) → got ≡ ends.Failed → ⊥
+step_wrote stops.EventLimit got full none is = let other = full refl in absurd (cc)
+step_wrote stops.NoMemory got full none is = let other = none refl in absurd (cc)
+
 -- the commands in front of the next one were run
-part_of : {F P : Type 0} (report : Report) (given : Running F P) (n : Numbered) (h : List Event) (now : Option (List ℕ)) (f : Arming F) (p : Arming P) (e : ℕ) → IsBetweenCommands report given h now f p e → IsNextOf given.script n h
+part_of : {F P : Type 0} (report : Report) (given : Running F P) (n : Numbered) (h : List Event) (now : Option (List ℕ)) (f : Arming F) (p : Arming P) (e : FaultCounts) → IsBetweenCommands report given h now f p e → IsNextOf given.script n h
     → IsPart given.script given.outside (left_of given h ++ n ∷ []) (ran_of given.script h) h
 part_of report given n h now f p e runs follows = record {
   order = order_left given.script.commands.items (count_of is_line h) n follows;
-  built = runs.keeps.built;
   legal = runs.legal;
 }
 
--- the next command isn't built
-pub unbuilt_stops : {F P : Type 0} (report : Report) (given : Running F P) (n : Numbered) (h : List Event) (now : Option (List ℕ)) (f : Arming F) (p : Arming P) (e : ℕ) → IsBetweenCommands report given h now f p e → IsNextOf given.script n h
-    → system_runs n.command ≡ false → RunStops report given h now f p e (ends.NotBuilt n.line)
-unbuilt_stops report given n h now f p e runs follows unbuilt = record {
+-- a command that isn't refused and has no head; or it has one
+pub none_there : {A B : Type 0} (a : Option A) (b : Option B) (both : Bool) → both ≡ (is_none a && is_none b) → both ≡ true → (a ≡ None) × (b ≡ None)
+none_there None None both is true_is = (refl, refl)
+none_there None (Some y) both is true_is = let bad : false ≡ true = sym is ∙ true_is in absurd (cc)
+none_there (Some x) b both is true_is = let bad : false ≡ true = sym is ∙ true_is in absurd (cc)
+
+pub head_there : {A B : Type 0} (a : Option A) (b : Option B) (both : Bool) → both ≡ (is_none a && is_none b) → both ≡ false → a ≡ None → IsSome b
+head_there a None both is false_is none = let bad : true ≡ false = sym (is ∙ ap (λ z. is_none z && true) none) ∙ false_is in absurd (cc)
+head_there a (Some y) both is false_is none = refl
+
+-- what the next command does isn't built
+pub unbuilt_stops : {F P : Type 0} (report : Report) (given : Running F P) (n : Numbered) (h : List Event) (now : Option (List ℕ)) (f : Arming F) (p : Arming P) (e : FaultCounts) → IsBetweenCommands report given h now f p e → IsNextOf given.script n h
+    → length h < most_events → refusal given.script.header h n.command ≡ None → head given.script.header h n.command ≡ None → RunStops report given h now f p e (ends.NotBuilt n.line)
+unbuilt_stops report given n h now f p e runs follows below accepted unbuilt = record {
   ran = (
     record {
       later = left_of given h;
       next = n;
       run = ran_of given.script h;
       part = part_of report given n h now f p e runs follows;
-      unbuilt = next_unbuilt n (ran_of given.script h) runs.keeps.built unbuilt;
+      at = refl;
+      below = below;
+      accepted = accepted;
+      unbuilt = unbuilt;
     },
     runs.keeps.written,
   );
@@ -264,19 +315,13 @@ unbuilt_stops report given n h now f p e runs follows unbuilt = record {
 }
 
 -- the history is full
-pub full_stops : {F P : Type 0} (report : Report) (given : Running F P) (n : Numbered) (h : List Event) (now : Option (List ℕ)) (f : Arming F) (p : Arming P) (e : ℕ) → IsBetweenCommands report given h now f p e → IsNextOf given.script n h
-    → system_runs n.command ≡ true → most_events ≤ length h → RunStops report given h now f p e ends.EventLimit
-full_stops report given n h now f p e runs follows built full = record {
+pub full_stops : {F P : Type 0} (report : Report) (given : Running F P) (n : Numbered) (h : List Event) (now : Option (List ℕ)) (f : Arming F) (p : Arming P) (e : FaultCounts) → IsBetweenCommands report given h now f p e → IsNextOf given.script n h
+    → most_events ≤ length h → RunStops report given h now f p e ends.EventLimit
+full_stops report given n h now f p e runs follows full = record {
   ran = (
     record {
       full = full;
-      left = inl (record {
-        later = left_of given h;
-        next = n;
-        run = ran_of given.script h;
-        part = part_of report given n h now f p e runs follows;
-        built = next_built n (ran_of given.script h) runs.keeps.built built;
-      });
+      left = inl (record { later = left_of given h; next = n; run = ran_of given.script h; part = part_of report given n h now f p e runs follows });
     },
     runs.keeps.written,
   );
@@ -286,7 +331,7 @@ full_stops report given n h now f p e runs follows built full = record {
 }
 
 -- a command other than a settle is whole behind its step
-pub turned_runs : {F P : Type 0} (report : Report) (given : Running F P) (n : Numbered) (h : List Event) (now : Option (List ℕ)) (f : Arming F) (p : Arming P) (e : ℕ) → Turned report given n h now f p e → settles n.command ≡ None
+pub turned_runs : {F P : Type 0} (report : Report) (given : Running F P) (n : Numbered) (h : List Event) (now : Option (List ℕ)) (f : Arming F) (p : Arming P) (e : FaultCounts) → Turned report given n h now f p e → settles n.command ≡ None
     → IsBetweenCommands report given h now f p e
 turned_runs report given n h now f p e turned other = record {
   keeps = turned.keeps;
@@ -310,16 +355,13 @@ pub range_of : (given script : Script) (i : ℕ) (n : Numbered) → given ≡ sc
 range_of given script i n same runs found = subst (λ z. InRange z.header n.command) (sym same) (range_at script i n runs found)
 
 -- all commands have a line
-pub all_stops : {F P : Type 0} (report : Report) (given : Running F P) (h : List Event) (now : Option (List ℕ)) (f : Arming F) (p : Arming P) (e : ℕ) → IsBetweenCommands report given h now f p e
+pub all_stops : {F P : Type 0} (report : Report) (given : Running F P) (h : List Event) (now : Option (List ℕ)) (f : Arming F) (p : Arming P) (e : FaultCounts) → IsBetweenCommands report given h now f p e
     → length given.script.commands.items ≤ count_of is_line h → RunStops report given h now f p e ends.Done
 all_stops report given h now f p e runs all =
     let whole = oldest_all given.script.commands.items (count_of is_line h) all in
     record {
       ran = (
-        record {
-          built = subst (λ z. unbuilt_line z ≡ None) whole runs.keeps.built;
-          legal = subst (λ z. LegalFor given.script.header given.outside z h) whole runs.legal;
-        },
+        record { legal = subst (λ z. LegalFor given.script.header given.outside z h) whole runs.legal },
         runs.keeps.written,
       );
       below = runs.keeps.below;
@@ -332,19 +374,28 @@ shown_none : (written : Option (List ℕ)) (report : Report) → Appends written
 shown_none written reports.History = Appends-nil written
 shown_none written reports.Summary = Appends-nil written
 
+-- where nothing was run a backing that isn't armed stays so
+start_backing : {B : Type 0} (header : Header) (who : Device) (start : Arming B) → start.left ≡ 0 → BackingRuns header who [] [] start start
+start_backing header who start unarmed = record {
+  left = record { none = λ none. (unarmed, refl); some = λ count some. absurd (cc); untouched = λ count some un. absurd (cc); few = omega (arith, unarmed) };
+  rising = omega arith;
+}
+
+pub start_left : {B : Type 0} (script : Script) (who : Device) (start : Arming B) (h : List Event) → h ≡ [] → start.left ≡ 0 → BackingLeft script.header who (ran_of script h) h start start
+start_left script who start h nothing unarmed =
+    subst (λ z. BackingLeft script.header who (ran_of script z) z start start) (sym nothing)
+    (subst (λ z. BackingLeft script.header who z [] start start) (sym (oldest_none script.commands.items)) (start_backing script.header who start unarmed).left)
+
 -- a run begins with nothing
 start_run : {F P : Type 0} (report : Report) (given : Running F P) → given.files.left ≡ 0 → given.paging.left ≡ 0 → IsBetweenCommands report given [] given.start given.files given.paging given.faults
 start_run report given files paging =
     let none = oldest_none given.script.commands.items in
     record {
       keeps = record {
-        built = ap unbuilt_line none;
         below = tt;
         written = shown_none given.start report;
-        arms = arms_of given [] [] given.files given.paging none
-            (record { inner = refl; reached = refl; none = λ none. files; some = λ count some. absurd (cc) })
-            (record { left = record { none = λ none. (paging, refl); some = λ count some. absurd (cc); untouched = λ count some un. absurd (cc); few = omega (arith, paging) }; rising = omega arith });
-        failed = record { few = inl (omega arith); none = λ none. refl };
+        arms = arms_of given [] [] given.files given.paging none (start_backing given.script.header device.Files given.files files) (start_backing given.script.header device.Paging given.paging paging);
+        failed = λ who. record { few = inl (omega arith); none = λ none. refl };
       };
       legal = subst (λ z. LegalFor given.script.header given.outside z []) (sym none) (legal_start given.script.header given.outside);
     }

@@ -1,5 +1,5 @@
 -- What running a script gives.
-use Rattle.std.specs.Prelude.{ℕ, ◌≡◌, ◌≢◌, ◌⊎◌, ◌≤◌, if◌then◌else◌, List, [], ◌∷◌, ◌++◌, length, Option, Some, None, is_some}
+use Rattle.std.specs.Prelude.{ℕ, ◌*◌, ◌≡◌, ◌≢◌, ◌⊎◌, ◌<◌, ◌≤◌, ◌&&◌, Bool, true, if◌then◌else◌, List, [], ◌∷◌, ◌++◌, length, Option, Some, None, is_some, unwrap_or}
 use Rattle.std.specs.Io.KnownBytes.{Appends}
 use Rattle.std.specs.List.{All}
 use Rattle.vm_base.specs.Limits.{most_slots}
@@ -8,19 +8,24 @@ use Rattle.vm_model.specs.declared.event.Event.{Event}
 use Rattle.vm_model.specs.declared.command.Command.{Command}
 use Rattle.vm_model.specs.declared.command.Command.TheVariants as command
 use Rattle.vm_model.specs.declared.command.Numbered.{Numbered}
+use Rattle.vm_model.specs.declared.script.Declared.{Declared}
+use Rattle.vm_model.specs.declared.script.Header.{Header}
 use Rattle.vm_model.specs.declared.script.Script.{Script}
 use Rattle.vm_model.specs.Moments.{before_last_line}
 use Rattle.vm_model.specs.Ranges.{InRange}
 use Rattle.vm_model.specs.Summary.{summary_text}
 use Rattle.vm_model.specs.Text.{text}
 use Rattle.vm_legal.specs.Legal.{Legal, LegalFor}
-use Rattle.vm_legal.specs.Outside.{Outside, Untold}
+use Rattle.vm_legal.specs.Follows.{head}
+use Rattle.vm_legal.specs.Outside.{FilesAtStart, Outside, Told as FilesTold, Untold}
+use Rattle.vm_legal.specs.Refusal.{refusal}
 use Rattle.vm_legal.specs.Steps.{before_step}
 use Rattle.vm_legal.specs.Undelivered.{undelivered}
-use Rattle.vm_outside.specs.Areas.{Told}
+use Rattle.vm_outside.specs.Areas.{Told, read_at}
+use Rattle.pg_file.specs.Stands.{name_of}
 use Rattle.pg_slots.specs.Contents.{area_name}
-use Rattle.vm_kernel.specs.Matches.{IsPlain}
-use Rattle.vm_system.specs.Steps.{HasMore, LegalCut, LegalOpen, system_runs}
+use Rattle.vm_system.specs.Stands.{IsOfFiles}
+use Rattle.vm_system.specs.Steps.{HasMore, LegalCut, LegalOpen}
 use Rattle.vm_top.specs.Writing.{WroteStart, WroteBeyond}
 use Rattle.vm_top.specs.declared.run.RunEnd.{RunEnd}
 use Rattle.vm_top.specs.declared.run.RunEnd.TheVariants as end
@@ -31,43 +36,49 @@ use Rattle.vm_top.specs.declared.words.Report.TheVariants.{History, Summary}
 abbrev pub only_host : ℕ
 only_host = 0
 
--- what is told of the outside: no file is declared, and the paging area tells or not
-abbrev pub outside_of : (List ℕ → Told) → Outside
-outside_of areas = record { files = Untold; paging = is_some (areas (area_name only_host)) }
+-- what a file holds, where that is told
+abbrev pub told_of : Told → Option (List ℕ)
+told_of None = None
+told_of (Some was) = was
 
--- a script with one host and no objects, all whose numbers are in their ranges
+-- each of these objects' files is told
+abbrev pub are_told : (List ℕ → Told) → List Declared → Bool
+are_told areas [] = true
+are_told areas (object ∷ objects) = is_some (areas object.name) && are_told areas objects
+
+-- what is told of the files at the start: the pages of each, with zeros past its end, where all are told
+abbrev pub files_of : (List ℕ → Told) → Header → FilesAtStart
+files_of areas header =
+    if are_told areas header.objects.items
+    then FilesTold (λ object page. read_at (unwrap_or (told_of (areas (name_of header object))) []) (page * header.size) header.size)
+    else Untold
+
+-- what is told of the outside, of a script with this header
+abbrev pub outside_of : (List ℕ → Told) → (List ℕ → Told) → Header → Outside
+outside_of files paging header = record { files = files_of files header; paging = is_some (paging (area_name only_host)) }
+
+-- a script with one host whose declared objects are files, all whose numbers are in their ranges
 pub record IsRunnable (script : Script) : Type 0 where
-  pub plain : IsPlain script.header
+  pub built : IsOfFiles script.header
   pub one_host : length script.header.frames.items ≡ 1
   pub slots : script.header.slots ≤ most_slots
   pub ranges : All (λ numbered. InRange script.header numbered.command) script.commands.items
 
--- the line of the first command that isn't built
-abbrev pub unbuilt_line : List Numbered → Option ℕ
-unbuilt_line [] = None
-unbuilt_line (numbered ∷ before) = elim (unbuilt_line before) [
-  | Some line ↦ Some line
-  | None ↦ if system_runs numbered.command then None else Some numbered.line
-]
-
--- the commands that were run are all built, and the history is legal for them
+-- the history is legal for the commands that were run
 pub record IsPart (script : Script) (outside : Outside) (later run : List Numbered) (history : List Event) : Type 0 where
   pub order : script.commands.items ≡ later ++ run
-  pub built : unbuilt_line run ≡ None
   pub legal : LegalFor script.header outside run history
 
 -- the whole script was run
 pub record IsWholeRun (script : Script) (outside : Outside) (history : List Event) : Type 0 where
-  pub built : unbuilt_line script.commands.items ≡ None
   pub legal : Legal script outside history
 
--- a command is left that is built
+-- a command is left
 pub record IsLeft (script : Script) (outside : Outside) (history : List Event) : Type 0 where
   pub later : List Numbered
   pub next : Numbered
   pub run : List Numbered
   pub part : IsPart script outside (later ++ next ∷ []) run history
-  pub built : unbuilt_line (next ∷ run) ≡ None
 
 -- a settle has more to take, and something is there to take
 pub record SettlesOn (script : Script) (outside : Outside) (history : List Event) : Type 0 where
@@ -75,7 +86,6 @@ pub record SettlesOn (script : Script) (outside : Outside) (history : List Event
   pub next : Numbered
   pub run : List Numbered
   pub order : script.commands.items ≡ later ++ next ∷ run
-  pub built : unbuilt_line (next ∷ run) ≡ None
   pub legal : LegalOpen script.header outside (next ∷ run) history
   pub more : HasMore next.command history
   pub some : undelivered history ≢ []
@@ -85,13 +95,16 @@ pub record IsOutOfEvents (script : Script) (outside : Outside) (history : List E
   pub full : most_events ≤ length history
   pub left : IsLeft script outside history ⊎ SettlesOn script outside history
 
--- all commands in front of the first that isn't built were run
+-- all commands in front of one were run, a step may begin, and the command isn't refused and has no head: that isn't built
 pub record IsStuck (script : Script) (outside : Outside) (line : ℕ) (history : List Event) : Type 0 where
   pub later : List Numbered
   pub next : Numbered
   pub run : List Numbered
   pub part : IsPart script outside (later ++ next ∷ []) run history
-  pub unbuilt : unbuilt_line (next ∷ run) ≡ Some line
+  pub at : next.line ≡ line
+  pub below : length history < most_events
+  pub accepted : refusal script.header history next.command ≡ None
+  pub unbuilt : head script.header history next.command ≡ None
 
 -- the events in front of the last step of a command: the taking of a `take` is one step with its line
 abbrev pub front_of : Command → List Event → List Event
@@ -125,8 +138,7 @@ report_text History history = text history
 report_text Summary history = summary_text history
 
 -- how a run ends: the whole script ran; or a write failed, in the text of the last step; or memory ended; or the
--- history
--- is full; or a command isn't built
+-- history is full; or what a command does isn't built
 abbrev pub RanAs : Report → Script → Outside → List Event → RunEnd → Option (List ℕ) → Option (List ℕ) → Type 0
 RanAs report script outside history end.Done before after =
     IsWholeRun script outside history × Appends before after (text_so_far report history)

@@ -1,8 +1,10 @@
 -- What the top call promises, status by status.
-use Rattle.std.specs.Prelude.{ℕ, ◌≡◌, ◌⊎◌, true, List, [], ◌++◌, codes, Option, Some, None, IsSome, Ok, Err}
+use Rattle.std.specs.Prelude.{ℕ, ◌≡◌, ◌⊎◌, List, [], ◌++◌, codes, Option, Some, None, IsSome, Ok, Err}
 use Rattle.std.specs.Io.KnownBytes.{Appends, Keeps}
 use Rattle.vm_model.specs.declared.command.Numbered.{Numbered}
+use Rattle.vm_model.specs.declared.event.Device.{Device}
 use Rattle.vm_model.specs.declared.event.Event.{Event}
+use Rattle.vm_model.specs.declared.script.Header.{Header}
 use Rattle.vm_model.specs.declared.fault.ScriptFault.{ScriptFault}
 use Rattle.vm_model.specs.declared.fault.ScriptFault.TheVariants as fault
 use Rattle.vm_model.specs.declared.script.Script.{Script}
@@ -15,8 +17,8 @@ use Rattle.vm_text.specs.Unbuilt.{IsBuilt, unbuilt_of}
 use Rattle.vm_outside.specs.Areas.{Told}
 use Rattle.vm_outside.specs.Arming.{Arming}
 use Rattle.pg_slots.specs.Contents.{area_name}
-use Rattle.vm_system.specs.Keeping.{PagingKeepsPages}
-use Rattle.vm_top.specs.Arming.{FilesLeft, PagingLeft, ran_of}
+use Rattle.vm_system.specs.Keeping.{FilesCarry, PagingKeepsPages}
+use Rattle.vm_top.specs.Arming.{BackingLeft, ran_of}
 use Rattle.vm_top.specs.Run.{CutIn, FailedIn, IsOutOfEvents, IsStuck, IsWholeRun, only_host, report_text}
 use Rattle.vm_top.specs.Writing.{WroteStart}
 use Rattle.vm_top.specs.declared.words.Report.{Report}
@@ -71,46 +73,45 @@ pub record IsHeld (told : Option (List ℕ)) (run : Script) (script : Option Scr
   pub held : script ≡ Some run
   pub read : IsReadFrom told run
 
--- nothing in its header isn't built: it has one host, and no objects
+-- nothing in its header isn't built: it has one host, and its objects are files
 pub record IsHeaderBuilt (told : Option (List ℕ)) (run : Script) : Type 0 where
   pub lines : IsUnbuiltFrom told None
   pub built : IsBuilt run.header
 
--- the whole script was run, all of which is built: its history is legal, and its report was written and nothing else
-pub record IsRunDone (told : Option (List ℕ)) (outside : Outside) (report : Report) (script : Option Script) (history : List Event) (before after : Option (List ℕ)) : Type 0 where
+-- the whole script was run: its history is legal, and its report was written and nothing else
+pub record IsRunDone (told : Option (List ℕ)) (outside : Header → Outside) (report : Report) (script : Option Script) (history : List Event) (before after : Option (List ℕ)) : Type 0 where
   pub run : Script
   pub held : IsHeld told run script
   pub header : IsHeaderBuilt told run
-  pub whole : IsWholeRun run outside history
+  pub whole : IsWholeRun run (outside run.header) history
   pub written : Appends before after (report_text report history)
 
 -- the history is full while a step is left: it is legal as far as it goes, and its report was written and nothing else
-pub record IsEventLimit (told : Option (List ℕ)) (outside : Outside) (report : Report) (script : Option Script) (history : List Event) (before after : Option (List ℕ)) : Type 0 where
+pub record IsEventLimit (told : Option (List ℕ)) (outside : Header → Outside) (report : Report) (script : Option Script) (history : List Event) (before after : Option (List ℕ)) : Type 0 where
   pub run : Script
   pub held : IsHeld told run script
   pub header : IsHeaderBuilt told run
-  pub full : IsOutOfEvents run outside history
+  pub full : IsOutOfEvents run (outside run.header) history
   pub written : Appends before after (report_text report history)
 
--- this line isn't built: one of the header, and nothing was run; or that of the first such command, and those in front
--- of it were run
+-- this line isn't built: one of the header, and nothing was run; or that of a command, and those in front of it were run
 abbrev pub StopsUnbuilt : Option (List ℕ) → Outside → Script → ℕ → List Event → Type 0
 StopsUnbuilt told outside run line history =
     (IsUnbuiltFrom told (Some line) × (history ≡ [])) ⊎ (IsHeaderBuilt told run × IsStuck run outside line history)
 
 -- a script was read, and run up to the line that isn't built
-pub record IsStopped (told : Option (List ℕ)) (outside : Outside) (line : ℕ) (script : Option Script) (history : List Event) : Type 0 where
+pub record IsStopped (told : Option (List ℕ)) (outside : Header → Outside) (line : ℕ) (script : Option Script) (history : List Event) : Type 0 where
   pub run : Script
   pub held : IsHeld told run script
-  pub stops : StopsUnbuilt told outside run line history
-  pub legal : LegalSoFar run outside history
+  pub stops : StopsUnbuilt told (outside run.header) run line history
+  pub legal : LegalSoFar run (outside run.header) history
 
 -- the text of what was run, and then the line
 abbrev pub stopped_text : List Event → ℕ → List ℕ
 stopped_text history line = text history ++ not_built_text line
 
 -- the script isn't built from this line on, and that was written behind the text of what was run
-pub record IsNotBuilt (told : Option (List ℕ)) (outside : Outside) (line : ℕ) (script : Option Script) (history : List Event) (before after : Option (List ℕ)) : Type 0 where
+pub record IsNotBuilt (told : Option (List ℕ)) (outside : Header → Outside) (line : ℕ) (script : Option Script) (history : List Event) (before after : Option (List ℕ)) : Type 0 where
   pub stopped : IsStopped told outside line script history
   pub written : Appends before after (stopped_text history line)
 
@@ -127,21 +128,21 @@ WroteFailed Summary run outside history before after =
     LegalSoFar run outside history × WroteStart before after (report_text Summary history)
 
 -- a script was run, and a write of its report failed
-pub record IsFailed (told : Option (List ℕ)) (outside : Outside) (report : Report) (script : Option Script) (history : List Event) (before after : Option (List ℕ)) : Type 0 where
+pub record IsFailed (told : Option (List ℕ)) (outside : Header → Outside) (report : Report) (script : Option Script) (history : List Event) (before after : Option (List ℕ)) : Type 0 where
   pub run : Script
   pub held : IsHeld told run script
   pub header : IsHeaderBuilt told run
-  pub failed : WroteFailed report run outside history before after
+  pub failed : WroteFailed report run (outside run.header) history before after
 
 -- a script was run until memory ended: its history is legal as far as it goes, and its last step may be cut
-pub record IsCut (told : Option (List ℕ)) (outside : Outside) (script : Option Script) (history : List Event) : Type 0 where
+pub record IsCut (told : Option (List ℕ)) (outside : Header → Outside) (script : Option Script) (history : List Event) : Type 0 where
   pub run : Script
   pub held : IsHeld told run script
   pub header : IsHeaderBuilt told run
-  pub cut : CutIn run outside history
+  pub cut : CutIn run (outside run.header) history
 
 -- a first part of what tells the line that isn't built
-abbrev pub WroteStopped : Option (List ℕ) → Outside → Option Script → List Event → Option (List ℕ) → Option (List ℕ)
+abbrev pub WroteStopped : Option (List ℕ) → (Header → Outside) → Option Script → List Event → Option (List ℕ) → Option (List ℕ)
     → Type 0
 WroteStopped told outside script history before after =
     (line : ℕ) × IsStopped told outside line script history × WroteStart before after (stopped_text history line)
@@ -153,14 +154,14 @@ WroteBad told script history before after =
     × WroteStart before after (bad_text line kind)
 
 -- a write failed: of the run's report, or of the line that isn't built, or of the script's fault
-abbrev pub IsOutputFault : Option (List ℕ) → Outside → Report → Option Script → List Event → Option (List ℕ)
+abbrev pub IsOutputFault : Option (List ℕ) → (Header → Outside) → Report → Option Script → List Event → Option (List ℕ)
     → Option (List ℕ) → Type 0
 IsOutputFault told outside report script history before after =
     IsFailed told outside report script history before after
     ⊎ (WroteStopped told outside script history before after ⊎ WroteBad told script history before after)
 
 -- memory ended: nothing was read, or a first part of one of these was written
-abbrev pub IsNoMemory : Option (List ℕ) → Outside → Report → Option Script → List Event → Option (List ℕ)
+abbrev pub IsNoMemory : Option (List ℕ) → (Header → Outside) → Report → Option Script → List Event → Option (List ℕ)
     → Option (List ℕ) → Type 0
 IsNoMemory told outside report script history before after =
     NothingDone script history before after
@@ -168,19 +169,21 @@ IsNoMemory told outside report script history before after =
     ⊎ (WroteStopped told outside script history before after ⊎ WroteBad told script history before after))
 
 -- the paging area goes on telling, and each page that was returned and not lost stands at its slot
-abbrev pub KeptAt : Outside → (List ℕ → Told) → Option Script → List Event → Type 0
-KeptAt outside areas None history = outside.paging ≡ true → IsSome (areas (area_name only_host))
-KeptAt outside areas (Some script) history = PagingKeepsPages script.header only_host outside areas history
+abbrev pub KeptAt : (Header → Outside) → (List ℕ → Told) → (List ℕ → Told) → Option Script → List Event → Type 0
+KeptAt outside before after None history = IsSome (before (area_name only_host)) → IsSome (after (area_name only_host))
+KeptAt outside before after (Some script) history = PagingKeepsPages script.header only_host (outside script.header) after history
+
+-- each declared file that told has what was returned, and else what it had, and all else is as it was
+abbrev pub FilesKeptAt : (List ℕ → Told) → (List ℕ → Told) → Option Script → List Event → Type 0
+FilesKeptAt before after None history = (name : List ℕ) (was : Option (List ℕ)) → before name ≡ Some was → after name ≡ Some was
+FilesKeptAt before after (Some script) history = FilesCarry script.header before after history
 
 -- the commands that were run
 abbrev pub commands_run : Option Script → List Event → List Numbered
 commands_run None history = []
 commands_run (Some script) history = ran_of script history
 
--- how they leave the files and the paging area armed
-
-abbrev pub FilesEnd : {B : Type 0} → Option Script → List Event → Arming B → Arming B → Type 0
-FilesEnd script history old new = FilesLeft (commands_run script history) old new
-
-abbrev pub PagingEnds : {B : Type 0} → Option Script → List Event → Arming B → Arming B → Type 0
-PagingEnds script history old new = PagingLeft (commands_run script history) history old new
+-- how they leave a backing armed: where nothing was run, as it was
+abbrev pub BackingEnds : {B : Type 0} → Device → Option Script → List Event → Arming B → Arming B → Type 0
+BackingEnds who None history old new = (new.left ≡ 0) × (new.reached ≡ old.reached)
+BackingEnds who (Some script) history old new = BackingLeft script.header who (ran_of script history) history old new

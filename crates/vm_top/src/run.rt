@@ -1,18 +1,21 @@
 // Runs a script, and writes each step's events when it has ended.
-ghost use Rattle.std.specs.Prelude.{◌≡◌, ◌≢◌, ◌+◌, ◌⊎◌, ◌<◌, ◌≤◌, [], true, false, List, ℕ, length, IfOk, OnOk, IsErrOf};
+ghost use Rattle.std.specs.Prelude.{◌≡◌, ◌≢◌, ◌+◌, ◌⊎◌, ◌<◌, ◌≤◌, [], true, false, List, ℕ, None, length, IfOk, IsSome, OnOk, IsErrOf};
 ghost use Rattle.std.specs.Io.KnownBytes.{Appends};
 ghost use Rattle.std.specs.declared.option.Option.{Option};
 ghost use Rattle.vm_model.specs.Limits.{most_events};
 ghost use Rattle.vm_model.specs.Ranges.{InRange};
 ghost use Rattle.vm_model.specs.Summary.{count_of, is_line};
 ghost use Rattle.vm_model.specs.Text.{text};
+ghost use Rattle.vm_model.specs.declared.event.Device.TheVariants as device;
+ghost use Rattle.vm_legal.specs.Follows.{head};
+ghost use Rattle.vm_legal.specs.Refusal.{refusal};
 ghost use Rattle.vm_legal.specs.Steps.{takings};
 ghost use Rattle.vm_legal.specs.Undelivered.{undelivered};
 ghost use Rattle.vm_outside.specs.Causes.{CountRises};
-ghost use Rattle.vm_system.specs.Keeping.{PagingKeepsPages};
-ghost use Rattle.vm_system.specs.Stands.{PagingIsKept, SystemStands};
-ghost use Rattle.vm_system.specs.Steps.{HasMore, IsBelowLimit, system_runs};
-ghost use Rattle.vm_top.specs.Arming.{FailuresBounded, FailuresCounted, FilesLeft, PagingLeft, ran_of};
+ghost use Rattle.vm_system.specs.Keeping.{FilesCarry, PagingKeepsPages};
+ghost use Rattle.vm_system.specs.Stands.{FilesAreKept, PagingIsKept, SystemStands};
+ghost use Rattle.vm_system.specs.Steps.{HasMore, IsBelowLimit};
+ghost use Rattle.vm_top.specs.Arming.{BackingLeft, FailuresBounded, FailuresCounted, ran_of};
 ghost use Rattle.vm_top.specs.Run.{IsRunnable, RanAs, only_host, outside_of, text_so_far};
 ghost use Rattle.vm_top.specs.Running.{IsBetweenCommands, IsNextOf, RunStops, RunTaking, Running, Settles, Turned};
 ghost use Rattle.vm_top.specs.Writing.{WroteBeyond, oldest_items};
@@ -37,7 +40,7 @@ pub enum RunEnd {
     NoMemory,
     /// A step is left, and the history has 200,000 events or more.
     EventLimit,
-    /// The command of this line isn't built.
+    /// What the command of this line does isn't built: it copies from a file.
     NotBuilt { line: u32 },
 }
 
@@ -46,32 +49,6 @@ pub enum RunEnd {
 pub struct Ran {
     pub history: History,
     pub end: RunEnd,
-}
-
-// Whether the command is one that is built.
-fn is_built(command: &Command) -> bool
-    ensures { result ≡ system_runs command.now }
-{
-    match command {
-        Command::Task { .. }
-        | Command::Fork { .. }
-        | Command::Copy { .. }
-        | Command::Exit { .. }
-        | Command::Allocate { .. }
-        | Command::Deallocate { .. }
-        | Command::Protect { .. }
-        | Command::Inherit { .. }
-        | Command::Load { .. }
-        | Command::Store { .. }
-        | Command::Take { .. }
-        | Command::Settle { .. }
-        | Command::FailFiles { .. }
-        | Command::FailPaging { .. }
-        | Command::Pageout { .. }
-        | Command::Wire { .. }
-        | Command::Unwire { .. } => true,
-        _ => false,
-    }
 }
 
 fn end_of(stop: SystemStop) -> RunEnd
@@ -130,17 +107,21 @@ fn turn<K: Sink, F: Backing, P: Backing>(
     ghost given: { Running F P }
     requires stands { SystemStands given.script.header given.outside system.old }
     requires kept { PagingIsKept given.script.header given.outside (P.area paging.old.inner) system.old }
+    requires files_kept { FilesAreKept given.script.header given.outside (F.area files.old.inner) system.old }
+    requires carried { FilesCarry given.script.header (F.area given.files.inner) (F.area files.old.inner) system.old.history.items }
     requires range { InRange given.script.header numbered.now.command }
-    requires built { system_runs numbered.now.command ≡ true }
+    requires head { refusal given.script.header system.old.history.items numbered.now.command ≡ None → IsSome (head given.script.header system.old.history.items numbered.now.command) }
     requires below { length system.old.history.items < most_events }
-    requires runs { IsBetweenCommands report given system.old.history.items (K.written out.old) files.old paging.old (⟦<Armed<P> as Backing>⟧.faults paging.old) }
+    requires runs { IsBetweenCommands report given system.old.history.items (K.written out.old) files.old paging.old (record { files = ⟦<Armed<F> as Backing>⟧.faults files.old; paging = ⟦<Armed<P> as Backing>⟧.faults paging.old }) }
     requires next { IsNextOf given.script numbered.now system.old.history.items }
     ensures stands { OnOk result (SystemStands given.script.header given.outside system.new) }
     ensures kept { PagingIsKept given.script.header given.outside (P.area paging.new.inner) system.new }
-    ensures turned { OnOk result (Turned report given numbered.now system.new.history.items (K.written out.new) files.new paging.new (⟦<Armed<P> as Backing>⟧.faults paging.new)) }
+    ensures files_kept { FilesAreKept given.script.header given.outside (F.area files.new.inner) system.new }
+    ensures carried { FilesCarry given.script.header (F.area given.files.inner) (F.area files.new.inner) system.new.history.items }
+    ensures turned { OnOk result (Turned report given numbered.now system.new.history.items (K.written out.new) files.new paging.new (record { files = ⟦<Armed<F> as Backing>⟧.faults files.new; paging = ⟦<Armed<P> as Backing>⟧.faults paging.new })) }
     ensures lines { OnOk result (count_of is_line system.new.history.items
         ≡ count_of is_line system.old.history.items + 1) }
-    ensures stops { (end : RunEnd) → IsErrOf result end → RunStops report given system.new.history.items (K.written out.new) files.new paging.new (⟦<Armed<P> as Backing>⟧.faults paging.new) end }
+    ensures stops { (end : RunEnd) → IsErrOf result end → RunStops report given system.new.history.items (K.written out.new) files.new paging.new (record { files = ⟦<Armed<F> as Backing>⟧.faults files.new; paging = ⟦<Armed<P> as Backing>⟧.faults paging.new }) end }
     ensures later { K.faults out.old ≤ K.faults out.new }
     ensures cause { IsErrOf result RunEnd.Failed → CountRises (K.faults out.old) (K.faults out.new) }
 {
@@ -164,17 +145,21 @@ fn take_one<K: Sink, F: Backing, P: Backing>(
     ghost given: { RunTaking F P }
     requires stands { SystemStands given.running.script.header given.running.outside system.old }
     requires kept { PagingIsKept given.running.script.header given.running.outside (P.area paging.old.inner) system.old }
-    requires settles { Settles report given system.old.history.items (K.written out.old) files.old paging.old (⟦<Armed<P> as Backing>⟧.faults paging.old) }
+    requires files_kept { FilesAreKept given.running.script.header given.running.outside (F.area files.old.inner) system.old }
+    requires carried { FilesCarry given.running.script.header (F.area given.running.files.inner) (F.area files.old.inner) system.old.history.items }
+    requires settles { Settles report given system.old.history.items (K.written out.old) files.old paging.old (record { files = ⟦<Armed<F> as Backing>⟧.faults files.old; paging = ⟦<Armed<P> as Backing>⟧.faults paging.old }) }
     requires more { HasMore given.command system.old.history.items }
     ensures stands { OnOk result (SystemStands given.running.script.header given.running.outside system.new) }
     ensures kept { PagingIsKept given.running.script.header given.running.outside (P.area paging.new.inner) system.new }
-    ensures settles { OnOk result (Settles report given system.new.history.items (K.written out.new) files.new paging.new (⟦<Armed<P> as Backing>⟧.faults paging.new)) }
+    ensures files_kept { FilesAreKept given.running.script.header given.running.outside (F.area files.new.inner) system.new }
+    ensures carried { FilesCarry given.running.script.header (F.area given.running.files.inner) (F.area files.new.inner) system.new.history.items }
+    ensures settles { OnOk result (Settles report given system.new.history.items (K.written out.new) files.new paging.new (record { files = ⟦<Armed<F> as Backing>⟧.faults files.new; paging = ⟦<Armed<P> as Backing>⟧.faults paging.new })) }
     ensures more { IfOk result (λ took. took ≡ true
         → takings system.new.history.items ≡ takings system.old.history.items + 1) }
     ensures quiet { IfOk result (λ took. took ≡ false → undelivered system.new.history.items ≡ []) }
     ensures lines { OnOk result (count_of is_line system.new.history.items
         ≡ count_of is_line system.old.history.items) }
-    ensures stops { (end : RunEnd) → IsErrOf result end → RunStops report given.running system.new.history.items (K.written out.new) files.new paging.new (⟦<Armed<P> as Backing>⟧.faults paging.new) end }
+    ensures stops { (end : RunEnd) → IsErrOf result end → RunStops report given.running system.new.history.items (K.written out.new) files.new paging.new (record { files = ⟦<Armed<F> as Backing>⟧.faults files.new; paging = ⟦<Armed<P> as Backing>⟧.faults paging.new }) end }
     ensures later { K.faults out.old ≤ K.faults out.new }
     ensures cause { IsErrOf result RunEnd.Failed → CountRises (K.faults out.old) (K.faults out.new) }
 {
@@ -202,15 +187,19 @@ fn settle<K: Sink, F: Backing, P: Backing>(
     ghost given: { RunTaking F P }
     requires stands { SystemStands given.running.script.header given.running.outside system.old }
     requires kept { PagingIsKept given.running.script.header given.running.outside (P.area paging.old.inner) system.old }
-    requires settles { Settles report given system.old.history.items (K.written out.old) files.old paging.old (⟦<Armed<P> as Backing>⟧.faults paging.old) }
+    requires files_kept { FilesAreKept given.running.script.header given.running.outside (F.area files.old.inner) system.old }
+    requires carried { FilesCarry given.running.script.header (F.area given.running.files.inner) (F.area files.old.inner) system.old.history.items }
+    requires settles { Settles report given system.old.history.items (K.written out.old) files.old paging.old (record { files = ⟦<Armed<F> as Backing>⟧.faults files.old; paging = ⟦<Armed<P> as Backing>⟧.faults paging.old }) }
     requires command { given.command ≡ Command.Settle count }
     requires none { takings system.old.history.items ≡ 0 }
     ensures stands { OnOk result (SystemStands given.running.script.header given.running.outside system.new) }
     ensures kept { PagingIsKept given.running.script.header given.running.outside (P.area paging.new.inner) system.new }
-    ensures runs { OnOk result (IsBetweenCommands report given.running system.new.history.items (K.written out.new) files.new paging.new (⟦<Armed<P> as Backing>⟧.faults paging.new)) }
+    ensures files_kept { FilesAreKept given.running.script.header given.running.outside (F.area files.new.inner) system.new }
+    ensures carried { FilesCarry given.running.script.header (F.area given.running.files.inner) (F.area files.new.inner) system.new.history.items }
+    ensures runs { OnOk result (IsBetweenCommands report given.running system.new.history.items (K.written out.new) files.new paging.new (record { files = ⟦<Armed<F> as Backing>⟧.faults files.new; paging = ⟦<Armed<P> as Backing>⟧.faults paging.new })) }
     ensures lines { OnOk result (count_of is_line system.new.history.items
         ≡ count_of is_line system.old.history.items) }
-    ensures stops { (end : RunEnd) → IsErrOf result end → RunStops report given.running system.new.history.items (K.written out.new) files.new paging.new (⟦<Armed<P> as Backing>⟧.faults paging.new) end }
+    ensures stops { (end : RunEnd) → IsErrOf result end → RunStops report given.running system.new.history.items (K.written out.new) files.new paging.new (record { files = ⟦<Armed<F> as Backing>⟧.faults files.new; paging = ⟦<Armed<P> as Backing>⟧.faults paging.new }) end }
     ensures later { K.faults out.old ≤ K.faults out.new }
     ensures cause { IsErrOf result RunEnd.Failed → CountRises (K.faults out.old) (K.faults out.new) }
 {
@@ -223,7 +212,7 @@ fn settle<K: Sink, F: Backing, P: Backing>(
 }
 
 /// Runs the script to its end, or to a write that fails, or until memory ends, or until the history
-/// has 200,000 events where a step is left, or to a command that isn't built.
+/// has 200,000 events where a step is left, or to a copy from a file, which isn't built.
 pub fn run_script<K: Sink, F: Backing, P: Backing>(
     alloc: Global,
     report: Report,
@@ -235,17 +224,20 @@ pub fn run_script<K: Sink, F: Backing, P: Backing>(
     requires run { IsRunnable script.now }
     requires files { files.old.left ≡ 0 }
     requires paging { paging.old.left ≡ 0 }
-    ensures ran { RanAs report script.now (outside_of (P.area paging.old.inner)) result.history.items result.end (K.written out.old) (K.written out.new) }
+    ensures ran { RanAs report script.now (outside_of (F.area files.old.inner) (P.area paging.old.inner) script.now.header) result.history.items result.end (K.written out.old) (K.written out.new) }
     ensures limit { IsBelowLimit result.history.items }
     ensures later { K.faults out.old ≤ K.faults out.new }
     ensures cause { result.end ≡ RunEnd.Failed → CountRises (K.faults out.old) (K.faults out.new) }
 
     // What the backings keep, and how they are armed.
-    ensures kept { PagingKeepsPages script.now.header only_host (outside_of (P.area paging.old.inner)) (P.area paging.new.inner) result.history.items }
-    ensures files { FilesLeft (ran_of script.now result.history.items) files.old files.new }
-    ensures paging { PagingLeft (ran_of script.now result.history.items) result.history.items paging.old paging.new }
-    ensures devices { FailuresCounted (⟦<Armed<P> as Backing>⟧.faults paging.old) (⟦<Armed<P> as Backing>⟧.faults paging.new) result.history.items }
-    ensures bounded { FailuresBounded (ran_of script.now result.history.items) (P.faults paging.old.inner) (P.faults paging.new.inner) (⟦<Armed<P> as Backing>⟧.faults paging.new) result.history.items }
+    ensures kept { PagingKeepsPages script.now.header only_host (outside_of (F.area files.old.inner) (P.area paging.old.inner) script.now.header) (P.area paging.new.inner) result.history.items }
+    ensures carried { FilesCarry script.now.header (F.area files.old.inner) (F.area files.new.inner) result.history.items }
+    ensures files { BackingLeft script.now.header device.Files (ran_of script.now result.history.items) result.history.items files.old files.new }
+    ensures paging { BackingLeft script.now.header device.Paging (ran_of script.now result.history.items) result.history.items paging.old paging.new }
+    ensures files_devices { FailuresCounted device.Files (⟦<Armed<F> as Backing>⟧.faults files.old) (⟦<Armed<F> as Backing>⟧.faults files.new) result.history.items }
+    ensures devices { FailuresCounted device.Paging (⟦<Armed<P> as Backing>⟧.faults paging.old) (⟦<Armed<P> as Backing>⟧.faults paging.new) result.history.items }
+    ensures files_bounded { FailuresBounded device.Files (ran_of script.now result.history.items) (F.faults files.old.inner) (F.faults files.new.inner) (⟦<Armed<F> as Backing>⟧.faults files.new) result.history.items }
+    ensures bounded { FailuresBounded device.Paging (ran_of script.now result.history.items) (P.faults paging.old.inner) (P.faults paging.new.inner) (⟦<Armed<P> as Backing>⟧.faults paging.new) result.history.items }
 {
     let Ok(mut system) = System::new(alloc, &script.header) else {
         return Ran {
@@ -275,10 +267,14 @@ fn run_all<K: Sink, F: Backing, P: Backing>(
     requires run { IsRunnable script.now }
     requires stands { SystemStands given.script.header given.outside system.old }
     requires kept { PagingIsKept given.script.header given.outside (P.area paging.old.inner) system.old }
-    requires runs { IsBetweenCommands report given system.old.history.items (K.written out.old) files.old paging.old (⟦<Armed<P> as Backing>⟧.faults paging.old) }
+    requires files_kept { FilesAreKept given.script.header given.outside (F.area files.old.inner) system.old }
+    requires carried { FilesCarry given.script.header (F.area given.files.inner) (F.area files.old.inner) system.old.history.items }
+    requires runs { IsBetweenCommands report given system.old.history.items (K.written out.old) files.old paging.old (record { files = ⟦<Armed<F> as Backing>⟧.faults files.old; paging = ⟦<Armed<P> as Backing>⟧.faults paging.old }) }
     requires none { system.old.history.items ≡ [] }
     ensures kept { PagingIsKept given.script.header given.outside (P.area paging.new.inner) system.new }
-    ensures stops { RunStops report given system.new.history.items (K.written out.new) files.new paging.new (⟦<Armed<P> as Backing>⟧.faults paging.new) result }
+    ensures files_kept { FilesAreKept given.script.header given.outside (F.area files.new.inner) system.new }
+    ensures carried { FilesCarry given.script.header (F.area given.files.inner) (F.area files.new.inner) system.new.history.items }
+    ensures stops { RunStops report given system.new.history.items (K.written out.new) files.new paging.new (record { files = ⟦<Armed<F> as Backing>⟧.faults files.new; paging = ⟦<Armed<P> as Backing>⟧.faults paging.new }) result }
     ensures later { K.faults out.old ≤ K.faults out.new }
     ensures cause { result ≡ RunEnd.Failed → CountRises (K.faults out.old) (K.faults out.new) }
 {
@@ -304,25 +300,29 @@ fn run_one<K: Sink, F: Backing, P: Backing>(
     ghost given: { Running F P }
     requires stands { SystemStands given.script.header given.outside system.old }
     requires kept { PagingIsKept given.script.header given.outside (P.area paging.old.inner) system.old }
+    requires files_kept { FilesAreKept given.script.header given.outside (F.area files.old.inner) system.old }
+    requires carried { FilesCarry given.script.header (F.area given.files.inner) (F.area files.old.inner) system.old.history.items }
     requires range { InRange given.script.header numbered.now.command }
-    requires runs { IsBetweenCommands report given system.old.history.items (K.written out.old) files.old paging.old (⟦<Armed<P> as Backing>⟧.faults paging.old) }
+    requires runs { IsBetweenCommands report given system.old.history.items (K.written out.old) files.old paging.old (record { files = ⟦<Armed<F> as Backing>⟧.faults files.old; paging = ⟦<Armed<P> as Backing>⟧.faults paging.old }) }
     requires next { IsNextOf given.script numbered.now system.old.history.items }
     ensures stands { OnOk result (SystemStands given.script.header given.outside system.new) }
     ensures kept { PagingIsKept given.script.header given.outside (P.area paging.new.inner) system.new }
-    ensures runs { OnOk result (IsBetweenCommands report given system.new.history.items (K.written out.new) files.new paging.new (⟦<Armed<P> as Backing>⟧.faults paging.new)) }
+    ensures files_kept { FilesAreKept given.script.header given.outside (F.area files.new.inner) system.new }
+    ensures carried { FilesCarry given.script.header (F.area given.files.inner) (F.area files.new.inner) system.new.history.items }
+    ensures runs { OnOk result (IsBetweenCommands report given system.new.history.items (K.written out.new) files.new paging.new (record { files = ⟦<Armed<F> as Backing>⟧.faults files.new; paging = ⟦<Armed<P> as Backing>⟧.faults paging.new })) }
     ensures lines { OnOk result (count_of is_line system.new.history.items
         ≡ count_of is_line system.old.history.items + 1) }
-    ensures stops { (end : RunEnd) → IsErrOf result end → RunStops report given system.new.history.items (K.written out.new) files.new paging.new (⟦<Armed<P> as Backing>⟧.faults paging.new) end }
+    ensures stops { (end : RunEnd) → IsErrOf result end → RunStops report given system.new.history.items (K.written out.new) files.new paging.new (record { files = ⟦<Armed<F> as Backing>⟧.faults files.new; paging = ⟦<Armed<P> as Backing>⟧.faults paging.new }) end }
     ensures later { K.faults out.old ≤ K.faults out.new }
     ensures cause { IsErrOf result RunEnd.Failed → CountRises (K.faults out.old) (K.faults out.new) }
 {
-    if !is_built(&numbered.command) {
+    if system.history().len() >= MOST_EVENTS {
+        return Err(RunEnd::EventLimit);
+    }
+    if system.copies_declared(&numbered.command) {
         return Err(RunEnd::NotBuilt {
             line: numbered.line,
         });
-    }
-    if system.history().len() >= MOST_EVENTS {
-        return Err(RunEnd::EventLimit);
     }
     turn(alloc, report, system, numbered, out, files, paging)?;
     match numbered.command {

@@ -2,12 +2,13 @@
 ghost use Rattle.std.specs.Prelude.{◌≡◌, ◌≢◌, ◌⊎◌, ◌≤◌, IfSome, List, None, Some, ℕ};
 ghost use Rattle.std.specs.declared.option.Option.{Option};
 ghost use Rattle.std.specs.Io.KnownBytes.{Appends};
+ghost use Rattle.vm_model.specs.declared.event.Device.TheVariants as device;
 ghost use Rattle.vm_model.specs.declared.fault.ScriptFault.{ScriptFault};
 ghost use Rattle.vm_model.specs.declared.script.Script.{Script};
 ghost use Rattle.vm_model.specs.Ranges.{KeepsRanges};
 ghost use Rattle.vm_outside.specs.Causes.{CountRises};
 ghost use Rattle.vm_top.specs.Ending.{EndsAs, RunHasEnded, Tells, status_after};
-ghost use Rattle.vm_top.specs.Top.{IsBad, IsRunDone, IsEventLimit, NothingRun, IsOutputFault, IsNoMemory, IsNotBuilt, NothingDone, OfBytes, KeptAt, FilesEnd, PagingEnds, bad_text, commands_run, not_built_text, usage_text};
+ghost use Rattle.vm_top.specs.Top.{IsBad, IsRunDone, IsEventLimit, NothingRun, IsOutputFault, IsNoMemory, IsNotBuilt, NothingDone, OfBytes, KeptAt, FilesKeptAt, BackingEnds, bad_text, commands_run, not_built_text, usage_text};
 ghost use Rattle.vm_legal.specs.Outside.{Outside};
 ghost use Rattle.vm_system.specs.Steps.{IsBelowLimit};
 ghost use Rattle.vm_top.specs.Arming.{FailuresBounded, FailuresCounted};
@@ -48,9 +49,8 @@ pub enum Status {
     EventLimit,
     /// No memory was there.
     NoMemory,
-    /// `line` is the first that isn't built: a header line for objects or for more than one host, or a
-    /// `map`, `copy`, `clean` or `say`, or a `fork` that would copy an entry. It is 0 where a script was
-    /// to be made.
+    /// `line` is the first that isn't built: a header line for a shared or a wild object or for more than
+    /// one host, or a `copy` from a file. It is 0 where a script was to be made.
     NotBuilt { line: u32 },
 }
 
@@ -176,17 +176,20 @@ fn run_read<K: Sink, F: Backing, P: Backing>(
     requires run { IsRunnable script }
     requires files { files.old.left ≡ 0 }
     requires paging { paging.old.left ≡ 0 }
-    ensures ended { RunHasEnded report script (outside_of (P.area paging.old.inner)) result.script result.history.items (K.written out.old) (K.written out.new) result.status }
+    ensures ended { RunHasEnded report script (outside_of (F.area files.old.inner) (P.area paging.old.inner) script.header) result.script result.history.items (K.written out.old) (K.written out.new) result.status }
     ensures quiet { result.status ≢ Status.NoMemory → WaitsForFramesAlone result.script result.history.items }
     ensures carried { result.status ≢ Status.NoMemory → CarriesAll result.script result.history.items }
     ensures limit { IsBelowLimit result.history.items }
     ensures cause { result.status ≡ Status.OutputFault → CountRises (K.faults out.old) (K.faults out.new) }
     ensures later { K.faults out.old ≤ K.faults out.new }
-    ensures kept { KeptAt (outside_of (P.area paging.old.inner)) (P.area paging.new.inner) result.script result.history.items }
-    ensures files { FilesEnd result.script result.history.items files.old files.new }
-    ensures paging { PagingEnds result.script result.history.items paging.old paging.new }
-    ensures devices { FailuresCounted (⟦<Armed<P> as Backing>⟧.faults paging.old) (⟦<Armed<P> as Backing>⟧.faults paging.new) result.history.items }
-    ensures bounded { FailuresBounded (commands_run result.script result.history.items) (P.faults paging.old.inner) (P.faults paging.new.inner) (⟦<Armed<P> as Backing>⟧.faults paging.new) result.history.items }
+    ensures kept { KeptAt (outside_of (F.area files.old.inner) (P.area paging.old.inner)) (P.area paging.old.inner) (P.area paging.new.inner) result.script result.history.items }
+    ensures files_kept { FilesKeptAt (F.area files.old.inner) (F.area files.new.inner) result.script result.history.items }
+    ensures files { BackingEnds device.Files result.script result.history.items files.old files.new }
+    ensures paging { BackingEnds device.Paging result.script result.history.items paging.old paging.new }
+    ensures files_devices { FailuresCounted device.Files (⟦<Armed<F> as Backing>⟧.faults files.old) (⟦<Armed<F> as Backing>⟧.faults files.new) result.history.items }
+    ensures devices { FailuresCounted device.Paging (⟦<Armed<P> as Backing>⟧.faults paging.old) (⟦<Armed<P> as Backing>⟧.faults paging.new) result.history.items }
+    ensures files_bounded { FailuresBounded device.Files (commands_run result.script result.history.items) (F.faults files.old.inner) (F.faults files.new.inner) (⟦<Armed<F> as Backing>⟧.faults files.new) result.history.items }
+    ensures bounded { FailuresBounded device.Paging (commands_run result.script result.history.items) (P.faults paging.old.inner) (P.faults paging.new.inner) (⟦<Armed<P> as Backing>⟧.faults paging.new) result.history.items }
 {
     let ran = run_script(alloc, report, &script, out, files, paging);
     let status = finish(alloc, report, &ran, out);
@@ -208,29 +211,32 @@ fn run<S: Source, K: Sink, F: Backing, P: Backing>(
 ) -> Outcome
     requires files { files.old.left ≡ 0 }
     requires paging { paging.old.left ≡ 0 }
-    ensures done { result.status ≡ Status.Done → IsRunDone (S.left source.old) (outside_of (P.area paging.old.inner)) report result.script result.history.items (K.written out.old) (K.written out.new) }
+    ensures done { result.status ≡ Status.Done → IsRunDone (S.left source.old) (outside_of (F.area files.old.inner) (P.area paging.old.inner)) report result.script result.history.items (K.written out.old) (K.written out.new) }
     ensures bad { (line : ℕ) → (kind : ScriptFault) → result.status ≡ Status.BadScript line kind → IsBad (S.left source.old) line kind result.script result.history.items (K.written out.old) (K.written out.new) }
     ensures usage { ¬ (result.status ≡ Status.Usage) }
     ensures read { result.status ≡ Status.ReadFault
         → NothingDone result.script result.history.items (K.written out.old) (K.written out.new) }
-    ensures output { result.status ≡ Status.OutputFault → IsOutputFault (S.left source.old) (outside_of (P.area paging.old.inner)) report result.script result.history.items (K.written out.old) (K.written out.new) }
-    ensures memory { result.status ≡ Status.NoMemory → IsNoMemory (S.left source.old) (outside_of (P.area paging.old.inner)) report result.script result.history.items (K.written out.old) (K.written out.new) }
-    ensures full { result.status ≡ Status.EventLimit → IsEventLimit (S.left source.old) (outside_of (P.area paging.old.inner)) report result.script result.history.items (K.written out.old) (K.written out.new) }
+    ensures output { result.status ≡ Status.OutputFault → IsOutputFault (S.left source.old) (outside_of (F.area files.old.inner) (P.area paging.old.inner)) report result.script result.history.items (K.written out.old) (K.written out.new) }
+    ensures memory { result.status ≡ Status.NoMemory → IsNoMemory (S.left source.old) (outside_of (F.area files.old.inner) (P.area paging.old.inner)) report result.script result.history.items (K.written out.old) (K.written out.new) }
+    ensures full { result.status ≡ Status.EventLimit → IsEventLimit (S.left source.old) (outside_of (F.area files.old.inner) (P.area paging.old.inner)) report result.script result.history.items (K.written out.old) (K.written out.new) }
     ensures quiet { result.status ≢ Status.NoMemory → WaitsForFramesAlone result.script result.history.items }
     ensures carried { result.status ≢ Status.NoMemory → CarriesAll result.script result.history.items }
     ensures ranges { IfSome result.script KeepsRanges }
     ensures limit { IsBelowLimit result.history.items }
-    ensures not_built { (line : ℕ) → result.status ≡ Status.NotBuilt line → IsNotBuilt (S.left source.old) (outside_of (P.area paging.old.inner)) line result.script result.history.items (K.written out.old) (K.written out.new) }
+    ensures not_built { (line : ℕ) → result.status ≡ Status.NotBuilt line → IsNotBuilt (S.left source.old) (outside_of (F.area files.old.inner) (P.area paging.old.inner)) line result.script result.history.items (K.written out.old) (K.written out.new) }
     ensures source { OfBytes (S.left source.old) (λ bytes. LeavesBytes result.status result.script bytes (S.left source.new)) }
     ensures read_cause { result.status ≡ Status.ReadFault → CountRises (S.faults source.old) (S.faults source.new) }
     ensures output_cause { result.status ≡ Status.OutputFault → CountRises (K.faults out.old) (K.faults out.new) }
     ensures source_later { S.faults source.old ≤ S.faults source.new }
     ensures sink_later { K.faults out.old ≤ K.faults out.new }
-    ensures kept { KeptAt (outside_of (P.area paging.old.inner)) (P.area paging.new.inner) result.script result.history.items }
-    ensures files { FilesEnd result.script result.history.items files.old files.new }
-    ensures paging { PagingEnds result.script result.history.items paging.old paging.new }
-    ensures devices { FailuresCounted (⟦<Armed<P> as Backing>⟧.faults paging.old) (⟦<Armed<P> as Backing>⟧.faults paging.new) result.history.items }
-    ensures bounded { FailuresBounded (commands_run result.script result.history.items) (P.faults paging.old.inner) (P.faults paging.new.inner) (⟦<Armed<P> as Backing>⟧.faults paging.new) result.history.items }
+    ensures kept { KeptAt (outside_of (F.area files.old.inner) (P.area paging.old.inner)) (P.area paging.old.inner) (P.area paging.new.inner) result.script result.history.items }
+    ensures files_kept { FilesKeptAt (F.area files.old.inner) (F.area files.new.inner) result.script result.history.items }
+    ensures files { BackingEnds device.Files result.script result.history.items files.old files.new }
+    ensures paging { BackingEnds device.Paging result.script result.history.items paging.old paging.new }
+    ensures files_devices { FailuresCounted device.Files (⟦<Armed<F> as Backing>⟧.faults files.old) (⟦<Armed<F> as Backing>⟧.faults files.new) result.history.items }
+    ensures devices { FailuresCounted device.Paging (⟦<Armed<P> as Backing>⟧.faults paging.old) (⟦<Armed<P> as Backing>⟧.faults paging.new) result.history.items }
+    ensures files_bounded { FailuresBounded device.Files (commands_run result.script result.history.items) (F.faults files.old.inner) (F.faults files.new.inner) (⟦<Armed<F> as Backing>⟧.faults files.new) result.history.items }
+    ensures bounded { FailuresBounded device.Paging (commands_run result.script result.history.items) (P.faults paging.old.inner) (P.faults paging.new.inner) (⟦<Armed<P> as Backing>⟧.faults paging.new) result.history.items }
 {
     let bytes = match read_all(alloc, source) {
         Ok(bytes) => bytes,
@@ -264,8 +270,8 @@ fn run<S: Source, K: Sink, F: Backing, P: Backing>(
 /// `words` are without the program's name. The script is read to its end, or beyond its 1,048,576th
 /// byte by 4,096 bytes at most, and is a script of the grammar before its first step. Under `run` the
 /// events of each step are written, in one piece, when the step has ended. The default pager keeps
-/// its pages in the area `paging0` of `paging`; the files aren't called yet. An arming that stands in
-/// a backing is taken away first.
+/// its pages in the area `paging0` of `paging`, and the pager of a declared file in the area of the
+/// file's name of `files`. An arming that stands in a backing is taken away first.
 pub fn pagers_main<S: Source, K: Sink, F: Backing, P: Backing>(
     alloc: Global,
     words: &[String],
@@ -276,7 +282,7 @@ pub fn pagers_main<S: Source, K: Sink, F: Backing, P: Backing>(
 ) -> Outcome
     // The whole script of the source was run: the history is legal for it, and its report was written and nothing else.
     ensures done { result.status ≡ Status.Done
-        → (report : Report) × (asked_by words.now ≡ Some (jobs.Run report)) × IsRunDone (S.left script.old) (outside_of (P.area paging.old.inner)) report result.script result.history.items (K.written out.old) (K.written out.new) }
+        → (report : Report) × (asked_by words.now ≡ Some (jobs.Run report)) × IsRunDone (S.left script.old) (outside_of (F.area files.old.inner) (P.area paging.old.inner)) report result.script result.history.items (K.written out.old) (K.written out.new) }
 
     // The source's bytes are no script: their first fault was written.
     ensures bad { (line : ℕ) → (kind : ScriptFault) → result.status ≡ Status.BadScript line kind
@@ -302,22 +308,22 @@ pub fn pagers_main<S: Source, K: Sink, F: Backing, P: Backing>(
     ensures read_cause { result.status ≡ Status.ReadFault → CountRises (S.faults script.old) (S.faults script.new) }
     ensures output { result.status ≡ Status.OutputFault → (report : Report)
         → asked_by words.now ≡ Some (jobs.Run report)
-        → IsOutputFault (S.left script.old) (outside_of (P.area paging.old.inner)) report result.script result.history.items (K.written out.old) (K.written out.new) }
+        → IsOutputFault (S.left script.old) (outside_of (F.area files.old.inner) (P.area paging.old.inner)) report result.script result.history.items (K.written out.old) (K.written out.new) }
     ensures output_cause { result.status ≡ Status.OutputFault → CountRises (K.faults out.old) (K.faults out.new) }
 
     // Memory ended.
     ensures memory { result.status ≡ Status.NoMemory → (report : Report) → asked_by words.now ≡ Some (jobs.Run report)
-        → IsNoMemory (S.left script.old) (outside_of (P.area paging.old.inner)) report result.script result.history.items (K.written out.old) (K.written out.new) }
+        → IsNoMemory (S.left script.old) (outside_of (F.area files.old.inner) (P.area paging.old.inner)) report result.script result.history.items (K.written out.old) (K.written out.new) }
 
     // The history is full while a step is left; and no step of any history began where it was full.
     ensures full { result.status ≡ Status.EventLimit
-        → (report : Report) × (asked_by words.now ≡ Some (jobs.Run report)) × IsEventLimit (S.left script.old) (outside_of (P.area paging.old.inner)) report result.script result.history.items (K.written out.old) (K.written out.new) }
+        → (report : Report) × (asked_by words.now ≡ Some (jobs.Run report)) × IsEventLimit (S.left script.old) (outside_of (F.area files.old.inner) (P.area paging.old.inner)) report result.script result.history.items (K.written out.old) (K.written out.new) }
     ensures limit { IsBelowLimit result.history.items }
 
     // The script isn't built from exactly this line on.
     ensures not_built { (line : ℕ) → result.status ≡ Status.NotBuilt line → (report : Report)
         → asked_by words.now ≡ Some (jobs.Run report)
-        → IsNotBuilt (S.left script.old) (outside_of (P.area paging.old.inner)) line result.script result.history.items (K.written out.old) (K.written out.new) }
+        → IsNotBuilt (S.left script.old) (outside_of (F.area files.old.inner) (P.area paging.old.inner)) line result.script result.history.items (K.written out.old) (K.written out.new) }
 
     // Words that ask for no run leave the source as it was; a run reads it to its end, or beyond what a script may have.
     ensures source { LeavesSource S.left (asked_by words.now) result.status result.script script.old script.new }
@@ -334,14 +340,18 @@ pub fn pagers_main<S: Source, K: Sink, F: Backing, P: Backing>(
     ensures source_later { S.faults script.old ≤ S.faults script.new }
     ensures sink_later { K.faults out.old ≤ K.faults out.new }
 
-    // At every status, where the paging area told before it tells now, and each page that was returned and not lost stands at its slot. An
-    // arming that stood before is gone, and `fail` alone arms. Failures of the paging area are told at most as often as its count of faults
-    // rose, and as the backing within failed of its own and `fail` commands were run; where none is told the count stays.
-    ensures kept { KeptAt (outside_of (P.area paging.old.inner)) (P.area paging.new.inner) result.script result.history.items }
-    ensures files { FilesEnd result.script result.history.items files.old files.new }
-    ensures paging { PagingEnds result.script result.history.items paging.old paging.new }
-    ensures devices { FailuresCounted (⟦<Armed<P> as Backing>⟧.faults paging.old) (⟦<Armed<P> as Backing>⟧.faults paging.new) result.history.items }
-    ensures bounded { FailuresBounded (commands_run result.script result.history.items) (P.faults paging.old.inner) (P.faults paging.new.inner) (⟦<Armed<P> as Backing>⟧.faults paging.new) result.history.items }
+    // At every status, where the paging area told before it tells now, and each page that was returned and not lost stands at its slot; and
+    // each declared file has what was returned, and else what it had. An arming that stood before is gone, and `fail` alone arms. Failures of
+    // a backing are told at most as often as its count of faults rose, and as the backing within failed of its own and `fail` commands were
+    // run; where none is told the count stays.
+    ensures kept { KeptAt (outside_of (F.area files.old.inner) (P.area paging.old.inner)) (P.area paging.old.inner) (P.area paging.new.inner) result.script result.history.items }
+    ensures files_kept { FilesKeptAt (F.area files.old.inner) (F.area files.new.inner) result.script result.history.items }
+    ensures files { BackingEnds device.Files result.script result.history.items files.old files.new }
+    ensures paging { BackingEnds device.Paging result.script result.history.items paging.old paging.new }
+    ensures files_devices { FailuresCounted device.Files (⟦<Armed<F> as Backing>⟧.faults files.old) (⟦<Armed<F> as Backing>⟧.faults files.new) result.history.items }
+    ensures devices { FailuresCounted device.Paging (⟦<Armed<P> as Backing>⟧.faults paging.old) (⟦<Armed<P> as Backing>⟧.faults paging.new) result.history.items }
+    ensures files_bounded { FailuresBounded device.Files (commands_run result.script result.history.items) (F.faults files.old.inner) (F.faults files.new.inner) (⟦<Armed<F> as Backing>⟧.faults files.new) result.history.items }
+    ensures bounded { FailuresBounded device.Paging (commands_run result.script result.history.items) (P.faults paging.old.inner) (P.faults paging.new.inner) (⟦<Armed<P> as Backing>⟧.faults paging.new) result.history.items }
 {
     files.disarm();
     paging.disarm();

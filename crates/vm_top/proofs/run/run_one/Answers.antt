@@ -1,25 +1,41 @@
-use Rattle.std.proofs.Common.{◌≡◌, ◌≤◌, ◌∙◌, length, refl, subst, sym, ap, Err}
+use Rattle.std.proofs.Common.{◌≡◌, ◌<◌, ◌≤◌, ◌∙◌, arith, length, refl, subst, sym, ap, Err}
 use Rattle.vm_outside.specs.Causes.{sum_count}
 use Rattle.vm_model.specs.Limits.{most_events}
-use Rattle.vm_top.specs.Running.{RunStops}
+use Rattle.vm_legal.specs.Follows.{head}
+use Rattle.vm_legal.specs.Refusal.{refusal}
+use Rattle.vm_top.specs.Running.{FaultCounts, RunStops}
 use Rattle.vm_top.specs.declared.run.RunEnd.TheVariants as ends
 use Rattle.vm_top.proofs.Settling.{turned_none, turned_settles}
-use Rattle.vm_top.proofs.Turns.{full_stops, same_end, settles_none, turned_runs, unbuilt_stops}
+use Rattle.vm_top.proofs.Turns.{full_stops, head_there, none_there, same_end, settles_none, turned_runs, unbuilt_stops}
 use Rattle.vm_top.proofs.run.run_one.Goals as goal
-
-pub returns-then-not-is_built-clause-stops : goal.returns-then-not-is_built-clause-stops
-returns-then-not-is_built-clause-stops g c = λ end is.
-    let same : ends.NotBuilt c.args.numbered.now.line ≡ end = same_end is in
-    subst (RunStops c.args.report g.given c.args.system.now.history.items (g.K.Sink.written c.args.out.now) c.args.files.now c.args.paging.now (sum_count (g.P.Backing.faults c.args.paging.now.inner) c.args.paging.now.reached)) same
-    (unbuilt_stops c.args.report g.given c.args.numbered.now c.args.system.now.history.items (g.K.Sink.written c.args.out.now) c.args.files.now c.args.paging.now (sum_count (g.P.Backing.faults c.args.paging.now.inner) c.args.paging.now.reached) c.requires.1.1.1.1.1.1.0 c.requires.1.1.1.1.1.1.1 (sym c.is_built.ensures ∙ c.if-not-is_built.true))
 
 pub returns-then-len-ge-MOST_EVENTS-clause-stops : goal.returns-then-len-ge-MOST_EVENTS-clause-stops
 returns-then-len-ge-MOST_EVENTS-clause-stops g c = λ end is.
+    let faults : FaultCounts = record { files = sum_count (g.F.Backing.faults c.args.files.now.inner) c.args.files.now.reached; paging = sum_count (g.P.Backing.faults c.args.paging.now.inner) c.args.paging.now.reached } in
     let same : ends.EventLimit ≡ end = same_end is in
     let size : c.len.result ≡ length c.args.system.now.history.items = c.len.ensures ∙ ap (λ z. length z.items) c.history.ensures in
     let full : most_events ≤ length c.args.system.now.history.items = subst (λ z. most_events ≤ z) size c.if-len-ge-MOST_EVENTS.true in
-    subst (RunStops c.args.report g.given c.args.system.now.history.items (g.K.Sink.written c.args.out.now) c.args.files.now c.args.paging.now (sum_count (g.P.Backing.faults c.args.paging.now.inner) c.args.paging.now.reached)) same
-    (full_stops c.args.report g.given c.args.numbered.now c.args.system.now.history.items (g.K.Sink.written c.args.out.now) c.args.files.now c.args.paging.now (sum_count (g.P.Backing.faults c.args.paging.now.inner) c.args.paging.now.reached) c.requires.1.1.1.1.1.1.0 c.requires.1.1.1.1.1.1.1 (sym c.is_built.ensures ∙ c.if-not-is_built.false) full)
+    subst (RunStops c.args.report g.given c.args.system.now.history.items (g.K.Sink.written c.args.out.now) c.args.files.now c.args.paging.now faults) same
+    (full_stops c.args.report g.given c.args.numbered.now c.args.system.now.history.items (g.K.Sink.written c.args.out.now) c.args.files.now c.args.paging.now faults c.requires.1.1.1.1.1.1.1.1.0 c.requires.1.1.1.1.1.1.1.1.1 full)
+
+pub returns-then-copies_declared-clause-stops : goal.returns-then-copies_declared-clause-stops
+returns-then-copies_declared-clause-stops g c = λ end is.
+    let faults : FaultCounts = record { files = sum_count (g.F.Backing.faults c.args.files.now.inner) c.args.files.now.reached; paging = sum_count (g.P.Backing.faults c.args.paging.now.inner) c.args.paging.now.reached } in
+    let h = c.args.system.now.history.items in
+    let same : ends.NotBuilt c.args.numbered.now.line ≡ end = same_end is in
+    let size : c.len.result ≡ length h = c.len.ensures ∙ ap (λ z. length z.items) c.history.ensures in
+    let below : length h < most_events = omega (arith, size, c.if-len-ge-MOST_EVENTS.false) in
+    let stuck = none_there (refusal g.given.script.header h c.args.numbered.now.command) (head g.given.script.header h c.args.numbered.now.command) c.copies_declared.result c.copies_declared.ensures c.if-copies_declared.true in
+    subst (RunStops c.args.report g.given h (g.K.Sink.written c.args.out.now) c.args.files.now c.args.paging.now faults) same
+    (unbuilt_stops c.args.report g.given c.args.numbered.now h (g.K.Sink.written c.args.out.now) c.args.files.now c.args.paging.now faults c.requires.1.1.1.1.1.1.1.1.0 c.requires.1.1.1.1.1.1.1.1.1 below stuck.0 stuck.1)
+
+pub turn-requires : goal.turn-requires
+turn-requires g c = λ lifetimes held.
+    let h = c.args.system.now.history.items in
+    let size : c.len.result ≡ length h = c.len.ensures ∙ ap (λ z. length z.items) c.history.ensures in
+    let below : length h < most_events = omega (arith, size, c.if-len-ge-MOST_EVENTS.false) in
+    let some = head_there (refusal g.given.script.header h c.args.numbered.now.command) (head g.given.script.header h c.args.numbered.now.command) c.copies_declared.result c.copies_declared.ensures c.if-copies_declared.false in
+    (held.0, (held.1.0, (held.1.1, (c.requires.1.1.1.0, (c.requires.1.1.1.1.0, (c.requires.1.1.1.1.1.0, (c.requires.1.1.1.1.1.1.0, (c.requires.1.1.1.1.1.1.1.0, (some, (below, (c.requires.1.1.1.1.1.1.1.1.0, c.requires.1.1.1.1.1.1.1.1.1)))))))))))
 
 pub returns-in_err-turn-clause-stops : goal.returns-in_err-turn-clause-stops
 returns-in_err-turn-clause-stops g c = λ end is.
@@ -34,15 +50,15 @@ returns-in_err-settle-in-Settle-clause-stops g c = λ end is.
 pub returns-in_default-clause-runs : goal.returns-in_default-clause-runs
 returns-in_default-clause-runs g c =
     turned_runs c.args.report g.given c.args.numbered.now c.turn.new.system.history.items (g.K.Sink.written c.turn.new.out) c.turn.new.files c.turn.new.paging
-    (sum_count (g.P.Backing.faults c.turn.new.paging.inner) c.turn.new.paging.reached) c.in_ok-turn.ensures.turned (settles_none c.args.numbered.now.command c.in_default.not-Settle)
+    (record { files = sum_count (g.F.Backing.faults c.turn.new.files.inner) c.turn.new.files.reached; paging = sum_count (g.P.Backing.faults c.turn.new.paging.inner) c.turn.new.paging.reached }) c.in_ok-turn.ensures.turned (settles_none c.args.numbered.now.command c.in_default.not-Settle)
 
 pub settle-requires : goal.settle-requires
 settle-requires g c = λ lifetimes held.
     let turn = c.in_ok-turn.ensures in
     let settles =
     turned_settles c.args.report g.given c.args.numbered.now c.in-Settle.count c.turn.new.system.history.items (g.K.Sink.written c.turn.new.out) c.turn.new.files c.turn.new.paging
-    (sum_count (g.P.Backing.faults c.turn.new.paging.inner) c.turn.new.paging.reached) c.in-Settle.is turn.turned in
+    (record { files = sum_count (g.F.Backing.faults c.turn.new.files.inner) c.turn.new.files.reached; paging = sum_count (g.P.Backing.faults c.turn.new.paging.inner) c.turn.new.paging.reached }) c.in-Settle.is turn.turned in
     let none =
     turned_none c.args.report g.given c.args.numbered.now c.in-Settle.count c.turn.new.system.history.items (g.K.Sink.written c.turn.new.out) c.turn.new.files c.turn.new.paging
-    (sum_count (g.P.Backing.faults c.turn.new.paging.inner) c.turn.new.paging.reached) c.in-Settle.is turn.turned in
-    (held.0, (held.1.0, (held.1.1, (turn.stands, (turn.kept, (settles, (refl, none)))))))
+    (record { files = sum_count (g.F.Backing.faults c.turn.new.files.inner) c.turn.new.files.reached; paging = sum_count (g.P.Backing.faults c.turn.new.paging.inner) c.turn.new.paging.reached }) c.in-Settle.is turn.turned in
+    (held.0, (held.1.0, (held.1.1, (turn.stands, (c.turn.ensures.kept, (c.turn.ensures.files_kept, (c.turn.ensures.carried, (settles, (refl, none)))))))))

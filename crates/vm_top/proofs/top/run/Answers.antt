@@ -7,7 +7,9 @@ use Rattle.vm_top.specs.Top.{bad_text}
 use Rattle.vm_top.proofs.Ends.{bad_from, bad_of, done_of, full_of, header_not_built, header_stops, header_wrote, held_ranges, memory_of, never_read, not_built_of, output_of, read_from, ready_of, runnable, tells_start, unbuilt_from}
 use Rattle.vm_top.proofs.Resting.{none_carry, none_wait_for_frames}
 use Rattle.vm_top.proofs.Readings.{failed_leaves, read_leaves, stopped_leaves, tells_no_read}
-use Rattle.vm_top.proofs.Keeping.{kept_none}
+use Rattle.vm_model.specs.declared.event.Device.TheVariants as device
+use Rattle.vm_top.proofs.Keeping.{files_none, kept_none}
+use Rattle.vm_top.proofs.Turns.{start_left}
 use Rattle.vm_top.proofs.top.run.Goals as goal
 
 pub returns-in-Err-Bad-clause-output : goal.returns-in-Err-Bad-clause-output
@@ -114,4 +116,13 @@ pub returns-clause-carried : goal.returns-clause-carried
 returns-clause-carried g c = λ uncut. none_carry c.in-Ok-read_script.script c.new.result.items c.new.ensures
 
 pub returns-clause-kept : goal.returns-clause-kept
-returns-clause-kept g c = kept_none c.in-Ok-read_script.script.header (g.P.Backing.area c.args.paging.now.inner) c.new.result.items c.new.ensures
+returns-clause-kept g c = kept_none c.in-Ok-read_script.script.header (g.F.Backing.area c.args.files.now.inner) (g.P.Backing.area c.args.paging.now.inner) c.new.result.items c.new.ensures
+
+pub returns-clause-files_kept : goal.returns-clause-files_kept
+returns-clause-files_kept g c = files_none c.in-Ok-read_script.script.header (g.F.Backing.area c.args.files.now.inner) c.new.result.items c.new.ensures
+
+pub returns-clause-files : goal.returns-clause-files
+returns-clause-files g c = start_left c.in-Ok-read_script.script device.Files c.args.files.now c.new.result.items c.new.ensures c.requires.files
+
+pub returns-clause-paging : goal.returns-clause-paging
+returns-clause-paging g c = start_left c.in-Ok-read_script.script device.Paging c.args.paging.now c.new.result.items c.new.ensures c.requires.paging
