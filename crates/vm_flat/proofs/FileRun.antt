@@ -1,5 +1,5 @@
 -- A run with pageout: a file's page comes back, and a temporary page that got no slot is lost.
-use Rattle.std.proofs.Common.{List, [], ◌∷◌, true, false, refl, arith, inr, inl, ◌≡◌}
+use Rattle.std.proofs.Common.{ℕ, subst, List, [], ◌∷◌, true, false, refl, arith, inr, inl, ◌≡◌}
 use Rattle.vm_base.specs.declared.entry.Entry.{Entry}
 use Rattle.vm_base.specs.declared.ids.Inherit.TheVariants.{Copy}
 use Rattle.vm_base.specs.declared.ids.ObjectKind.TheVariants.{File}
@@ -12,10 +12,11 @@ use Rattle.vm_model.specs.declared.message.Message.TheVariants as message
 use Rattle.vm_model.specs.declared.script.Header.{Header}
 use Rattle.vm_model.specs.Moments.{EachEvent}
 use Rattle.vm_model.specs.Waiting.{Loading, Storing}
-use Rattle.vm_legal.specs.Outside.{Outside, Told}
+use Rattle.vm_legal.specs.Outside.{Outside, Told, is_shared}
 use Rattle.vm_legal.specs.Bytes.{OwnBytes, CopiesCurrent, FlatBytes}
 use Rattle.vm_legal.specs.Licences.{HasCause, Reclaimed, Created}
 use Rattle.vm_flat.proofs.FileStart.{all, mapped, settling, past_0, past_1, past_2, past_3, past_4, past_5, past_6, past_7, past_8, past_9, past_10, past_11, past_12, past_13, past_14, past_15, past_16}
+use Rattle.vm_legal.proofs.Unshared.{NoneIsShared, loads_unshared, none_shared}
 use Rattle.vm_flat.proofs.Loads.{answers}
 
 abbrev header : Header
@@ -315,5 +316,8 @@ own_bytes = (own_52, (tt, (tt, (tt, (tt, (tt, (tt, (tt, (tt, (tt, (tt, (tt, (tt,
 current : EachEvent (CopiesCurrent header outside) past_52
 current = (tt, (tt, (tt, (tt, (tt, (tt, (tt, (tt, (tt, (tt, (tt, (tt, (tt, (tt, (tt, (tt, (tt, (tt, (tt, (tt, (tt, (tt, (tt, (tt, (tt, (tt, (tt, (tt, (tt, (tt, (tt, (tt, (tt, (tt, (tt, (tt, (tt, (tt, (tt, (tt, (tt, (tt, (tt, (tt, (tt, (tt, (tt, (tt, (tt, (tt, (tt, (tt, (tt, tt)))))))))))))))))))))))))))))))))))))))))))))))))))))
 
+unshared : NoneIsShared header
+unshared = none_shared header (λ o below. let first : 0 ≡ o = omega (arith, below) in subst (λ (z : ℕ). is_shared header z ≡ false) first refl)
+
 pub answered : EachEvent (FlatBytes header outside) past_52
-answered = answers header outside past_52 caused_52 own_bytes current
+answered = answers header outside past_52 caused_52 own_bytes current (loads_unshared header outside past_52 unshared)

@@ -8,7 +8,7 @@ ghost use Rattle.vm_model.specs.Local.{is_known_absent, local};
 ghost use Rattle.vm_model.specs.Moments.{EachEvent};
 ghost use Rattle.vm_model.specs.declared.event.Event.{Event};
 ghost use Rattle.vm_model.specs.declared.script.Header.{Header};
-ghost use Rattle.vm_legal.specs.Bytes.{CopiesCurrent, FlatBytes, OwnBytes};
+ghost use Rattle.vm_legal.specs.Bytes.{CopiesCurrent, FlatBytes, LoadsCurrent, OwnBytes};
 ghost use Rattle.vm_legal.specs.Licences.{HasCause};
 ghost use Rattle.vm_legal.specs.Outside.{Outside, is_file, is_private};
 ghost use Rattle.vm_flat.specs.Locals.{SpotIsLocal};
@@ -21,10 +21,11 @@ ghost use Rattle.vm_flat.specs.Places.{spot};
 /// `outside` tells what the files hold at the start, if that is told: else their pages are what
 /// their pagers' answers said last. Where it says that the paging area does not tell, nothing is
 /// said of temporary regions. Of a slow copy from a shared object it is supposed that it takes that
-/// object's flat page: the law of shared memory says so.
+/// object's flat page, and of a load of shared memory that it answers the flat page: the law of shared
+/// memory says so.
 #[tactic(auto, using(crate::proofs::Loads::answers))]
 pub fn loads_answer()
-    ensures { (header : Header) (outside : Outside) (history : List Event) → EachEvent (HasCause header outside) history → EachEvent (OwnBytes header) history → EachEvent (CopiesCurrent header outside) history → EachEvent (FlatBytes header outside) history }
+    ensures { (header : Header) (outside : Outside) (history : List Event) → EachEvent (HasCause header outside) history → EachEvent (OwnBytes header) history → EachEvent (CopiesCurrent header outside) history → EachEvent (LoadsCurrent header outside) history → EachEvent (FlatBytes header outside) history }
 {}
 
 /// A place is what its host has of the page, at every moment of every history: there is one notion of

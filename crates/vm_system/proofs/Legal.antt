@@ -10,7 +10,8 @@ use Rattle.vm_model.specs.declared.event.Event.TheVariants as event
 use Rattle.vm_model.specs.declared.command.Command.TheVariants as command
 use Rattle.vm_system.proofs.Cleaning.{IsAsked, known_line}
 use Rattle.vm_system.proofs.Silent.{all_returned, paid_inner, prompt_code, prompt_line}
-use Rattle.vm_system.proofs.Unfilled.{all_current}
+use Rattle.vm_legal.proofs.Unshared.{loads_unshared}
+use Rattle.vm_system.proofs.Unfilled.{all_current, paged_unshared}
 
 -- a line in front changes no refusal and no head
 
@@ -97,7 +98,7 @@ head_line header line h other = refl
 
 -- where each load answers from its own host's page it answers the flat map's bytes
 pub flat_of : (header : Header) (outside : Outside) (run : List Numbered) (h : List Event) → AllPaged header → FollowsSoFar header outside run h → EachEvent (OwnBytes header) h → EachEvent (FlatBytes header outside) h
-flat_of header outside run h paged follows own = let causes = so_far header outside run h follows in answers header outside h causes own (all_current header outside h paged causes)
+flat_of header outside run h paged follows own = let causes = so_far header outside run h follows in answers header outside h causes own (all_current header outside h paged causes) (loads_unshared header outside h (paged_unshared header paged))
 
 -- a command that is no settle is whole so far, where it is whole
 so_far_of : (header : Header) (c : Numbered) (h events : List Event) → (settles c.command ≡ None → IsWholeGroup header h c events) → IsWholeSoFar header h c events

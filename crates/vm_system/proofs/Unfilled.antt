@@ -1,8 +1,9 @@
 -- A slow copy takes a page of a declared object, which is a file: what is asked of slow copies of other objects holds of each history whose events
--- have their causes.
+-- have their causes, and so does what is asked of loads of shared memory.
 use Rattle.vm_system.proofs.Common.{AllPaged, Bool, CopiesCurrent, EachEvent, Event, HasCause, HaveHomes, Header, List, Outside, [], ap, false, homes_next, homes_start, is_file, named, nat_lt, never, not, refl, subst, sym, true, ℕ, ◌&&◌, ◌||◌, ◌∙◌, ◌∷◌, ◌≡◌}
 use Rattle.vm_model.specs.declared.event.Event.TheVariants as event
 use Rattle.vm_legal.specs.Outside.{is_private}
+use Rattle.vm_legal.proofs.Unshared.{NoneIsShared, file_unshared, none_shared}
 use Rattle.vm_model.specs.Regions.{Region}
 
 homes : (header : Header) (outside : Outside) (past : List Event) → EachEvent (HasCause header outside) past → HaveHomes header past
@@ -29,3 +30,7 @@ current header outside other past paged homes cause = tt
 pub all_current : (header : Header) (outside : Outside) (past : List Event) → AllPaged header → EachEvent (HasCause header outside) past → EachEvent (CopiesCurrent header outside) past
 all_current header outside [] paged causes = tt
 all_current header outside (e ∷ past) paged causes = (current header outside e past paged (homes header outside past causes.1) causes.0, all_current header outside past paged causes.1)
+
+-- and no file is shared
+pub paged_unshared : (header : Header) → AllPaged header → NoneIsShared header
+paged_unshared header paged = none_shared header (λ o below. file_unshared header o (paged o below))
