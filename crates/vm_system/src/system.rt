@@ -27,12 +27,13 @@ use crate::state::State;
 use crate::stop::SystemStop;
 use pg_default::DefaultPager;
 use pg_file::FilePager;
+use sms_server::Server;
 use std::alloc::Global;
 use std::marker::Model;
 use vm_base::{Buffers, Code, HostId, NoMemory, ObjectId};
 use vm_hosts::Hosts;
 use vm_model::limits::MOST_EVENTS;
-use vm_model::{Command, Header, History};
+use vm_model::{Command, Declared, Header, History};
 use vm_outside::{Armed, Backing};
 use vm_ports::Ports;
 
@@ -67,14 +68,15 @@ impl System {
         let hosts = Hosts::new(alloc, header)?;
         let pagers = make_pagers(alloc, header)?;
         let files = make_files(alloc, header)?;
-        let pages = make_pages(alloc, header)?;
+        let declared = make_declared(alloc, header)?;
         let state = State {
             alloc,
             size: header.size,
             hosts,
             pagers,
+            declared,
             files,
-            pages,
+            server: Server::new(alloc, header.size),
             ports: Ports::new(alloc),
             channels: Channels::new(alloc),
             buffers: Buffers::new(alloc, header.size),
@@ -269,13 +271,13 @@ fn make_files(alloc: Global, header: &Header) -> Result<Vec<FilePager>, NoMemory
     Ok(files)
 }
 
-// The pages of the declared objects.
-fn make_pages(alloc: Global, header: &Header) -> Result<Vec<u32>, NoMemory>
-    ensures { IfOk result (λ pages. (object : ℕ) → object < named header.now → slice_get pages.items object ≡ Some (declared_pages header.now object)) }
+// The declared objects.
+fn make_declared(alloc: Global, header: &Header) -> Result<Vec<Declared>, NoMemory>
+    ensures { IfOk result (λ objects. objects.items ≡ reverse header.now.objects.items) }
 {
-    let mut pages = Vec::new(alloc);
+    let mut objects = Vec::new(alloc);
     'objects: for object in 0..header.objects.len() {
-        pages.push(header.objects.at(object).pages)?;
+        objects.push(*header.objects.at(object))?;
     }
-    Ok(pages)
+    Ok(objects)
 }

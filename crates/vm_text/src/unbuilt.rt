@@ -30,8 +30,7 @@ fn is_unbuilt(line: &[u8]) -> bool
         return false;
     };
     match header_word(word) {
-        Some(HeaderWord::Hosts) => are_many(rest),
-        Some(HeaderWord::Shared | HeaderWord::Wild) => true,
+        Some(HeaderWord::Wild) => true,
         _ => false,
     }
 }
