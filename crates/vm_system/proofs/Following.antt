@@ -1,5 +1,5 @@
 -- What the kernels say leaves the pagers and what was stored.
-use Rattle.vm_system.proofs.Common.{Agrees, AllFilesServe, AllInner, AllServe, AllServed, AllTold, Bool, CanTellAll, Command, Content, EachIn, Event, FilesAreKept, FilesCarry, Followed, Going, Header, HostId, HostTable, HostsPart, IsOrderly, IsPaid, Lawful, List, Outside, PagerHasAnswered, PagingIsKept, Posts, SameHosts, ServerStands, SlotTable, SlotsFit, Some, SomeKernelSays, Spares, SparesFiles, SparesPaging, State, Stretch, Told, ap, content_of, devices, paid_more, refl, reverse, slice_get, subst, sym, true, ℕ, ◌++◌, ◌<◌, ◌∙◌, ◌≡◌}
+use Rattle.vm_system.proofs.Common.{Agrees, AllFilesServe, AllInner, AllServe, AllServed, AllTold, Bool, CanTellAll, Command, Content, EachIn, Event, FilesAreKept, FilesCarry, Followed, Going, Header, HostId, HostTable, HostsPart, IsOrderly, IsPaid, Lawful, List, Outside, PagerHasAnswered, PagingIsKept, Posts, SameHosts, ServerStands, SlotTable, SlotsFit, Some, SomeKernelSays, Spares, SparesFiles, SparesPaging, State, Stretch, Told, ap, content_of, devices, paid_more, refl, reverse, slice_get, subst, sym, true, ℕ, ◌++◌, ◌<◌, ◌∙◌, ◌≡◌, ServerTable}
 use Rattle.vm_model.specs.declared.event.Device.TheVariants.{Files, Paging}
 use Rattle.vm_system.proofs.Agreeing.{carry_spared, content_stays, devices_said, files_spared, serve_said, spared_said}
 use Rattle.vm_system.proofs.Lawfulness.{lawful_more, others_said, served_more, server_more}
@@ -80,6 +80,9 @@ pub both_filing : (header : Header) (outside : Outside) (old mid new : State) �
 both_filing header outside old mid new one two =
     record { kept = λ areas kept. two.kept areas (one.kept areas kept); carried = λ start areas carry. two.carried start areas (one.carried start areas carry); devices = two.devices ∙ one.devices }
 
+pub both_spares : (header : Header) (outside : Outside) (old mid new : State) → Spares header outside old mid → Spares header outside mid new → Spares header outside old new
+both_spares header outside old mid new one two = record { paging = both_paging header outside old mid new one.paging two.paging; files = both_filing header outside old mid new one.files two.files }
+
 -- what agrees with the history does so behind what kernels said
 pub agrees_said : (header : Header) (outside : Outside) (doing : Command) (past events : List Event) (s : State) → IsOrderly header (events ++ past) → AllServe header s.pagers.items past → AllFilesServe header s.files.items past
     → ServerStands header s.server past → Lawful header outside past → s.declared.items ≡ reverse header.objects.items → Stretch header outside doing past events → s.size ≡ header.size → s.history.items ≡ events ++ past → Posts s s.history.items
@@ -116,7 +119,7 @@ followed given host washed old new events answered passed size pagers files decl
     let orderly : IsOrderly header past = subst (λ (z : List Event). IsOrderly header z) answered.is answered.agrees.orderly in
     let serve : AllServe header new.pagers.items past = rw pagers (subst (λ (z : List Event). AllServe header old.pagers.items z) answered.is answered.agrees.pagers) in
     let filed : AllFilesServe header new.files.items past = rw files (subst (λ (z : List Event). AllFilesServe header old.files.items z) answered.is answered.agrees.files) in
-    let heard : ServerStands header new.server past = rw server (subst (λ (z : List Event). ServerStands header old.server z) answered.is answered.agrees.server) in
+    let heard : ServerStands header new.server past = subst (λ (z : ServerTable). ServerStands header z past) (sym server) (subst (λ (z : List Event). ServerStands header old.server z) answered.is answered.agrees.server) in
     let lawful : Lawful header given.outside past = subst (λ (z : List Event). Lawful header given.outside z) answered.is answered.agrees.lawful in
     let owed : IsPaid header past = subst (λ (z : List Event). IsPaid header z) answered.is answered.paid in
     let served : AllServed header past = subst (λ (z : List Event). AllServed header z) answered.is answered.served in

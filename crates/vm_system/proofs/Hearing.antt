@@ -3,9 +3,10 @@ use Rattle.vm_system.proofs.Common.{Bool, Channel, Down, Event, HasHeard, Header
 use Rattle.vm_model.specs.declared.event.Event.TheVariants as event
 use Rattle.vm_model.specs.declared.message.Message.TheVariants as message
 use Rattle.vm_legal.specs.Licences.{ServerSends}
-use Rattle.vm_model.specs.PageLicences.{ReplyCause}
+use Rattle.vm_model.specs.PageLicences.{ReplyCause, SupplyRow, UpgradeRow}
 use Rattle.vm_model.specs.Server.{Wanting, joined, line, stays, trimmed_line, without_request}
 use Rattle.vm_model.specs.Side.{Side, after_done, is_open_to, side, side_after, side_taken_down}
+use Rattle.vm_model.specs.TaskPlace.{means_page, task_host}
 use Rattle.vm_model.specs.Words.{Act, ActEffect, Asking, Begins, BeginsCopy, Copies, Doing, DownWord, Drops, EndsCopy, Ending as EndingWord, Failing, Fails, Lacking, Loads, Locking, Nothing, Opens, OtherDown, OtherUp, Puts, Readying, Returning, SendsUp, SentDown, StepBegins, Stores, Supplying, TakenUp, TakesDown, Unlocking, UpWord, act_if, act_of, down_word, effect_on, in_range, sent_act_effect, to_others, up_word}
 
 -- lines
@@ -20,20 +21,20 @@ stands_behind false b c more is = more is
 
 trimmed : (h g holds : ℕ) (ws : List Wanting) → stands_in h (trimmed_line g holds ws) ≡ true → stands_in h ws ≡ true
 trimmed h g holds [] is = is
-trimmed h g holds (w ∷ ws) is = by (stays g holds w) is
+trimmed h g holds (w ∷ ws) is = by (stays g holds w) (trimmed h g holds ws) is
   where
-    by : (b : Bool) → stands_in h (if b then w ∷ trimmed_line g holds ws else trimmed_line g holds ws) ≡ true → (w.host == h) || stands_in h ws ≡ true
-    by true is = stands_or (w.host == h) (stands_in h (trimmed_line g holds ws)) (stands_in h ws) (trimmed h g holds ws) is
-    by false is = stands_behind (w.host == h) (stands_in h (trimmed_line g holds ws)) (stands_in h ws) (trimmed h g holds ws) is
+    by : (b : Bool) → (stands_in h (trimmed_line g holds ws) ≡ true → stands_in h ws ≡ true) → stands_in h (if b then w ∷ trimmed_line g holds ws else trimmed_line g holds ws) ≡ true → (w.host == h) || stands_in h ws ≡ true
+    by true more is = stands_or (w.host == h) (stands_in h (trimmed_line g holds ws)) (stands_in h ws) more is
+    by false more is = stands_behind (w.host == h) (stands_in h (trimmed_line g holds ws)) (stands_in h ws) more is
 
 answered : (h g : ℕ) (ws : List Wanting) → stands_in h (without_request g ws) ≡ true → stands_in h ws ≡ true
 answered h g [] is = is
-answered h g (w ∷ ws) is = by (w.host == g) w.upgrade is
+answered h g (w ∷ ws) is = by (w.host == g) w.upgrade (answered h g ws) is
   where
-    by : (b c : Bool) → stands_in h (if b then (if c then w ∷ without_request g ws else ws) else w ∷ without_request g ws) ≡ true → (w.host == h) || stands_in h ws ≡ true
-    by true true is = stands_or (w.host == h) (stands_in h (without_request g ws)) (stands_in h ws) (answered h g ws) is
-    by true false is = stands_behind (w.host == h) (stands_in h ws) (stands_in h ws) (λ e. e) is
-    by false c is = stands_or (w.host == h) (stands_in h (without_request g ws)) (stands_in h ws) (answered h g ws) is
+    by : (b c : Bool) → (stands_in h (without_request g ws) ≡ true → stands_in h ws ≡ true) → stands_in h (if b then (if c then w ∷ without_request g ws else ws) else w ∷ without_request g ws) ≡ true → (w.host == h) || stands_in h ws ≡ true
+    by true true more is = stands_or (w.host == h) (stands_in h (without_request g ws)) (stands_in h ws) more is
+    by true false more is = stands_behind (w.host == h) (stands_in h ws) (stands_in h ws) (λ e. e) is
+    by false c more is = stands_or (w.host == h) (stands_in h (without_request g ws)) (stands_in h ws) more is
 
 at_end : (h : ℕ) (ws : List Wanting) (w : Wanting) → stands_in h (ws ++ w ∷ []) ≡ true → (stands_in h ws ≡ true) ⊎ ((w.host == h) ≡ true)
 at_end h [] w is = inr (by (w.host == h) is)
@@ -41,11 +42,11 @@ at_end h [] w is = inr (by (w.host == h) is)
     by : (b : Bool) → b || false ≡ true → b ≡ true
     by true is = refl
     by false is = is
-at_end h (v ∷ ws) w is = by (v.host == h) is
+at_end h (v ∷ ws) w is = by (v.host == h) (at_end h ws w) is
   where
-    by : (b : Bool) → b || stands_in h (ws ++ w ∷ []) ≡ true → (b || stands_in h ws ≡ true) ⊎ ((w.host == h) ≡ true)
-    by true is = inl refl
-    by false is = at_end h ws w is
+    by : (b : Bool) → (stands_in h (ws ++ w ∷ []) ≡ true → (stands_in h ws ≡ true) ⊎ ((w.host == h) ≡ true)) → b || stands_in h (ws ++ w ∷ []) ≡ true → (b || stands_in h ws ≡ true) ⊎ ((w.host == h) ≡ true)
+    by true more is = inl refl
+    by false more is = more is
 
 in_front : (h : ℕ) (ws : List Wanting) (w : Wanting) → first ws ≡ Some w → w.host ≡ h → stands_in h ws ≡ true
 in_front h [] w is at = absurd (let bad : None ≡ Some w = is in cc)
@@ -120,8 +121,6 @@ heard_taken true s OtherDown = refl
 pub granted : (h lock : ℕ) (acts : List Act) (size control : ℕ) (precious : Bool) (bytes : List ℕ) → ReplyCause size h control (Supplying lock precious bytes) acts → stands_in h (line acts) ≡ true
 granted h lock acts size control precious bytes (heard, plain, free, same, row) = by (first (line acts)) refl row
   where
-    use Rattle.vm_model.specs.PageLicences.{SupplyRow}
-
     by : (w : Option Wanting) → first (line acts) ≡ w → SupplyRow h lock acts w → stands_in h (line acts) ≡ true
     by None is row = absurd row
     by (Some w) is row = in_front h (line acts) w is row.0
@@ -129,8 +128,6 @@ granted h lock acts size control precious bytes (heard, plain, free, same, row) 
 pub upgraded : (h : ℕ) (acts : List Act) (size control count returns lock : ℕ) (flush : Bool) → ReplyCause size h control (Locking count returns flush lock false) acts → stands_in h (line acts) ≡ true
 upgraded h acts size control count returns lock flush (heard, one, none, kept, free, nobody, others, row) = by (first (line acts)) refl row
   where
-    use Rattle.vm_model.specs.PageLicences.{UpgradeRow}
-
     by : (w : Option Wanting) → first (line acts) ≡ w → UpgradeRow h w → stands_in h (line acts) ≡ true
     by None is row = absurd row
     by (Some w) is row = in_front h (line acts) w is row.0
@@ -146,8 +143,8 @@ own_held size h (SentDown control (Supplying lock precious bytes)) acts may none
 own_held size h (SentDown control (Locking count returns flush lock true)) acts may none is = inl (by (returns == 0) refl is)
   where
     by : (b : Bool) → (returns == 0) ≡ b → 0 < (if b then 2 else (side h acts).holds) → 0 < (side h acts).holds
-    by false zero is = is
-    by true zero is = let one : returns ≡ 1 = may.2 in absurd (let bad : true ≡ false = sym zero ∙ ap (λ (z : ℕ). z == 0) one in cc)
+    by false none is = is
+    by true none is = let one : returns ≡ 1 = may.2 in absurd (let bad : true ≡ false = sym none ∙ ap (λ (z : ℕ). z == 0) one in cc)
 own_held size h (SentDown control (Locking count returns flush lock false)) acts may none is = inr (upgraded h acts size control count returns lock flush may)
 own_held size h (SentDown control Lacking) acts may none is = inl is
 own_held size h (SentDown control Failing) acts may none is = inl is
@@ -373,7 +370,7 @@ kept header h o p e past a is may quiet old = record {
 
 -- no pager has a part in the event
 mute : (header : Header) (h o p : ℕ) (e : Event) (past : List Event) → IsMute e → HasHeard header h o p past → HasHeard header h o p (e ∷ past)
-mute header h o p e past mute old = one (plain_act header.size o p _ _ _ e mute)
+mute header h o p e past silent old = one (plain_act header.size o p (λ task. task_host task past) (λ task address. means_page header.size o p task address past) (λ host object page. (side host (page_part header.size object page past)).bytes) e silent)
   where
     one : IsPlain (first_act (page_part header.size o p (e ∷ past))).effect → HasHeard header h o p (e ∷ past)
     one plain =

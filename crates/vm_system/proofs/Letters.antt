@@ -140,7 +140,7 @@ heard_silent header e past silent old = heard_next header e past tt old
 locks_silent : (header : Header) (e : Event) (past : List Event) → IsSilent e → HasCounted header past → HasCounted header (e ∷ past)
 locks_silent header (event.Sent channel m) past silent old = absurd silent
 locks_silent header (event.Taken channel m) past silent old = absurd silent
-locks_silent header (event.Line line) past silent old request is shared = absurd (let bad : None ≡ Some request = is in cc)
+locks_silent header (event.Line line) past silent old = λ request is shared. absurd (let bad : None ≡ Some request = is in cc)
 locks_silent header e past silent old = old
 
 pub orderly_silent : (header : Header) (e : Event) (past : List Event) → IsSilent e → IsOrderly header past → IsOrderly header (e ∷ past)

@@ -1,5 +1,5 @@
 -- The letters on their way under what a kernel says, and under what a pager answers or asks.
-use Rattle.vm_system.proofs.Common.{Access, AllInner, AllLetters, AllLicensed, Bool, CanSend, CanTell, CanTellAll, Channel, Command, CreatesHere, Down, EachIn, Ending, Event, FileAnswer, FileTable, HasMade, HasPageOf, Header, Held, HostId, IsHostLetter, IsInner, IsOrderly, IsServerWord, IsWord, KernelSays, Licensed, List, MaySendUp, Message, None, ObjectId, Option, Outside, PageNo, PagerAnswer, Put, Read, RequestAnswer, SlotTable, Some, SomeKernelSays, Up, Write, [], arith, became, device_failed, error, false, has_lost, held_at, home_for, home_of, host_id, inl, inr, is_ended, is_made, last_control, length, live_control, makes, named, nat_tests, never, object_home, queue, refl, sent_to, subst, suc, supply, sym, taking, told_of, true, undelivered, up, ℕ, ◌&&◌, ◌++◌, ◌+◌, ◌==◌, ◌||◌, ◌∙◌, ◌∷◌, ◌≡◌, ◌≤◌}
+use Rattle.vm_system.proofs.Common.{Access, AllInner, AllLetters, AllLicensed, Bool, CanSend, CanTell, CanTellAll, Channel, Command, CreatesHere, Down, EachIn, Ending, Event, FileAnswer, FileTable, HasMade, HasPageOf, Header, Held, HostId, IsHostLetter, IsInner, IsOrderly, IsServerWord, IsWord, KernelSays, Licensed, List, MaySendUp, Message, None, ObjectId, Option, Outside, PageNo, PagerAnswer, Put, Read, RequestAnswer, SlotTable, Some, SomeKernelSays, Up, Write, [], arith, became, device_failed, error, false, has_lost, held_at, home_for, home_of, host_id, inl, inr, is_ended, is_made, last_control, length, live_control, makes, named, nat_tests, never, object_home, queue, refl, sent_to, subst, suc, supply, sym, taking, told_of, true, undelivered, up, ℕ, ◌&&◌, ◌++◌, ◌+◌, ◌==◌, ◌||◌, ◌∙◌, ◌∷◌, ◌≡◌, ◌≤◌, is_shared, is_file, ◌⊎◌, is_store, if◌then◌else◌, zero}
 use Rattle.std.specs.Prelude.{◌<◌}
 use Rattle.vm_model.specs.declared.event.Event.TheVariants as event
 use Rattle.vm_model.specs.declared.message.Message.TheVariants as message
@@ -177,7 +177,7 @@ terminated header host object control past old known lives = record {
 desired : (access : Access) (steps : ℕ) → (desired_access access steps ≡ 1) ⊎ (desired_access access steps ≡ 3)
 desired access zero = by (is_store access)
   where
-    by : (b : Bool) → ((if b then 3 else 1) ≡ 1) ⊎ ((if b then 3 else 1) ≡ 3)
+    by : (b : Bool) → (◌≡◌ {A = ℕ} (if b then 3 else 1) 1) ⊎ (◌≡◌ {A = ℕ} (if b then 3 else 1) 3)
     by true = inr refl
     by false = inl refl
 desired access (suc steps) = inl refl
@@ -250,12 +250,12 @@ pub record AllTold (header : Header) (events past : List Event) : Type 0 where
   pub orderly : IsOrderly header (events ++ past)
   pub can : CanTellAll header.size events past
 
-page_of_answer : (size : ℕ) (m : Message) → IsWord size m → HasPageOf size m
+pub page_of_answer : (size : ℕ) (m : Message) → IsWord size m → HasPageOf size m
 page_of_answer size (message.Supply page lock precious bytes) is = is.1
 page_of_answer size (message.Return control page dirty keep bytes) is = absurd is
 page_of_answer size m is = tt
 
-sent_down : (header : Header) (host : ℕ) (object : ObjectId) (control : ℕ) (m : Message) (past : List Event) → IsOrderly header past → host < length header.frames.items → IsWord header.size m
+pub sent_down : (header : Header) (host : ℕ) (object : ObjectId) (control : ℕ) (m : Message) (past : List Event) → IsOrderly header past → host < length header.frames.items → IsWord header.size m
     → (is_shared header object.0 ≡ true → IsServerWord header.size m) → (is_shared header object.0 ≡ true → ServerSends header host object.0 control m past) → IsOrderly header (sent_to host object control m ∷ past)
 sent_down header host object control m past old known answer word may = record {
   letters = letters_sent header (Down (host_id host) object control) m past old.letters (known, answer, word);
@@ -279,7 +279,7 @@ pub record Server (header : Header) (host at : ℕ) (object : ObjectId) (control
 never_shared : {A : Type 0} (header : Header) (o : ℕ) → is_shared header o ≡ false → is_shared header o ≡ true → A
 never_shared header o plain shared = never (sym plain ∙ shared)
 
-told_none : (header : Header) (past : List Event) → IsOrderly header past → AllTold header [] past
+pub told_none : (header : Header) (past : List Event) → IsOrderly header past → AllTold header [] past
 told_none header past old = record { orderly = old; can = tt }
 
 told_down : (header : Header) (host at : ℕ) (object : ObjectId) (control : ℕ) (m : Message) (events past : List Event) → AllTold header events past → Server header host at object control (events ++ past) → IsWord header.size m

@@ -133,7 +133,9 @@ files_serve header files made = record {
 pub next_taken : {A : Type 0} (xs : List A) (n : ℕ) (x : A) → slice_get xs n ≡ Some x → take n xs ++ x ∷ [] ≡ take (n + 1) xs
 next_taken [] n x is = absurd (none-some x is)
 next_taken {A} (y ∷ xs) zero x is = ap (λ (z : A). z ∷ []) (sym (same_Some y x is))
-next_taken {A} (y ∷ xs) (suc n) x is = ap (λ (z : List A). y ∷ z) (next_taken xs n x is)
+next_taken {A} (y ∷ xs) (suc n) x is =
+    let more : suc n + 1 ≡ suc (n + 1) = omega arith in
+    ap (λ (z : List A). y ∷ z) (next_taken xs n x is) ∙ ap (λ (k : ℕ). take k (y ∷ xs)) (sym more)
 
 pub all_taken : {A : Type 0} (xs : List A) → take (length xs) xs ≡ xs
 all_taken [] = refl

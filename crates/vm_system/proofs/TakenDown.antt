@@ -1,5 +1,5 @@
 -- An answer of a pager is taken by its host.
-use Rattle.vm_system.proofs.Common.{AllFilesServe, AllInner, AllServe, Bool, CanTellAll, Channel, ChannelId, Device, Down, EndsAll, Event, Header, HostId, HostTable, HostsPart, IsAbsencePaid, IsErrorPaid, IsLockPaid, IsPaid, IsWord, Letter, Licensed, List, MayTakeFrom, Message, None, ObjectId, Option, Posts, ServerStands, Some, Spares, State, Step, Took, Up, ap, created, devices, false, first, length, queue, sym, taken_letter, taken_more, true, up, ℕ, ◌++◌, ◌<◌, ◌∙◌, ◌∷◌, ◌≡◌}
+use Rattle.vm_system.proofs.Common.{AllFilesServe, AllInner, AllServe, Bool, CanTellAll, Channel, ChannelId, Device, Down, EndsAll, Event, Header, HostId, HostTable, HostsPart, IsAbsencePaid, IsErrorPaid, IsLockPaid, IsPaid, IsWord, Letter, Licensed, List, MayTakeFrom, Message, None, ObjectId, Option, Posts, ServerStands, Some, Spares, State, Step, Took, Up, ap, created, devices, false, first, length, queue, sym, taken_letter, taken_more, true, up, ℕ, ◌++◌, ◌<◌, ◌∙◌, ◌∷◌, ◌≡◌, ServerTable, subst}
 use Rattle.vm_model.specs.declared.event.Device.TheVariants.{Files, Paging}
 use Rattle.vm_model.specs.declared.event.Event.TheVariants as event
 use Rattle.vm_system.proofs.Agreeing.{carry_other, carry_spared, devices_said, files_other, files_spared, serve_other, spared_said}
@@ -87,9 +87,9 @@ took_down given line number host object control m s new events may head passed f
     let orderly = orderly_taken header channel m given.past front.orderly head in
     let serve : AllServe header new.pagers.items past = rw pagers (front_serves given host object control m s front) in
     let filed : AllFilesServe header new.files.items past = rw files (front_filed given host object control m s front) in
-    let heard : ServerStands header new.server past = rw server (server_other header s.server (event.Taken channel m) given.past tt front.server) in
+    let heard : ServerStands header new.server past = subst (λ (z : ServerTable). ServerStands header z past) (sym server) (server_other header s.server (event.Taken channel m) given.past tt front.server) in
     let licence = taken_licensed header outside doing channel m given.past head may.may (front_settled given s front) in
-    let owed = rw items (down_paid header host object control m events given.past stretch.inner (all_returned header new.hosts (events ++ past) passed.ended.rests) failed zeroed locked ended) in
+    let owed : IsPaid header new.history.items = rw items (down_paid header host object control m events given.past stretch.inner (all_returned header new.hosts (events ++ past) passed.ended.rests) failed zeroed locked ended) in
     record {
       stands = record {
         built = front.built;

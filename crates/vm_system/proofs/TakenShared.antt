@@ -1,5 +1,5 @@
 -- A message about a shared object is taken by its server, which answers.
-use Rattle.vm_system.proofs.Common.{AllFilesServe, AllInner, AllLicensed, AllServe, AreServerWords, Bool, CanTellAll, Channel, ChannelId, Command, Content, Device, Down, EachIn, EachOf, Event, FilesAreKept, FilesCarry, Followed, FramesSuffice, HasPageOf, Header, HostId, IsConsequence, IsHostLetter, IsOrderly, IsServerWord, IsSharedWord, IsToServer, IsWord, IsWordUp, List, Licensed, MayTake, MayTakeFrom, Message, MomentsIn, None, ObjectId, Option, Outside, OwnBytes, PagerHasAnswered, PagingIsKept, Posts, ServerAnswer, ServerServes, ServerStands, ServerTable, SlotTable, SlotsFit, Some, Spares, State, Step, TakesStep, Told, Took, Up, [], ap, append_assoc, arith, content_of, devices, each_both, false, first, gives_frame, host_id, inl, inner_both, inr, is_file, is_made, is_shared, kind_of, length, licensed_both, moments_both, named, never, nat_lt, of_both, others, others_carry, page_part, queue, refl, reverse, sent_to, slice_get, subst, sym, taken_letter, taken_more, true, up, ℕ, ◌++◌, ◌<◌, ◌≤◌, ◌∙◌, ◌∷◌, ◌≡◌, ◌⊎◌}
+use Rattle.vm_system.proofs.Common.{AllFilesServe, AllInner, AllLicensed, AllServe, AreServerWords, Bool, CanTellAll, Channel, ChannelId, Command, Content, Device, Down, EachIn, EachOf, Event, FilesAreKept, FilesCarry, Followed, FramesSuffice, HasPageOf, Header, HostId, IsConsequence, IsHostLetter, IsOrderly, IsServerWord, IsSharedWord, IsToServer, IsWord, IsWordUp, List, Licensed, MayTake, MayTakeFrom, Message, MomentsIn, None, ObjectId, Option, Outside, OwnBytes, PagerHasAnswered, PagingIsKept, Posts, ServerAnswer, ServerServes, ServerStands, ServerTable, SlotTable, SlotsFit, Some, Spares, State, Step, TakesStep, Told, Took, Up, [], ap, append_assoc, arith, content_of, devices, each_both, false, first, gives_frame, host_id, inl, inner_both, inr, is_file, is_made, is_shared, kind_of, length, licensed_both, moments_both, named, never, nat_lt, of_both, others, others_carry, page_part, queue, refl, reverse, sent_to, slice_get, subst, sym, taken_letter, taken_more, true, up, ℕ, ◌++◌, ◌<◌, ◌≤◌, ◌∙◌, ◌∷◌, ◌≡◌, ◌⊎◌, Letter, same_Some}
 use Rattle.vm_model.specs.declared.event.Device.TheVariants.{Files, Paging}
 use Rattle.vm_model.specs.declared.event.Event.TheVariants as event
 use Rattle.vm_model.specs.declared.message.Message.TheVariants as message
@@ -164,14 +164,25 @@ heard_shared header host object control (message.Lock page count returns flush l
 heard_shared header host object control (message.Ready cache strategy) past orderly shared greets (size, plain, once, taken, none) = greets size taken
 heard_shared header host object control m past orderly shared greets sends = absurd sends
 
+abbrev host_in : Channel → ℕ
+host_in (Up host object) = host.0
+host_in (Down host object control) = host.0
+
+abbrev object_in : Channel → ℕ
+object_in (Up host object) = object.0
+object_in (Down host object control) = object.0
+
 -- what stands in front of an answer of the server, as far as it was told
 greeted : (header : Header) (at : HostId) (about : ObjectId) (m : Message) (events past : List Event) → AllInner events → IsHostLetter header past (record { channel = Up at about; message = m }) → (host object control size : ℕ)
     → taken_letter (events ++ event.Taken (Up at about) m ∷ past) ≡ Some (record { channel = up host object; message = message.Init control size }) → IsServed header host object control (events ++ event.Taken (Up at about) m ∷ past)
 greeted header at about m events past inner letter host object control size taken =
     let both : Some (record { channel = Up at about; message = m }) ≡ Some (record { channel = up host object; message = message.Init control size }) = sym (taken_more events (event.Taken (Up at about) m ∷ past) inner) ∙ taken in
-    let here : at.0 ≡ host = cc in
-    let its : about.0 ≡ object = cc in
-    let said : m ≡ message.Init control size = cc in
+    let one : Letter = record { channel = Up at about; message = m } in
+    let other : Letter = record { channel = up host object; message = message.Init control size } in
+    let same : one ≡ other = same_Some one other both in
+    let here : at.0 ≡ host = ap (λ (z : Letter). host_in z.channel) same in
+    let its : about.0 ≡ object = ap (λ (z : Letter). object_in z.channel) same in
+    let said : m ≡ message.Init control size = ap (λ (z : Letter). z.message) same in
     let word : IsWordUp header.size (λ k. is_made (Down at about k) past) (message.Init control size) = subst (λ (z : Message). IsWordUp header.size (λ k. is_made (Down at about k) past) z) said letter.1 in
     (
       subst (λ (n : ℕ). n < length header.frames.items) here letter.0,

@@ -231,7 +231,8 @@ impl System {
     pub fn into_history(self) -> History
         ensures { result ≡ self.history }
     {
-        self.state.history
+        let state = self.state;
+        state.history
     }
 
     /// Whether nothing is undelivered.
