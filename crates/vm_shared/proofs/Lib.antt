@@ -1,1 +1,5 @@
 pub mod Founded
+pub mod Speakers
+pub mod Order
+pub mod Numbering
+pub mod Servers
