@@ -3,3 +3,4 @@ pub mod Speakers
 pub mod Order
 pub mod Numbering
 pub mod Servers
+pub mod Kept
