@@ -4,3 +4,4 @@ pub mod Order
 pub mod Numbering
 pub mod Servers
 pub mod Kept
+pub mod Stepped
