@@ -1,2 +1,3 @@
+pub mod Founded
 pub mod Declared
 pub mod Waiters
