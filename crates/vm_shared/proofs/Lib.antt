@@ -2,6 +2,8 @@ pub mod Founded
 pub mod Speakers
 pub mod Order
 pub mod Numbering
+pub mod Declared
 pub mod Servers
 pub mod Kept
 pub mod Stepped
+pub mod Waiters
