@@ -7,3 +7,6 @@ pub mod Servers
 pub mod Kept
 pub mod Stepped
 pub mod Waiters
+pub mod Rows
+pub mod Causes
+pub mod Pages

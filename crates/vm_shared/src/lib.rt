@@ -6,17 +6,46 @@
 //! whole history's events, so that what the page law says holds of each page of each shared object.
 #![tactic(auto)]
 
-ghost use Rattle.std.specs.Prelude.{List};
+ghost use Rattle.std.specs.Prelude.{ℕ, ◌≡◌, ◌≢◌, true, List};
 ghost use Rattle.vm_model.specs.declared.event.Event.{Event};
 ghost use Rattle.vm_model.specs.declared.script.Header.{Header};
+ghost use Rattle.vm_model.specs.Channels.{DownInOrder, UpInOrder};
+ghost use Rattle.vm_model.specs.Coherence.{PageLegal};
 ghost use Rattle.vm_model.specs.Founded.{IsFounded};
+ghost use Rattle.vm_model.specs.Local.{CanRead, CanWrite};
 ghost use Rattle.vm_model.specs.Moments.{EachEvent};
+ghost use Rattle.vm_model.specs.PageLicences.{ActsLicensed};
+ghost use Rattle.vm_model.specs.PagePart.{page_part};
+ghost use Rattle.vm_model.specs.Server.{current};
+ghost use Rattle.vm_legal.specs.Bytes.{OwnBytes};
 ghost use Rattle.vm_legal.specs.Licences.{HasCause};
-ghost use Rattle.vm_legal.specs.Outside.{Outside};
+ghost use Rattle.vm_legal.specs.Outside.{Outside, is_shared};
+ghost use Rattle.vm_legal.specs.Walks.{page_on};
 
-/// What the page law takes for granted of each event: its page is here, its task lives, its control is
-/// the live one.
-#[tactic(auto, using(crate::proofs::Founded::founded))]
-pub fn events_are_founded()
+/// Each event of a shared page has its cause in the page's part, so the law of one shared page is about
+/// every history whose events have their causes, and whose loads and stores are of what their own hosts
+/// have. Nothing is asked of what steps owe.
+#[tactic(auto, using(crate::proofs::Causes::licensed))]
+pub fn shared_pages_are_licensed()
+    ensures licensed { (header : Header) (outside : Outside) (history : List Event) → EachEvent (HasCause header outside) history → EachEvent (OwnBytes header) history → (o p : ℕ) → is_shared header o ≡ true → ActsLicensed header.size (page_part header.size o p history) }
+{}
+
+/// A shared page behaves as one memory: while a host can write it no other can read it, whoever has it
+/// has what the stores left, and each load answers that, at every moment of the history.
+#[tactic(auto, using(crate::proofs::Pages::legal, crate::proofs::Pages::one_writer, crate::proofs::Pages::same_bytes))]
+pub fn shared_pages_are_one_memory()
+    ensures legal { (header : Header) (outside : Outside) (history : List Event) → EachEvent (HasCause header outside) history → EachEvent (OwnBytes header) history → (o p : ℕ) → is_shared header o ≡ true → PageLegal header.size (page_part header.size o p history) }
+    ensures one_writer { (header : Header) (outside : Outside) (history : List Event) → EachEvent (HasCause header outside) history → EachEvent (OwnBytes header) history → (g h o p : ℕ) → is_shared header o ≡ true → g ≢ h → CanWrite (page_on header h o p history) → CanRead (page_on header g o p history) → ⊥ }
+    ensures same_bytes { (header : Header) (outside : Outside) (history : List Event) → EachEvent (HasCause header outside) history → EachEvent (OwnBytes header) history → (h o p : ℕ) → is_shared header o ≡ true → (page_on header h o p history).here ≡ true → (page_on header h o p history).bytes ≡ current header.size (page_part header.size o p history) }
+{}
+
+/// Of every kind of object: what is taken from a channel is its oldest message, nothing is sent to a
+/// control that did not begin, and controls of an object have rising numbers on each host. And what the
+/// page law takes for granted of each event: its page is here, its task lives, its control is the live
+/// one.
+#[tactic(auto, using(crate::proofs::Order::up_in_order, crate::proofs::Order::down_in_order, crate::proofs::Founded::founded))]
+pub fn channels_are_in_order()
+    ensures up { (header : Header) (outside : Outside) (history : List Event) → EachEvent (HasCause header outside) history → UpInOrder history }
+    ensures down { (header : Header) (outside : Outside) (history : List Event) → EachEvent (HasCause header outside) history → DownInOrder history }
     ensures founded { (header : Header) (outside : Outside) (history : List Event) → EachEvent (HasCause header outside) history → EachEvent (IsFounded header.size) history }
 {}
