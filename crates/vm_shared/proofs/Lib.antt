@@ -10,3 +10,5 @@ pub mod Waiters
 pub mod Rows
 pub mod Causes
 pub mod Pages
+pub mod Flat
+pub mod Currents
