@@ -10,3 +10,4 @@ pub mod Waiters
 pub mod Rows
 pub mod Causes
 pub mod Pages
+pub mod Run
