@@ -12,3 +12,4 @@ pub mod Causes
 pub mod Pages
 pub mod Flat
 pub mod Currents
+pub mod Run

@@ -1,7 +1,7 @@
 -- A shared page's part knows which control is ready, and the lock with a reply that the step has still to do.
-use Rattle.std.proofs.Common.{◌≡◌, ℕ, zero, suc, ◌+◌, ◌/◌, ◌%◌, ◌<◌, ◌≤◌, ◌==◌, ◌&&◌, ◌||◌, ◌∙◌, List, [], ◌∷◌, Bool, true, false, Option, Some, None, if◌then◌else◌, refl, ap, sym, subst, replicate, arith}
+use Rattle.std.proofs.Common.{◌≡◌, ℕ, ◌/◌, ◌%◌, ◌<◌, ◌≤◌, ◌==◌, ◌&&◌, ◌||◌, ◌∙◌, List, [], ◌∷◌, Bool, true, false, Option, Some, None, if◌then◌else◌, refl, ap, sym, subst, replicate, arith}
 use Rattle.std.proofs.lemmas.Bool.Decides.{nat_tests}
-use Rattle.std.specs.Prelude.{not, nat_lt}
+use Rattle.std.specs.Prelude.{not}
 use Rattle.vm_base.specs.declared.ids.HostId.{HostId}
 use Rattle.vm_base.specs.declared.ids.ObjectId.{ObjectId}
 use Rattle.vm_model.specs.declared.command.Command.{Command}
@@ -18,7 +18,7 @@ use Rattle.vm_model.specs.Named.{named}
 use Rattle.vm_model.specs.PagePart.{page_part}
 use Rattle.vm_model.specs.Side.{Side, is_open_to, kind_of, side, side_after, side_taken_down}
 use Rattle.vm_model.specs.TaskPlace.{means_page, task_host}
-use Rattle.vm_model.specs.Words.{UpWord, Asking, Unlocking, Returning, Doing, Ending, OtherUp, DownWord, Supplying, Locking, Lacking, Failing, Readying, OtherDown, ActEffect, Opens, SendsUp, TakenUp, SentDown, TakesDown, Puts, Drops, Begins, Loads, Stores, Fails, BeginsCopy, Copies, EndsCopy, StepBegins, Nothing, control_of, down_word, in_range, sent_act_effect, times_meant, to_others, up_word}
+use Rattle.vm_model.specs.Words.{UpWord, Asking, Unlocking, Returning, Doing, Ending, OtherUp, DownWord, Supplying, Locking, Lacking, Failing, Readying, OtherDown, ActEffect, Opens, SendsUp, TakenUp, SentDown, TakesDown, Puts, Drops, Begins, Loads, Stores, Fails, BeginsCopy, Copies, EndsCopy, StepBegins, Nothing, down_word, in_range, sent_act_effect, times_meant, to_others, up_word}
 use Rattle.vm_legal.specs.Accesses.{is_ready}
 use Rattle.vm_legal.specs.Licences.{Completes, HasCause, LockRequest, MaySendUp, is_answered_over, lock_taken}
 use Rattle.vm_legal.specs.Outside.{Outside, is_shared}
@@ -29,7 +29,7 @@ use Rattle.vm_flat.proofs.Locals.{each_founded}
 use Rattle.vm_quiet.proofs.Letters.{never}
 use Rattle.vm_quiet.proofs.Sane.{there_two}
 use Rattle.vm_shared.proofs.Kept.{below}
-use Rattle.vm_shared.proofs.Speakers.{Numbers, last_grows, numbers_of}
+use Rattle.vm_shared.proofs.Speakers.{last_grows, numbers_of}
 
 -- the step that a page's part is in: 0 none, else by the kind of the lock with a reply over the page that isn't done yet, and whose control lives
 abbrev pub step_in : ℕ → ℕ → ℕ → Option LockRequest → Bool → Option ℕ → ℕ
@@ -318,9 +318,11 @@ sent_init header host object control size past h o p s dead less up was =
     ap (λ (l : Option ℕ). step_in h o p (lock_taken past) ((host.0 == h && (object.0 == o && false)) || since (completes h o) past) l) (picked (host.0 == h && object.0 == o) (Some control) (live_control h o past) is)
     ∙ new_step h o p (last_control h o past) control (lock_taken past) ((host.0 == h && (object.0 == o && false)) || since (completes h o) past) up (less is) in
     record { ready = λ live. sym (picked (host.0 == h && object.0 == o) false (is_ready h o past) is); step = was.step ∙ zero_then ∙ sym zero_now })
-    (λ none. (chosen (host.0 == h && object.0 == o) false (is_ready h o past) none,
-    ap (λ (d : Bool). step_in h o p (lock_taken past) d (if host.0 == h && object.0 == o then Some control else live_control h o past)) (uncompleted (host.0 == h) (object.0 == o) (since (completes h o) past))
-    ∙ ap (λ (l : Option ℕ). step_in h o p (lock_taken past) (since (completes h o) past) l) (chosen (host.0 == h && object.0 == o) (Some control) (live_control h o past) none)))
+    (λ none. (
+      chosen (host.0 == h && object.0 == o) false (is_ready h o past) none,
+      ap (λ (d : Bool). step_in h o p (lock_taken past) d (if host.0 == h && object.0 == o then Some control else live_control h o past)) (uncompleted (host.0 == h) (object.0 == o) (since (completes h o) past))
+          ∙ ap (λ (l : Option ℕ). step_in h o p (lock_taken past) (since (completes h o) past) l) (chosen (host.0 == h && object.0 == o) (Some control) (live_control h o past) none),
+    ))
 
 gone : (control : ℕ) (live : Option ℕ) → live ≡ Some control → without_control control live ≡ None
 gone control live is = ap (without_control control) is ∙ ap (λ (b : Bool). if b then None else Some control) (itself control)
@@ -340,9 +342,11 @@ sent_terminate header host object control past h o p s lives was =
     let zero_now : step_in h o p (lock_taken past) d (if host.0 == h && object.0 == o then without_control control (live_control h o past) else live_control h o past) ≡ 0 =
     ap (λ (l : Option ℕ). step_in h o p (lock_taken past) d l) (picked (host.0 == h && object.0 == o) (without_control control (live_control h o past)) (live_control h o past) is ∙ gone control (live_control h o past) (lives is)) ∙ dead_step h o p (lock_taken past) d in
     record { ready = λ live. never live; step = sym zero_now })
-    (λ none. (refl,
-    ap (λ (d : Bool). step_in h o p (lock_taken past) d (if host.0 == h && object.0 == o then without_control control (live_control h o past) else live_control h o past)) (uncompleted (host.0 == h) (object.0 == o) (since (completes h o) past))
-    ∙ ap (λ (l : Option ℕ). step_in h o p (lock_taken past) (since (completes h o) past) l) (chosen (host.0 == h && object.0 == o) (without_control control (live_control h o past)) (live_control h o past) none)))
+    (λ none. (
+      refl,
+      ap (λ (d : Bool). step_in h o p (lock_taken past) d (if host.0 == h && object.0 == o then without_control control (live_control h o past) else live_control h o past)) (uncompleted (host.0 == h) (object.0 == o) (since (completes h o) past))
+          ∙ ap (λ (l : Option ℕ). step_in h o p (lock_taken past) (since (completes h o) past) l) (chosen (host.0 == h && object.0 == o) (without_control control (live_control h o past)) (live_control h o past) none),
+    ))
 
 -- a lock over another page is no step of this one
 other_step : (h o p page count : ℕ) (lock : Option LockRequest) (r : LockRequest) (done : Bool) (live : Option ℕ) → lock ≡ Some r → r.page ≡ page → r.count ≡ count → in_range p page count ≡ false → step_in h o p lock done live ≡ 0

@@ -23,6 +23,7 @@ ghost use Rattle.vm_legal.specs.Licences.{HasCause};
 ghost use Rattle.vm_legal.specs.Outside.{Outside, is_shared};
 ghost use Rattle.vm_legal.specs.Walks.{page_on};
 ghost use Rattle.vm_shared.specs.Kinds.{NoneIsTemporary};
+ghost use Rattle.vm_shared.specs.Run as run;
 
 /// Each event of a shared page has its cause in the page's part, so the law of one shared page is about
 /// every history whose events have their causes, and whose loads and stores are of what their own hosts
@@ -50,6 +51,16 @@ pub fn channels_are_in_order()
     ensures up { (header : Header) (outside : Outside) (history : List Event) → EachEvent (HasCause header outside) history → UpInOrder history }
     ensures down { (header : Header) (outside : Outside) (history : List Event) → EachEvent (HasCause header outside) history → DownInOrder history }
     ensures founded { (header : Header) (outside : Outside) (history : List Event) → EachEvent (HasCause header outside) history → EachEvent (IsFounded header.size) history }
+{}
+
+/// A worked history that meets the premises: two hosts map one shared page and read it, host 0 wants to
+/// write, and its unlock crosses what the others do. Host 1 ends its control while it is awaited, maps
+/// the page anew and reads what host 0 stored. At last the page is copied on host 0, page by page.
+#[tactic(auto, using(crate::proofs::Run::causes, crate::proofs::Run::own_bytes))]
+pub fn shared_run()
+    ensures shared { is_shared run.header 0 ≡ true }
+    ensures causes { EachEvent (HasCause run.header run.outside) run.history }
+    ensures own_bytes { EachEvent (OwnBytes run.header) run.history }
 {}
 
 /// The flat map speaks of shared memory too: its page is what the stores of the page's part leave,
