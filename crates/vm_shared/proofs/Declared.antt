@@ -67,3 +67,14 @@ comes_from_declared header past host r q o p numbered small comes =
     by : (n : ℕ) → comes.top < named header → Walks (λ k j. sight header host k j past) (λ k. backing_of header k past) n comes.top comes.top_page o p → IsOwn comes.top comes.top_page o p
     by zero less walk = record { region = walk.0; page = walk.1 }
     by (suc n) less walk = let above = numbered.upper comes.top walk.1 in absurd (omega (arith, above, less))
+
+-- so is what has a place in the chain of a page of a declared region
+pub place_from_declared : (header : Header) (past : List Event) (r q o p : ℕ) → NumberedAt header past → r < named header → (has : HasPlace header r q o p past) → IsOwn r q o p
+place_from_declared header past r q o p numbered small has =
+    let top = declared_top_own header past r q has.top has.top_page numbered small has.is_top in
+    let own = by has.steps (subst (λ (k : ℕ). k < named header) top.region small) has.leads in
+    record { region = top.region ∙ own.region; page = top.page ∙ own.page }
+  where
+    by : (n : ℕ) → has.top < named header → Leads (λ k. backing_of header k past) n has.top has.top_page o p → IsOwn has.top has.top_page o p
+    by zero less leads = record { region = leads.0; page = leads.1 }
+    by (suc n) less leads = let above = numbered.upper has.top leads.0 in absurd (omega (arith, above, less))

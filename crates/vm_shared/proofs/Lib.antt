@@ -13,3 +13,4 @@ pub mod Pages
 pub mod Flat
 pub mod Currents
 pub mod Run
+pub mod OnlyWaiters
