@@ -1,1 +1,3 @@
 pub mod Founded
+pub mod Steps
+pub mod Ready

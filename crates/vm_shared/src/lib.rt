@@ -6,11 +6,16 @@
 //! whole history's events, so that what the page law says holds of each page of each shared object.
 #![tactic(auto)]
 
-ghost use Rattle.std.specs.Prelude.{List};
+ghost use Rattle.std.specs.Prelude.{ℕ, List, ◌≡◌, true};
 ghost use Rattle.vm_model.specs.declared.event.Event.{Event};
 ghost use Rattle.vm_model.specs.declared.script.Header.{Header};
+ghost use Rattle.vm_model.specs.Coherence.{Done, StepsDone};
 ghost use Rattle.vm_model.specs.Founded.{IsFounded};
-ghost use Rattle.vm_model.specs.Moments.{EachEvent};
+ghost use Rattle.vm_model.specs.Moments.{BeforeSteps, EachEvent};
+ghost use Rattle.vm_model.specs.PagePart.{page_part};
+ghost use Rattle.vm_model.specs.Side.{side};
+ghost use Rattle.vm_legal.specs.Accesses.{is_ready};
+ghost use Rattle.vm_legal.specs.Debts.{IsPaid};
 ghost use Rattle.vm_legal.specs.Licences.{HasCause};
 ghost use Rattle.vm_legal.specs.Outside.{Outside};
 
@@ -19,4 +24,14 @@ ghost use Rattle.vm_legal.specs.Outside.{Outside};
 #[tactic(auto, using(crate::proofs::Founded::founded))]
 pub fn events_are_founded()
     ensures founded { (header : Header) (outside : Outside) (history : List Event) → EachEvent (HasCause header outside) history → EachEvent (IsFounded header.size) history }
+{}
+
+/// A page's part has a step of a host under way only where the present step of the history took a lock with
+/// a reply over the page and hasn't said that it is done: so where steps pay what they owe, no step ends with
+/// one under way. And a live control of the part is ready when the host's is.
+#[tactic(auto, using(crate::proofs::Steps::steps_done, crate::proofs::Steps::done_now, crate::proofs::Ready::as_ready))]
+pub fn steps_are_done()
+    ensures steps { (header : Header) (outside : Outside) (o p : ℕ) (history : List Event) → EachEvent (HasCause header outside) history → BeforeSteps (IsPaid header) history → StepsDone (page_part header.size o p history) }
+    ensures now { (header : Header) (outside : Outside) (o p : ℕ) (past : List Event) → EachEvent (HasCause header outside) past → IsPaid header past → Done (page_part header.size o p past) }
+    ensures ready { (size h o p : ℕ) (history : List Event) → EachEvent (IsFounded size) history → (side h (page_part size o p history)).live ≡ true → (side h (page_part size o p history)).ready ≡ is_ready h o history }
 {}
