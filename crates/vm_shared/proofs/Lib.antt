@@ -1,3 +1,4 @@
 pub mod Founded
 pub mod Steps
 pub mod Ready
+pub mod Answered

@@ -6,18 +6,23 @@
 //! whole history's events, so that what the page law says holds of each page of each shared object.
 #![tactic(auto)]
 
-ghost use Rattle.std.specs.Prelude.{ℕ, List, ◌≡◌, true};
+ghost use Rattle.std.specs.Prelude.{ℕ, List, [], ◌≡◌, true};
 ghost use Rattle.vm_model.specs.declared.event.Event.{Event};
 ghost use Rattle.vm_model.specs.declared.script.Header.{Header};
+ghost use Rattle.vm_model.specs.Channels.{DownInOrder, UpInOrder};
 ghost use Rattle.vm_model.specs.Coherence.{Done, StepsDone};
 ghost use Rattle.vm_model.specs.Founded.{IsFounded};
 ghost use Rattle.vm_model.specs.Moments.{BeforeSteps, EachEvent};
+ghost use Rattle.vm_model.specs.PageLicences.{ActsLicensed};
 ghost use Rattle.vm_model.specs.PagePart.{page_part};
 ghost use Rattle.vm_model.specs.Side.{side};
 ghost use Rattle.vm_legal.specs.Accesses.{is_ready};
 ghost use Rattle.vm_legal.specs.Debts.{IsPaid};
 ghost use Rattle.vm_legal.specs.Licences.{HasCause};
-ghost use Rattle.vm_legal.specs.Outside.{Outside};
+ghost use Rattle.vm_legal.specs.Outside.{Outside, is_shared};
+ghost use Rattle.vm_legal.specs.Prompt.{AllServed};
+ghost use Rattle.vm_legal.specs.Undelivered.{undelivered};
+ghost use Rattle.vm_quiet.specs.Quiet.{SharedAreAnswered};
 
 /// What the page law takes for granted of each event: its page is here, its task lives, its control is
 /// the live one.
@@ -34,4 +39,12 @@ pub fn steps_are_done()
     ensures steps { (header : Header) (outside : Outside) (o p : ℕ) (history : List Event) → EachEvent (HasCause header outside) history → BeforeSteps (IsPaid header) history → StepsDone (page_part header.size o p history) }
     ensures now { (header : Header) (outside : Outside) (o p : ℕ) (past : List Event) → EachEvent (HasCause header outside) past → IsPaid header past → Done (page_part header.size o p past) }
     ensures ready { (size h o p : ℕ) (history : List Event) → EachEvent (IsFounded size) history → (side h (page_part size o p history)).live ≡ true → (side h (page_part size o p history)).ready ≡ is_ready h o history }
+{}
+
+/// Where nothing is undelivered and each step has paid what it owes, the server of shared memory has answered
+/// everybody, if of each page for which somebody stands in line some host is awaited: no page of a shared
+/// object is asked, and no unlock of one is outstanding.
+#[tactic(auto, using(crate::proofs::Answered::all_answered))]
+pub fn nobody_waits_for_the_server()
+    ensures answered { (header : Header) (outside : Outside) (history : List Event) → EachEvent (HasCause header outside) history → UpInOrder history → DownInOrder history → ((o p : ℕ) → is_shared header o ≡ true → ActsLicensed header.size (page_part header.size o p history)) → BeforeSteps (IsPaid header) history → IsPaid header history → AllServed header history → undelivered history ≡ [] → SharedAreAnswered header history }
 {}
