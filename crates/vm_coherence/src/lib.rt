@@ -61,16 +61,18 @@ pub fn crossing_run()
 {}
 
 /// What the hosts' own rules give the server of a page: when a request is taken, none of its host is
-/// in the line; when an unlock is taken, no upgrade of its host is; a lock that is said done, and a
-/// control that ends while its host is awaited, are of the control for which the host is awaited.
+/// in the line, nor when the end of one of its controls is; when an unlock is taken, no upgrade of its
+/// host is; a lock that is said done, and a control that ends while its host is awaited, are of the
+/// control for which the host is awaited.
 ///
 /// A server that takes each message in its turn may so note a host's words without looking at the
 /// control that they name.
-#[tactic(auto, using(crate::proofs::Protocol::one_request, crate::proofs::Protocol::one_unlock, crate::proofs::Protocol::completed_awaited, crate::proofs::Protocol::ended_awaited))]
+#[tactic(auto, using(crate::proofs::Protocol::one_request, crate::proofs::Protocol::one_unlock, crate::proofs::Protocol::completed_awaited, crate::proofs::Protocol::ended_awaited, crate::proofs::Protocol::ended_unasked))]
 pub fn protocol_law()
     ensures one_request { (size h control access : ℕ) (acts : List Act) → ActsLicensed size acts → first (side h acts).up ≡ Some (Asking control access) → NoRequest h (line acts) }
     ensures one_unlock { (size h access : ℕ) (acts : List Act) → ActsLicensed size acts → StepsDone acts → first (side h acts).up ≡ Some (Unlocking access) → NoUpgrade h (line acts) }
     ensures completed { (size h control count : ℕ) (acts : List Act) → ActsLicensed size acts → StepsDone acts → first (side h acts).up ≡ Some (Doing control count) → (side h acts).awaited_control ≡ control }
+    ensures ended_unasked { (size h control : ℕ) (acts : List Act) → ActsLicensed size acts → first (side h acts).up ≡ Some (Ending control) → NoRequest h (line acts) }
     ensures ended { (size h control : ℕ) (acts : List Act) → ActsLicensed size acts → StepsDone acts → first (side h acts).up ≡ Some (Ending control) → 0 < (side h acts).awaits → (side h acts).awaited_control ≡ control }
 {}
 

@@ -3,7 +3,7 @@ use Rattle.std.proofs.Common.{ℕ, zero, suc, ◌≡◌, ◌∙◌, List, [], Bo
 use Rattle.std.specs.Prelude.{◌<◌}
 use Rattle.vm_model.specs.declared.event.Event.{Event}
 use Rattle.vm_model.specs.declared.script.Header.{Header}
-use Rattle.vm_model.specs.Channels.{DownInOrder, UpInOrder, down_port, down_words, up_port, up_words}
+use Rattle.vm_model.specs.Channels.{down_port, down_words, up_port, up_words}
 use Rattle.vm_model.specs.Coherence.{NothingIsAsked, Quiet}
 use Rattle.vm_model.specs.Controls.{live_control}
 use Rattle.vm_model.specs.Founded.{IsFounded}
@@ -28,14 +28,13 @@ use Rattle.vm_quiet.proofs.Letters.{none_queued}
 use Rattle.vm_quiet.proofs.Quiet.{ready_now, shared_supplied}
 use Rattle.vm_quiet.specs.Quiet.{SharedAreAnswered}
 use Rattle.vm_shared.proofs.Founded.{founded}
+use Rattle.vm_shared.proofs.Order.{down_in_order, up_in_order}
 use Rattle.vm_shared.proofs.Ready.{as_ready}
 use Rattle.vm_shared.proofs.Steps.{done_now, steps_done}
 
 -- what is known of a history of shared memory in which nothing is undelivered
 pub record IsStill (header : Header) (outside : Outside) (history : List Event) : Type 0 where
   pub causes : EachEvent (HasCause header outside) history
-  pub up : UpInOrder history
-  pub down : DownInOrder history
   pub steps : BeforeSteps (IsPaid header) history
   pub paid : IsPaid header history
   pub delivered : undelivered history ≡ []
@@ -50,7 +49,7 @@ live_some s live is lives = sym is ∙ pick s.live lives
 pub quiet_part : (header : Header) (outside : Outside) (history : List Event) (o p : ℕ) → IsStill header outside history → is_wild header o ≡ false → ActsLicensed header.size (page_part header.size o p history) → Quiet (page_part header.size o p history)
 quiet_part header outside history o p still supplied licensed =
     record {
-      no_up = λ h. page_queue header.size history h o p still.up ∙ ap (up_words p) (none_queued (up_port h o) history still.delivered);
+      no_up = λ h. page_queue header.size history h o p (up_in_order header outside history still.causes) ∙ ap (up_words p) (none_queued (up_port h o) history still.delivered);
       no_down = λ h. by h (side h (page_part header.size o p history)).live refl;
       all_ready = λ h live.
           as_ready header.size h o p history known live
@@ -64,7 +63,7 @@ quiet_part header outside history o p still supplied licensed =
 
     by : (h : ℕ) (b : Bool) → (side h (page_part header.size o p history)).live ≡ b → (side h (page_part header.size o p history)).down ≡ []
     by h true live =
-        page_descent header.size history h o p still.down live ∙ ap (down_words p) (none_queued (down_port h o (side h (page_part header.size o p history)).control) history still.delivered)
+        page_descent header.size history h o p (down_in_order header outside history still.causes) live ∙ ap (down_words p) (none_queued (down_port h o (side h (page_part header.size o p history)).control) history still.delivered)
     by h false live = ((world header.size (page_part header.size o p history) licensed).each h).gone_down live
 
 -- what the part says is what the hosts have

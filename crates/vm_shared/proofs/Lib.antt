@@ -1,4 +1,9 @@
 pub mod Founded
 pub mod Steps
 pub mod Ready
+pub mod Speakers
+pub mod Order
+pub mod Numbering
+pub mod Servers
 pub mod Answered
+pub mod Protocol

@@ -6,15 +6,18 @@
 //! whole history's events, so that what the page law says holds of each page of each shared object.
 #![tactic(auto)]
 
-ghost use Rattle.std.specs.Prelude.{ℕ, List, [], ◌≡◌, true};
+ghost use Rattle.std.specs.Prelude.{ℕ, List, [], ◌≡◌, ◌<◌, ◌⊎◌, true, Some};
+ghost use Rattle.vm_base.specs.declared.ids.PageNo.{PageNo};
 ghost use Rattle.vm_model.specs.declared.event.Event.{Event};
+ghost use Rattle.vm_model.specs.declared.message.Message.TheVariants as message;
 ghost use Rattle.vm_model.specs.declared.script.Header.{Header};
-ghost use Rattle.vm_model.specs.Channels.{DownInOrder, UpInOrder};
+ghost use Rattle.vm_model.specs.Channels.{queue, up_port};
 ghost use Rattle.vm_model.specs.Coherence.{Done, StepsDone};
 ghost use Rattle.vm_model.specs.Founded.{IsFounded};
 ghost use Rattle.vm_model.specs.Moments.{BeforeSteps, EachEvent};
 ghost use Rattle.vm_model.specs.PageLicences.{ActsLicensed};
 ghost use Rattle.vm_model.specs.PagePart.{page_part};
+ghost use Rattle.vm_model.specs.Server.{NoRequest, NoUpgrade, first, line};
 ghost use Rattle.vm_model.specs.Side.{side};
 ghost use Rattle.vm_legal.specs.Accesses.{is_ready};
 ghost use Rattle.vm_legal.specs.Debts.{IsPaid};
@@ -46,5 +49,18 @@ pub fn steps_are_done()
 /// object is asked, and no unlock of one is outstanding.
 #[tactic(auto, using(crate::proofs::Answered::all_answered))]
 pub fn nobody_waits_for_the_server()
-    ensures answered { (header : Header) (outside : Outside) (history : List Event) → EachEvent (HasCause header outside) history → UpInOrder history → DownInOrder history → ((o p : ℕ) → is_shared header o ≡ true → ActsLicensed header.size (page_part header.size o p history)) → BeforeSteps (IsPaid header) history → IsPaid header history → AllServed header history → undelivered history ≡ [] → SharedAreAnswered header history }
+    ensures answered { (header : Header) (outside : Outside) (history : List Event) → EachEvent (HasCause header outside) history → ((o p : ℕ) → is_shared header o ≡ true → ActsLicensed header.size (page_part header.size o p history)) → BeforeSteps (IsPaid header) history → IsPaid header history → AllServed header history → undelivered history ≡ [] → SharedAreAnswered header history }
+{}
+
+/// What the server of shared memory is promised of the message that it takes, before it looks at it. The host
+/// of a request, or of the end of a control, has no request in the line, and that of an unlock no upgrade. Where
+/// a host is awaited, it says that it is done, and that a control ends, of the control for which it is awaited;
+/// an end is so of every page. A request is to read or to write, an unlock to write, and a completion of one page.
+///
+/// That a return is a whole page, and that the host is one of the header's, doesn't follow from causes.
+pub fn takings_keep_the_protocol()
+    ensures request { (header : Header) (outside : Outside) (h o control access : ℕ) (page : PageNo) (past : List Event) → EachEvent (HasCause header outside) past → ActsLicensed header.size (page_part header.size o page.0 past) → first (queue (up_port h o) past) ≡ Some (message.Request control page access) → NoRequest h (line (page_part header.size o page.0 past)) × ((access ≡ 1) ⊎ (access ≡ 3)) }
+    ensures unlock { (header : Header) (outside : Outside) (h o control access : ℕ) (page : PageNo) (past : List Event) → EachEvent (HasCause header outside) past → BeforeSteps (IsPaid header) past → ActsLicensed header.size (page_part header.size o page.0 past) → first (queue (up_port h o) past) ≡ Some (message.Unlock control page access) → NoUpgrade h (line (page_part header.size o page.0 past)) × (access ≡ 3) }
+    ensures completed { (header : Header) (outside : Outside) (h o control count : ℕ) (page : PageNo) (past : List Event) → EachEvent (HasCause header outside) past → BeforeSteps (IsPaid header) past → is_shared header o ≡ true → ActsLicensed header.size (page_part header.size o page.0 past) → first (queue (up_port h o) past) ≡ Some (message.Completed control page count) → (count ≡ 1) × ((side h (page_part header.size o page.0 past)).awaited_control ≡ control) }
+    ensures ended { (header : Header) (outside : Outside) (h o control p : ℕ) (past : List Event) → EachEvent (HasCause header outside) past → BeforeSteps (IsPaid header) past → ActsLicensed header.size (page_part header.size o p past) → first (queue (up_port h o) past) ≡ Some (message.Terminate control) → NoRequest h (line (page_part header.size o p past)) × (0 < (side h (page_part header.size o p past)).awaits → (side h (page_part header.size o p past)).awaited_control ≡ control) }
 {}
