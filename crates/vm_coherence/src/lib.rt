@@ -23,6 +23,7 @@ ghost use Rattle.vm_model.specs.Side.{side};
 ghost use Rattle.vm_model.specs.Server.{current, first, line, NoRequest, NoUpgrade};
 ghost use Rattle.vm_model.specs.PageLicences.{ActsLicensed};
 ghost use Rattle.vm_model.specs.PagePart.{page_part, world_part};
+ghost use Rattle.vm_coherence.specs.Carried.{IsCarriedAt};
 ghost use Rattle.vm_coherence.specs.Crossing.{crossing};
 ghost use Rattle.vm_coherence.specs.Idle.{flushed, idle_request};
 ghost use Rattle.vm_coherence.specs.Locals.{SideIsLocal};
@@ -74,6 +75,15 @@ pub fn protocol_law()
     ensures completed { (size h control count : ℕ) (acts : List Act) → ActsLicensed size acts → StepsDone acts → first (side h acts).up ≡ Some (Doing control count) → (side h acts).awaited_control ≡ control }
     ensures ended_unasked { (size h control : ℕ) (acts : List Act) → ActsLicensed size acts → first (side h acts).up ≡ Some (Ending control) → NoRequest h (line acts) }
     ensures ended { (size h control : ℕ) (acts : List Act) → ActsLicensed size acts → StepsDone acts → first (side h acts).up ≡ Some (Ending control) → 0 < (side h acts).awaits → (side h acts).awaited_control ≡ control }
+{}
+
+/// Whatever a host waits for of a page is on its way, or with the server, and so is whatever the server
+/// waits for: a request in the queue up, in the server's line, or answered in the queue down; an unlock
+/// likewise; and of a host that is awaited the lock, that it is done, or the end of the control. Only what
+/// stands in the line waits for somebody else.
+#[tactic(auto, using(crate::proofs::Carrying::carried))]
+pub fn carried_law()
+    ensures carried { (size : ℕ) (acts : List Act) → ActsLicensed size acts → StepsDone acts → (h : ℕ) → IsCarriedAt h acts }
 {}
 
 /// A worked history of a whole system, of 16-byte pages: two hosts map one page and read it, host 0
