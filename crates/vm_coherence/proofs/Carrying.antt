@@ -107,6 +107,7 @@ carried size past licensed done h =
       unlocking = λ is here. unlocking (first_of_two (unlocks_left s.up + upgrades h past) (sum_down locks s.down) (k.unlock_carried is here));
       awaited = λ some. awaited (first_of_two (sum_down any_reply s.down + s.step) (sum_up (does_of s.awaited_control) s.up + sum_up (ends s.awaited_control) s.up) (k.awaited_carried some));
       living = λ is. lives s.live refl is;
+      having = λ some. has s.live refl some;
       reached = λ is. let some : 0 < sum_down any_reply s.down + s.step = omega (arith, down_counts any_reply spec.recalls recall_counts s.down is) in (ok.mine_live some, ok.mine some);
     }
   where
@@ -125,6 +126,10 @@ carried size past licensed done h =
     lives : (b : Bool) → s.live ≡ b → s.asked ≡ true → s.live ≡ true
     lives true e is = e
     lives false e is = absurd (let bad : false ≡ true = sym (ok.gone_asked e) ∙ is in cc)
+
+    has : (b : Bool) → s.live ≡ b → 0 < s.right → s.live ≡ true
+    has true e some = e
+    has false e some = absurd (omega (arith, ok.gone_right e, some))
 
     asking : 0 < sum_up asks s.up → list_any (spec.asks_as s.control) s.up ≡ true
     asking some = up_is (asks_of s.control) (spec.asks_as s.control) (asks_test s.control) s.up (omega (arith, some, asks_sum s.control s.up, k.no_strange))

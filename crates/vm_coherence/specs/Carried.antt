@@ -56,6 +56,7 @@ pub record IsCarriedAt (h : ℕ) (past : List Act) : Type 0 where
   pub awaited : 0 < (side h past).awaits
       → (list_any recalls (side h past).down ≡ true) ⊎ ((0 < (side h past).step)
       ⊎ ((list_any (does_as (side h past).awaited_control) (side h past).up ≡ true) ⊎ (list_any (ends_as (side h past).awaited_control) (side h past).up ≡ true)))
-  -- only a live control is asked for, and it is the live one for which the host is awaited while the lock is on its way
+  -- only a live control asks and has pages, and it is the live one for which the host is awaited while the lock is on its way
   pub living : (side h past).asked ≡ true → (side h past).live ≡ true
+  pub having : 0 < (side h past).right → (side h past).live ≡ true
   pub reached : list_any recalls (side h past).down ≡ true → ((side h past).live ≡ true) × ((side h past).awaited_control ≡ (side h past).control)

@@ -39,7 +39,7 @@ pub record IsStill (header : Header) (outside : Outside) (history : List Event) 
   pub paid : IsPaid header history
   pub delivered : undelivered history ≡ []
 
-live_some : (s : Side) (live : Option ℕ) → (if s.live then Some s.control else None) ≡ live → s.live ≡ true → live ≡ Some s.control
+pub live_some : (s : Side) (live : Option ℕ) → (if s.live then Some s.control else None) ≡ live → s.live ≡ true → live ≡ Some s.control
 live_some s live is lives = sym is ∙ pick s.live lives
   where
     pick : (b : Bool) → b ≡ true → (if b then Some s.control else None) ≡ Some s.control
@@ -67,7 +67,7 @@ quiet_part header outside history o p still supplied licensed =
     by h false live = ((world header.size (page_part header.size o p history) licensed).each h).gone_down live
 
 -- what the part says is what the hosts have
-has_right : (page : Local) (right : ℕ) → right ≡ right_now page → page.here ≡ true → 0 < right
+pub has_right : (page : Local) (right : ℕ) → right ≡ right_now page → page.here ≡ true → 0 < right
 has_right page right is here = subst (λ n. 0 < n) (sym is) (pick page.here here)
   where
     above : (lock : ℕ) → 0 < right_of lock

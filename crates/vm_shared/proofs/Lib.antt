@@ -6,4 +6,5 @@ pub mod Order
 pub mod Numbering
 pub mod Servers
 pub mod Answered
+pub mod Carried
 pub mod Protocol

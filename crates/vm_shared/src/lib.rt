@@ -26,6 +26,7 @@ ghost use Rattle.vm_legal.specs.Outside.{Outside, is_shared};
 ghost use Rattle.vm_legal.specs.Prompt.{AllServed};
 ghost use Rattle.vm_legal.specs.Undelivered.{undelivered};
 ghost use Rattle.vm_quiet.specs.Quiet.{SharedAreAnswered};
+ghost use Rattle.vm_shared.specs.Carried.{SharedAreCarried};
 
 /// What the page law takes for granted of each event: its page is here, its task lives, its control is
 /// the live one.
@@ -63,4 +64,13 @@ pub fn takings_keep_the_protocol()
     ensures unlock { (header : Header) (outside : Outside) (h o control access : ℕ) (page : PageNo) (past : List Event) → EachEvent (HasCause header outside) past → BeforeSteps (IsPaid header) past → ActsLicensed header.size (page_part header.size o page.0 past) → first (queue (up_port h o) past) ≡ Some (message.Unlock control page access) → NoUpgrade h (line (page_part header.size o page.0 past)) × (access ≡ 3) }
     ensures completed { (header : Header) (outside : Outside) (h o control count : ℕ) (page : PageNo) (past : List Event) → EachEvent (HasCause header outside) past → BeforeSteps (IsPaid header) past → is_shared header o ≡ true → ActsLicensed header.size (page_part header.size o page.0 past) → first (queue (up_port h o) past) ≡ Some (message.Completed control page count) → (count ≡ 1) × ((side h (page_part header.size o page.0 past)).awaited_control ≡ control) }
     ensures ended { (header : Header) (outside : Outside) (h o control p : ℕ) (past : List Event) → EachEvent (HasCause header outside) past → BeforeSteps (IsPaid header) past → ActsLicensed header.size (page_part header.size o p past) → first (queue (up_port h o) past) ≡ Some (message.Terminate control) → NoRequest h (line (page_part header.size o p past)) × (0 < (side h (page_part header.size o p past)).awaits → (side h (page_part header.size o p past)).awaited_control ≡ control) }
+{}
+
+/// Where each step has paid, what is asked of the server of shared memory is on its way: of each page that is
+/// asked, and of each unlock that is outstanding, the message to the server or its answer is undelivered, or its
+/// host stands in the server's line; and if of each page for which somebody stands in line some host is awaited,
+/// a message of that page is undelivered then too.
+#[tactic(auto, using(crate::proofs::Carried::shared_carried))]
+pub fn what_the_server_is_asked_is_on_its_way()
+    ensures carried { (header : Header) (outside : Outside) (history : List Event) → EachEvent (HasCause header outside) history → ((o p : ℕ) → is_shared header o ≡ true → ActsLicensed header.size (page_part header.size o p history)) → BeforeSteps (IsPaid header) history → IsPaid header history → AllServed header history → SharedAreCarried header history }
 {}
