@@ -29,7 +29,7 @@ use Rattle.vm_quiet.proofs.Quiet.{ready_now, shared_supplied}
 use Rattle.vm_quiet.specs.Quiet.{SharedAreAnswered}
 use Rattle.vm_shared.proofs.Founded.{founded}
 use Rattle.vm_shared.proofs.Order.{down_in_order, up_in_order}
-use Rattle.vm_shared.proofs.Ready.{as_ready}
+use Rattle.vm_shared.proofs.Stepped.{stepped_of}
 use Rattle.vm_shared.proofs.Steps.{done_now, steps_done}
 
 -- what is known of a history of shared memory in which nothing is undelivered
@@ -46,16 +46,16 @@ live_some s live is lives = sym is ∙ pick s.live lives
     pick true e = refl
     pick false e = absurd (let bad : false ≡ true = e in cc)
 
-pub quiet_part : (header : Header) (outside : Outside) (history : List Event) (o p : ℕ) → IsStill header outside history → is_wild header o ≡ false → ActsLicensed header.size (page_part header.size o p history) → Quiet (page_part header.size o p history)
-quiet_part header outside history o p still supplied licensed =
+pub quiet_part : (header : Header) (outside : Outside) (history : List Event) (o p : ℕ) → IsStill header outside history → is_shared header o ≡ true → ActsLicensed header.size (page_part header.size o p history) → Quiet (page_part header.size o p history)
+quiet_part header outside history o p still shared licensed =
     record {
       no_up = λ h. page_queue header.size history h o p (up_in_order header outside history still.causes) ∙ ap (up_words p) (none_queued (up_port h o) history still.delivered);
       no_down = λ h. by h (side h (page_part header.size o p history)).live refl;
       all_ready = λ h live.
-          as_ready header.size h o p history known live
-          ∙ ready_now header outside history h o (side h (page_part header.size o p history)).control still.causes still.steps still.paid still.delivered supplied
+          (stepped_of header outside history still.causes h o p shared).ready live
+          ∙ ready_now header outside history h o (side h (page_part header.size o p history)).control still.causes still.steps still.paid still.delivered (shared_supplied header o shared)
           (live_some (side h (page_part header.size o p history)) (live_control h o history) (side_is_local header.size history h o p known).control live);
-      done = done_now header outside o p history still.causes still.paid;
+      done = done_now header outside o p history shared still.causes still.paid;
     }
   where
     known : EachEvent (IsFounded header.size) history
@@ -91,5 +91,5 @@ all_answered header outside history still licensed served =
 
     none : (o p : ℕ) → is_shared header o ≡ true → NothingIsAsked (page_part header.size o p history)
     none o p shared =
-        answered header.size (page_part header.size o p history) (licensed o p shared) (steps_done header outside o p history still.causes still.steps) (served o p shared)
-        (quiet_part header outside history o p still (shared_supplied header o shared) (licensed o p shared))
+        answered header.size (page_part header.size o p history) (licensed o p shared) (steps_done header outside o p history shared still.causes still.steps) (served o p shared)
+        (quiet_part header outside history o p still shared (licensed o p shared))

@@ -103,11 +103,11 @@ record IsPart (header : Header) (h o p : ℕ) (history : List Event) : Type 0 wh
 part_of : (header : Header) (outside : Outside) (h o p : ℕ) (history : List Event) → IsPaidFor header outside history → is_shared header o ≡ true → IsPart header h o p history
 part_of header outside h o p history known shared =
     record {
-      at = carried header.size (page_part header.size o p history) (known.licensed o p shared) (steps_done header outside o p history known.causes known.steps) h;
+      at = carried header.size (page_part header.size o p history) (known.licensed o p shared) (steps_done header outside o p history shared known.causes known.steps) h;
       tied = side_is_local header.size history h o p (founded header outside history known.causes);
       up = page_queue header.size history h o p (up_in_order header outside history known.causes);
       down = page_descent header.size history h o p (down_in_order header outside history known.causes);
-      done = done_now header outside o p history known.causes known.paid h;
+      done = done_now header outside o p history shared known.causes known.paid h;
     }
 
 sent_up : (header : Header) (h o p : ℕ) (history : List Event) → IsPart header h o p history → (test : UpWord → Bool) (such : Message → Bool) → ((m : Message) → test (up_word p m) ≡ true → such m ≡ true)

@@ -1,10 +1,13 @@
 pub mod Founded
-pub mod Steps
-pub mod Ready
 pub mod Speakers
 pub mod Order
 pub mod Numbering
+pub mod Declared
 pub mod Servers
+pub mod Kept
+pub mod Stepped
+pub mod Waiters
+pub mod Steps
 pub mod Answered
 pub mod Carried
 pub mod Protocol

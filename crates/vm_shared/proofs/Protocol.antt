@@ -24,9 +24,10 @@ use Rattle.vm_legal.specs.Licences.{HasCause, LockRequest, MaySendUp, lock_taken
 use Rattle.vm_legal.specs.Outside.{Outside, is_shared}
 use Rattle.vm_coherence.proofs.Channels.{page_queue}
 use Rattle.vm_coherence.proofs.Protocol.{completed_awaited, ended_awaited, ended_unasked, one_request, one_unlock}
+use Rattle.vm_quiet.proofs.Letters.{never}
 use Rattle.vm_shared.proofs.Order.{up_in_order}
 use Rattle.vm_shared.proofs.Servers.{IsServersLock, IsServersRequest, lock_is}
-use Rattle.vm_shared.proofs.Steps.{never, steps_done}
+use Rattle.vm_shared.proofs.Steps.{steps_done}
 
 -- the word of the oldest message is the oldest of the page's words
 
@@ -177,15 +178,15 @@ request_alone header outside h o control access page past causes licensed head =
         (one_request header.size h control access (page_part header.size o page.0 past) licensed w, numbered_first (side h (page_part header.size o page.0 past)).up (Asking control access) w (numbered header.size (page_part header.size o page.0 past) licensed h))
     by false is word = never is
 
-pub unlock_alone : (header : Header) (outside : Outside) (h o control access : ℕ) (page : PageNo) (past : List Event) → EachEvent (HasCause header outside) past → BeforeSteps (IsPaid header) past → ActsLicensed header.size (page_part header.size o page.0 past)
+pub unlock_alone : (header : Header) (outside : Outside) (h o control access : ℕ) (page : PageNo) (past : List Event) → EachEvent (HasCause header outside) past → BeforeSteps (IsPaid header) past → is_shared header o ≡ true → ActsLicensed header.size (page_part header.size o page.0 past)
     → first (queue (up_port h o) past) ≡ Some (message.Unlock control page access) → NoUpgrade h (line (page_part header.size o page.0 past)) × (access ≡ 3)
-unlock_alone header outside h o control access page past causes steps licensed head = by (page.0 == page.0) (itself page.0) (taken_word header outside h o page.0 (message.Unlock control page access) past causes head)
+unlock_alone header outside h o control access page past causes steps shared licensed head = by (page.0 == page.0) (itself page.0) (taken_word header outside h o page.0 (message.Unlock control page access) past causes head)
   where
     by : (b : Bool) → b ≡ true → (((if b then Unlocking access else OtherUp) ≡ OtherUp → ⊥) → first (side h (page_part header.size o page.0 past)).up ≡ Some (if b then Unlocking access else OtherUp))
         → NoUpgrade h (line (page_part header.size o page.0 past)) × (access ≡ 3)
     by true is word =
         let w : first (side h (page_part header.size o page.0 past)).up ≡ Some (Unlocking access) = word (λ e. cc) in
-        (one_unlock header.size h access (page_part header.size o page.0 past) licensed (steps_done header outside o page.0 past causes steps) w, numbered_first (side h (page_part header.size o page.0 past)).up (Unlocking access) w (numbered header.size (page_part header.size o page.0 past) licensed h))
+        (one_unlock header.size h access (page_part header.size o page.0 past) licensed (steps_done header outside o page.0 past shared causes steps) w, numbered_first (side h (page_part header.size o page.0 past)).up (Unlocking access) w (numbered header.size (page_part header.size o page.0 past) licensed h))
     by false is word = never is
 
 pub completed_mine : (header : Header) (outside : Outside) (h o control count : ℕ) (page : PageNo) (past : List Event) → EachEvent (HasCause header outside) past → BeforeSteps (IsPaid header) past → is_shared header o ≡ true → ActsLicensed header.size (page_part header.size o page.0 past)
@@ -200,11 +201,11 @@ completed_mine header outside h o control count page past causes steps shared li
 
     by : (b : Bool) → b ≡ true → (((if b then Doing control count else OtherUp) ≡ OtherUp → ⊥) → first (side h (page_part header.size o page.0 past)).up ≡ Some (if b then Doing control count else OtherUp))
         → (side h (page_part header.size o page.0 past)).awaited_control ≡ control
-    by true is word = completed_awaited header.size h control count (page_part header.size o page.0 past) licensed (steps_done header outside o page.0 past causes steps) (word (λ e. cc))
+    by true is word = completed_awaited header.size h control count (page_part header.size o page.0 past) licensed (steps_done header outside o page.0 past shared causes steps) (word (λ e. cc))
     by false is word = never is
 
-pub ended_mine : (header : Header) (outside : Outside) (h o control p : ℕ) (past : List Event) → EachEvent (HasCause header outside) past → BeforeSteps (IsPaid header) past → ActsLicensed header.size (page_part header.size o p past)
+pub ended_mine : (header : Header) (outside : Outside) (h o control p : ℕ) (past : List Event) → EachEvent (HasCause header outside) past → BeforeSteps (IsPaid header) past → is_shared header o ≡ true → ActsLicensed header.size (page_part header.size o p past)
     → first (queue (up_port h o) past) ≡ Some (message.Terminate control) → NoRequest h (line (page_part header.size o p past)) × (0 < (side h (page_part header.size o p past)).awaits → (side h (page_part header.size o p past)).awaited_control ≡ control)
-ended_mine header outside h o control p past causes steps licensed head =
+ended_mine header outside h o control p past causes steps shared licensed head =
     let w : first (side h (page_part header.size o p past)).up ≡ Some (Ending control) = taken_word header outside h o p (message.Terminate control) past causes head (λ e. let bad : Ending control ≡ OtherUp = e in cc) in
-    (ended_unasked header.size h control (page_part header.size o p past) licensed w, ended_awaited header.size h control (page_part header.size o p past) licensed (steps_done header outside o p past causes steps) w)
+    (ended_unasked header.size h control (page_part header.size o p past) licensed w, ended_awaited header.size h control (page_part header.size o p past) licensed (steps_done header outside o p past shared causes steps) w)

@@ -19,7 +19,6 @@ ghost use Rattle.vm_model.specs.PageLicences.{ActsLicensed};
 ghost use Rattle.vm_model.specs.PagePart.{page_part};
 ghost use Rattle.vm_model.specs.Server.{NoRequest, NoUpgrade, first, line};
 ghost use Rattle.vm_model.specs.Side.{side};
-ghost use Rattle.vm_legal.specs.Accesses.{is_ready};
 ghost use Rattle.vm_legal.specs.Debts.{IsPaid};
 ghost use Rattle.vm_legal.specs.Licences.{HasCause};
 ghost use Rattle.vm_legal.specs.Outside.{Outside, is_shared};
@@ -35,14 +34,13 @@ pub fn events_are_founded()
     ensures founded { (header : Header) (outside : Outside) (history : List Event) → EachEvent (HasCause header outside) history → EachEvent (IsFounded header.size) history }
 {}
 
-/// A page's part has a step of a host under way only where the present step of the history took a lock with
-/// a reply over the page and hasn't said that it is done: so where steps pay what they owe, no step ends with
-/// one under way. And a live control of the part is ready when the host's is.
-#[tactic(auto, using(crate::proofs::Steps::steps_done, crate::proofs::Steps::done_now, crate::proofs::Ready::as_ready))]
+/// A shared page's part has a step of a host under way only where the present step of the history took a lock
+/// with a reply over the page and hasn't said that it is done: so where steps pay what they owe, no step ends
+/// with one under way.
+#[tactic(auto, using(crate::proofs::Steps::steps_done, crate::proofs::Steps::done_now))]
 pub fn steps_are_done()
-    ensures steps { (header : Header) (outside : Outside) (o p : ℕ) (history : List Event) → EachEvent (HasCause header outside) history → BeforeSteps (IsPaid header) history → StepsDone (page_part header.size o p history) }
-    ensures now { (header : Header) (outside : Outside) (o p : ℕ) (past : List Event) → EachEvent (HasCause header outside) past → IsPaid header past → Done (page_part header.size o p past) }
-    ensures ready { (size h o p : ℕ) (history : List Event) → EachEvent (IsFounded size) history → (side h (page_part size o p history)).live ≡ true → (side h (page_part size o p history)).ready ≡ is_ready h o history }
+    ensures steps { (header : Header) (outside : Outside) (o p : ℕ) (history : List Event) → is_shared header o ≡ true → EachEvent (HasCause header outside) history → BeforeSteps (IsPaid header) history → StepsDone (page_part header.size o p history) }
+    ensures now { (header : Header) (outside : Outside) (o p : ℕ) (past : List Event) → is_shared header o ≡ true → EachEvent (HasCause header outside) past → IsPaid header past → Done (page_part header.size o p past) }
 {}
 
 /// Where nothing is undelivered and each step has paid what it owes, the server of shared memory has answered
@@ -61,9 +59,9 @@ pub fn nobody_waits_for_the_server()
 /// That a return is a whole page, and that the host is one of the header's, doesn't follow from causes.
 pub fn takings_keep_the_protocol()
     ensures request { (header : Header) (outside : Outside) (h o control access : ℕ) (page : PageNo) (past : List Event) → EachEvent (HasCause header outside) past → ActsLicensed header.size (page_part header.size o page.0 past) → first (queue (up_port h o) past) ≡ Some (message.Request control page access) → NoRequest h (line (page_part header.size o page.0 past)) × ((access ≡ 1) ⊎ (access ≡ 3)) }
-    ensures unlock { (header : Header) (outside : Outside) (h o control access : ℕ) (page : PageNo) (past : List Event) → EachEvent (HasCause header outside) past → BeforeSteps (IsPaid header) past → ActsLicensed header.size (page_part header.size o page.0 past) → first (queue (up_port h o) past) ≡ Some (message.Unlock control page access) → NoUpgrade h (line (page_part header.size o page.0 past)) × (access ≡ 3) }
+    ensures unlock { (header : Header) (outside : Outside) (h o control access : ℕ) (page : PageNo) (past : List Event) → EachEvent (HasCause header outside) past → BeforeSteps (IsPaid header) past → is_shared header o ≡ true → ActsLicensed header.size (page_part header.size o page.0 past) → first (queue (up_port h o) past) ≡ Some (message.Unlock control page access) → NoUpgrade h (line (page_part header.size o page.0 past)) × (access ≡ 3) }
     ensures completed { (header : Header) (outside : Outside) (h o control count : ℕ) (page : PageNo) (past : List Event) → EachEvent (HasCause header outside) past → BeforeSteps (IsPaid header) past → is_shared header o ≡ true → ActsLicensed header.size (page_part header.size o page.0 past) → first (queue (up_port h o) past) ≡ Some (message.Completed control page count) → (count ≡ 1) × ((side h (page_part header.size o page.0 past)).awaited_control ≡ control) }
-    ensures ended { (header : Header) (outside : Outside) (h o control p : ℕ) (past : List Event) → EachEvent (HasCause header outside) past → BeforeSteps (IsPaid header) past → ActsLicensed header.size (page_part header.size o p past) → first (queue (up_port h o) past) ≡ Some (message.Terminate control) → NoRequest h (line (page_part header.size o p past)) × (0 < (side h (page_part header.size o p past)).awaits → (side h (page_part header.size o p past)).awaited_control ≡ control) }
+    ensures ended { (header : Header) (outside : Outside) (h o control p : ℕ) (past : List Event) → EachEvent (HasCause header outside) past → BeforeSteps (IsPaid header) past → is_shared header o ≡ true → ActsLicensed header.size (page_part header.size o p past) → first (queue (up_port h o) past) ≡ Some (message.Terminate control) → NoRequest h (line (page_part header.size o p past)) × (0 < (side h (page_part header.size o p past)).awaits → (side h (page_part header.size o p past)).awaited_control ≡ control) }
 {}
 
 /// Where each step has paid, what is asked of the server of shared memory is on its way: of each page that is
