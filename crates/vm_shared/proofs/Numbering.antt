@@ -2,19 +2,17 @@
 use Rattle.std.proofs.Common.{◌≡◌, ℕ, zero, suc, ◌+◌, ◌<◌, ◌≤◌, ◌==◌, ◌∙◌, List, [], ◌∷◌, Bool, true, false, Option, Some, None, if◌then◌else◌, refl, ap, sym, subst, ⊎_elim, arith}
 use Rattle.std.proofs.lemmas.Bool.{cases_lt}
 use Rattle.vm_base.specs.declared.entry.Entry.{Entry}
-use Rattle.vm_base.specs.declared.ids.ObjectId.{ObjectId}
-use Rattle.vm_base.specs.declared.ids.RegionId.{RegionId}
 use Rattle.vm_base.specs.Entries.{entered, rewritten}
 use Rattle.vm_model.specs.declared.event.Event.{Event}
 use Rattle.vm_model.specs.declared.event.Event.TheVariants as event
 use Rattle.vm_model.specs.declared.script.Header.{Header}
 use Rattle.vm_model.specs.Moments.{EachEvent}
 use Rattle.vm_model.specs.Named.{named}
-use Rattle.vm_model.specs.Regions.{Backing, backing_of, next_object, next_region, region_of}
-use Rattle.vm_model.specs.Rows.{AllRows, FoundRow, HoldsOfParts, found_row, rows_entered, rows_map, rows_rewritten}
+use Rattle.vm_model.specs.Regions.{backing_of, next_region, region_of}
+use Rattle.vm_model.specs.Rows.{AllRows, HoldsOfParts, found_row, rows_entered, rows_map, rows_rewritten}
 use Rattle.vm_model.specs.Tasks.{entries_of}
-use Rattle.vm_model.specs.Waiting.{Access, Target, begins_copy, copy_target}
-use Rattle.vm_legal.specs.Accesses.{At, Comes, HasPlace, Waits, page_of}
+use Rattle.vm_model.specs.Waiting.{Target, begins_copy, copy_target}
+use Rattle.vm_legal.specs.Accesses.{At, Comes}
 use Rattle.vm_legal.specs.Licences.{HasCause}
 use Rattle.vm_legal.specs.Outside.{Outside}
 use Rattle.vm_legal.specs.Walks.{IsTop, Leads, Sight, Walks, sight}

@@ -1,5 +1,5 @@
 -- Each channel is in order: what is taken is the oldest, nothing is sent to a control before it begins, and controls have rising numbers.
-use Rattle.std.proofs.Common.{◌≡◌, ℕ, zero, suc, ◌+◌, ◌<◌, ◌≤◌, ◌==◌, ◌&&◌, ◌/◌, ◌%◌, ◌∙◌, List, [], ◌∷◌, ◌++◌, Bool, true, false, Option, Some, None, if◌then◌else◌, refl, ap, sym, subst, arith, replicate, inl, inr}
+use Rattle.std.proofs.Common.{◌≡◌, ℕ, ◌≤◌, ◌==◌, ◌&&◌, ◌/◌, List, [], ◌∷◌, Bool, true, false, Some, if◌then◌else◌, refl, arith, inl, inr}
 use Rattle.std.proofs.lemmas.Bool.Decides.{nat_tests}
 use Rattle.vm_base.specs.declared.ids.HostId.{HostId}
 use Rattle.vm_base.specs.declared.ids.ObjectId.{ObjectId}
@@ -14,17 +14,17 @@ use Rattle.vm_model.specs.declared.message.Message.{Message}
 use Rattle.vm_model.specs.declared.message.Message.TheVariants as message
 use Rattle.vm_model.specs.declared.script.Header.{Header}
 use Rattle.vm_model.specs.Channels.{DownFirst, DownInOrder, TakesFirst, UpInOrder, queue, up_port}
-use Rattle.vm_model.specs.Controls.{last_control, live_control}
+use Rattle.vm_model.specs.Controls.{last_control}
 use Rattle.vm_model.specs.Moments.{EachEvent}
 use Rattle.vm_model.specs.PagePart.{page_part}
 use Rattle.vm_model.specs.Server.{first}
 use Rattle.vm_model.specs.Side.{Side, side, side_after}
 use Rattle.vm_model.specs.TaskPlace.{means_page, task_host}
-use Rattle.vm_model.specs.Words.{Asking, Unlocking, Returning, Doing, Ending, OtherUp, DownWord, Supplying, Locking, Lacking, Failing, Readying, OtherDown, ActEffect, Opens, SendsUp, TakenUp, SentDown, TakesDown, Puts, Drops, Begins, Loads, Stores, Fails, BeginsCopy, Copies, EndsCopy, StepBegins, Nothing, Act, act_if, down_word, effect_on, sent_act_effect, times_meant, to_others, up_word}
+use Rattle.vm_model.specs.Words.{Asking, Unlocking, Returning, OtherUp, ActEffect, TakenUp, BeginsCopy, EndsCopy, StepBegins, Nothing, sent_act_effect, times_meant, to_others, up_word}
 use Rattle.vm_legal.specs.Licences.{HasCause, MaySendDown, MaySendUp, PagerSends, Says, ServerSends}
 use Rattle.vm_legal.specs.Outside.{Outside, kind_of}
 use Rattle.vm_quiet.proofs.Sane.{there_two}
-use Rattle.vm_shared.proofs.Speakers.{Numbers, UpTo, first_up_to, last_grows, numbers_of, speaker}
+use Rattle.vm_shared.proofs.Speakers.{Numbers, first_up_to, last_grows, numbers_of, speaker}
 
 takes_first : (header : Header) (outside : Outside) (e : Event) (past : List Event) → HasCause header outside e past → TakesFirst e past
 takes_first header outside (event.Taken (Up host object) m) past c = c.1.0

@@ -318,9 +318,11 @@ sent_init header host object control size past h o p s dead less up was =
     ap (λ (l : Option ℕ). step_in h o p (lock_taken past) ((host.0 == h && (object.0 == o && false)) || since (completes h o) past) l) (picked (host.0 == h && object.0 == o) (Some control) (live_control h o past) is)
     ∙ new_step h o p (last_control h o past) control (lock_taken past) ((host.0 == h && (object.0 == o && false)) || since (completes h o) past) up (less is) in
     record { ready = λ live. sym (picked (host.0 == h && object.0 == o) false (is_ready h o past) is); step = was.step ∙ zero_then ∙ sym zero_now })
-    (λ none. (chosen (host.0 == h && object.0 == o) false (is_ready h o past) none,
-    ap (λ (d : Bool). step_in h o p (lock_taken past) d (if host.0 == h && object.0 == o then Some control else live_control h o past)) (uncompleted (host.0 == h) (object.0 == o) (since (completes h o) past))
-    ∙ ap (λ (l : Option ℕ). step_in h o p (lock_taken past) (since (completes h o) past) l) (chosen (host.0 == h && object.0 == o) (Some control) (live_control h o past) none)))
+    (λ none. (
+      chosen (host.0 == h && object.0 == o) false (is_ready h o past) none,
+      ap (λ (d : Bool). step_in h o p (lock_taken past) d (if host.0 == h && object.0 == o then Some control else live_control h o past)) (uncompleted (host.0 == h) (object.0 == o) (since (completes h o) past))
+          ∙ ap (λ (l : Option ℕ). step_in h o p (lock_taken past) (since (completes h o) past) l) (chosen (host.0 == h && object.0 == o) (Some control) (live_control h o past) none),
+    ))
 
 gone : (control : ℕ) (live : Option ℕ) → live ≡ Some control → without_control control live ≡ None
 gone control live is = ap (without_control control) is ∙ ap (λ (b : Bool). if b then None else Some control) (itself control)
@@ -340,9 +342,11 @@ sent_terminate header host object control past h o p s lives was =
     let zero_now : step_in h o p (lock_taken past) d (if host.0 == h && object.0 == o then without_control control (live_control h o past) else live_control h o past) ≡ 0 =
     ap (λ (l : Option ℕ). step_in h o p (lock_taken past) d l) (picked (host.0 == h && object.0 == o) (without_control control (live_control h o past)) (live_control h o past) is ∙ gone control (live_control h o past) (lives is)) ∙ dead_step h o p (lock_taken past) d in
     record { ready = λ live. never live; step = sym zero_now })
-    (λ none. (refl,
-    ap (λ (d : Bool). step_in h o p (lock_taken past) d (if host.0 == h && object.0 == o then without_control control (live_control h o past) else live_control h o past)) (uncompleted (host.0 == h) (object.0 == o) (since (completes h o) past))
-    ∙ ap (λ (l : Option ℕ). step_in h o p (lock_taken past) (since (completes h o) past) l) (chosen (host.0 == h && object.0 == o) (without_control control (live_control h o past)) (live_control h o past) none)))
+    (λ none. (
+      refl,
+      ap (λ (d : Bool). step_in h o p (lock_taken past) d (if host.0 == h && object.0 == o then without_control control (live_control h o past) else live_control h o past)) (uncompleted (host.0 == h) (object.0 == o) (since (completes h o) past))
+          ∙ ap (λ (l : Option ℕ). step_in h o p (lock_taken past) (since (completes h o) past) l) (chosen (host.0 == h && object.0 == o) (without_control control (live_control h o past)) (live_control h o past) none),
+    ))
 
 -- a lock over another page is no step of this one
 other_step : (h o p page count : ℕ) (lock : Option LockRequest) (r : LockRequest) (done : Bool) (live : Option ℕ) → lock ≡ Some r → r.page ≡ page → r.count ≡ count → in_range p page count ≡ false → step_in h o p lock done live ≡ 0

@@ -394,7 +394,7 @@ reads_meant header o p task index object page target address bytes to past k c w
     let from : c.address ≡ address = ap copy_from (sym c.waits.waits ∙ waits) in
     let own = declared_top_own header past c.waits.at.entry.region.0 (page_at header.size (c.address + next_page task past * header.size) c.waits.at.entry) object page k.numbered c.declared c.is_top in
     let found : has_page header.size o p (c.address + next_page task past * header.size) (entry_at (c.address + next_page task past * header.size) (entries_of header.size task past))
-        ≡ (c.waits.at.entry.region.0 == o && page_at header.size (c.address + next_page task past * header.size) c.waits.at.entry == p) =
+    ≡ (c.waits.at.entry.region.0 == o && page_at header.size (c.address + next_page task past * header.size) c.waits.at.entry == p) =
     ap (λ x. has_page header.size o p (c.address + next_page task past * header.size) x) c.waits.at.found in
     ap (λ n. n == o && page == p) (sym own.region) ∙ (ap (λ n. c.waits.at.entry.region.0 == o && n == p) (sym own.page)
     ∙ (sym found ∙ ap (λ a. has_page header.size o p (a + next_page task past * header.size) (entry_at (a + next_page task past * header.size) (entries_of header.size task past))) from))
