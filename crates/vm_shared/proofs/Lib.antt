@@ -10,4 +10,8 @@ pub mod Waiters
 pub mod Rows
 pub mod Causes
 pub mod Pages
+pub mod Steps
+pub mod Answered
+pub mod Protocol
+pub mod Carried
 pub mod Run
