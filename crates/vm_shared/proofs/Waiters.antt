@@ -1,5 +1,5 @@
 -- Whoever waits for a page of shared memory is noted in the page's part: a load or a store among its waiters, a slow copy among its readers.
-use Rattle.std.proofs.Common.{ℕ, zero, suc, ◌≡◌, ◌≢◌, ◌+◌, ◌-◌, ◌*◌, ◌/◌, ◌%◌, ◌<◌, ◌≤◌, List, [], ◌∷◌, ◌++◌, filter, replicate, Bool, true, false, Option, Some, None, if◌then◌else◌, refl, sym, ap, subst, ◌∙◌, arith, not}
+use Rattle.std.proofs.Common.{ℕ, zero, suc, ◌≡◌, ◌+◌, ◌-◌, ◌*◌, ◌/◌, ◌%◌, ◌<◌, ◌≤◌, List, [], ◌∷◌, ◌++◌, filter, replicate, Bool, true, false, Option, Some, None, if◌then◌else◌, refl, sym, ap, subst, ◌∙◌, arith, not}
 use Rattle.std.proofs.lemmas.Bool.Decides.{nat_tests}
 use Rattle.std.specs.Prelude.{◌==◌, ◌&&◌, ◌||◌}
 use Rattle.vm_base.specs.declared.entry.Entry.{Entry}
@@ -22,7 +22,7 @@ use Rattle.vm_model.specs.TaskPlace.{has_page, means_page, task_host}
 use Rattle.vm_model.specs.Tasks.{entries_of, host_of}
 use Rattle.vm_model.specs.Waiters.{Waiter, any_load, any_reader, any_store, readers, readers_after, waiter_of, waiters, waiters_after, without_once, without_task}
 use Rattle.vm_model.specs.Waiting.{Access, Copying, Loading, Storing, address_of, is_store, next_page, waiting}
-use Rattle.vm_model.specs.Words.{Act, ActEffect, Begins, BeginsCopy, Copies, Drops, EndsCopy, Fails, Loads, Nothing, Opens, Puts, SendsUp, SentDown, StepBegins, Stores, TakenUp, TakesDown, act_if, act_of, effect_on, sent_act_effect, times_meant, to_others, up_word, down_word}
+use Rattle.vm_model.specs.Words.{Act, ActEffect, Begins, BeginsCopy, Copies, Drops, EndsCopy, Fails, Loads, Nothing, Puts, SentDown, StepBegins, Stores, TakenUp, TakesDown, act_if, act_of, effect_on, sent_act_effect, times_meant, to_others, up_word, down_word}
 use Rattle.vm_legal.specs.Accesses.{At, Waits, page_of}
 use Rattle.vm_legal.specs.Licences as L
 use Rattle.vm_legal.specs.Licences.{HasCause}
