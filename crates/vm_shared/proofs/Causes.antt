@@ -34,7 +34,8 @@ use Rattle.vm_coherence.proofs.Descent.{page_control, page_descent}
 use Rattle.vm_coherence.proofs.Locals.{side_is_local}
 use Rattle.vm_flat.proofs.Locals.{each_founded}
 use Rattle.vm_quiet.proofs.Letters.{never}
-use Rattle.vm_shared.proofs.Kept.{IsShareds, below, lives_of, shareds_of, still_lives, uncopied, unraised, unzeroed}
+use Rattle.vm_shared.proofs.Declared.{shared_declared}
+use Rattle.vm_shared.proofs.Kept.{IsShareds, lives_of, shareds_of, still_lives, uncopied, unraised, unzeroed}
 use Rattle.vm_shared.proofs.Order.{down_in_order, up_in_order}
 use Rattle.vm_shared.proofs.Rows.{asks_row, completes_row, drops_row, ends_row, hears_row, kept_reply, load_row, locked_step, names_store, opens_row, returns_row, store_row, takes_row, unlocks_row}
 use Rattle.vm_shared.proofs.Servers.{IsElsewhere, IsServersLock, IsServersRequest, lock_is, none_fails, shared_sends}
@@ -158,7 +159,7 @@ ends_sent header outside h o p control past caused shared c =
 
 up_sent : (header : Header) (outside : Outside) (doing : Command) (h o p : ℕ) (m : Message) (past : List Event) → EachEvent (HasCause header outside) past → is_shared header o ≡ true → MaySendUp header doing h o m past → Cause header.size h (sent_act_effect p m) (page_part header.size o p past)
 up_sent header outside doing h o p (message.Init control size) past caused shared c = opens_sent header outside h o p control size past caused shared c
-up_sent header outside doing h o p (message.Create control size) past caused shared c = let less = below header o shared in let above = c.temporary in absurd (omega (arith, less, above))
+up_sent header outside doing h o p (message.Create control size) past caused shared c = let less = shared_declared header o shared in let above = c.temporary in absurd (omega (arith, less, above))
 up_sent header outside doing h o p (message.Request control page access) past caused shared c =
     word_row header h o p control (page.0 == p) (Asking control access) past (λ is. at_place header h (SendsUp control (Asking control access)) past page.0 p o is (asks_sent header outside h o page.0 control access past caused shared c))
 up_sent header outside doing h o p (message.Unlock control page access) past caused shared c =
@@ -197,7 +198,7 @@ down_sent header h o p control m past c = absurd c
 drop_clean : (header : Header) (outside : Outside) (doing : Command) (h o p : ℕ) (past : List Event) → EachEvent (HasCause header outside) past → is_shared header o ≡ true → L.DropCause header doing h o p (page_on header h o p past) past → (page_on header h o p past).dirty ≡ false
 drop_clean header outside doing h o p past caused shared (L.DropCause.Reclaimed clean plain reclaims) = clean
 drop_clean header outside doing h o p past caused shared (L.DropCause.Ended clean plain declared unheld) = clean
-drop_clean header outside doing h o p past caused shared (L.DropCause.Unreached temporary unreached order) = let less = below header o shared in absurd (omega (arith, less, temporary))
+drop_clean header outside doing h o p past caused shared (L.DropCause.Unreached temporary unreached order) = let less = shared_declared header o shared in absurd (omega (arith, less, temporary))
 drop_clean header outside doing h o p past caused shared (L.DropCause.Flushed returns locked none) =
     let r : LockRequest = record { host = h; object = o; control = locked.control; page = locked.first; count = locked.count; returns = returns; flush = true; lock = locked.lock; reply = locked.reply } in
     let one : returns ≡ 1 = kind locked.reply (servers_lock header outside past caused r locked.taken shared) in

@@ -1,7 +1,7 @@
 -- What a host has of a shared page: its lock is none or one that prohibits writing, and it is never precious.
-use Rattle.std.proofs.Common.{◌≡◌, ℕ, ◌<◌, ◌≤◌, ◌==◌, ◌&&◌, ◌||◌, ◌∙◌, List, [], ◌∷◌, Bool, true, false, Option, Some, None, if◌then◌else◌, refl, sym, subst, arith, inl, inr}
+use Rattle.std.proofs.Common.{◌≡◌, ℕ, ◌≤◌, ◌==◌, ◌&&◌, ◌||◌, ◌∙◌, List, [], ◌∷◌, Bool, true, false, Option, Some, None, if◌then◌else◌, refl, sym, subst, arith, inl, inr}
 use Rattle.std.proofs.lemmas.Bool.Decides.{nat_tests}
-use Rattle.std.specs.Prelude.{◌⊎◌, nat_lt}
+use Rattle.std.specs.Prelude.{◌⊎◌}
 use Rattle.vm_base.specs.Pages.{little_endian_bytes}
 use Rattle.vm_model.specs.declared.event.Event.{Event}
 use Rattle.vm_model.specs.declared.event.Event.TheVariants as event
@@ -117,14 +117,6 @@ none_if false e is = tt
 
 apart : (header : Header) (o : ℕ) → is_shared header o ≡ true → named header ≤ o → ⊥
 apart header o shared above = never (sym (temporary_unshared header o above) ∙ shared)
-
--- a shared object is declared
-pub below : (header : Header) (o : ℕ) → is_shared header o ≡ true → o < named header
-below header o shared = by (nat_lt o (named header)) refl
-  where
-    by : (b : Bool) → nat_lt o (named header) ≡ b → o < named header
-    by true is = grind (arith, nat_tests)
-    by false is = absurd (apart header o shared (grind (arith, nat_tests)))
 
 pub unzeroed : (header : Header) (outside : Outside) (host o p : ℕ) (past : List Event) → EachEvent (HasCause header outside) past → is_shared header o ≡ true → Fills header host o p past ⊎ Bottoms header host o p past → ⊥
 unzeroed header outside host o p past caused shared (inl c) =

@@ -12,5 +12,9 @@ pub mod Causes
 pub mod Pages
 pub mod Flat
 pub mod Currents
+pub mod Steps
+pub mod Answered
+pub mod Protocol
+pub mod Carried
 pub mod Run
 pub mod OnlyWaiters

@@ -28,7 +28,7 @@ use Rattle.vm_coherence.proofs.Locals.{side_is_local}
 use Rattle.vm_flat.proofs.Locals.{each_founded}
 use Rattle.vm_quiet.proofs.Letters.{never}
 use Rattle.vm_quiet.proofs.Sane.{there_two}
-use Rattle.vm_shared.proofs.Kept.{below}
+use Rattle.vm_shared.proofs.Declared.{shared_declared}
 use Rattle.vm_shared.proofs.Speakers.{last_grows, numbers_of}
 
 -- the step that a page's part is in: 0 none, else by the kind of the lock with a reply over the page that isn't done yet, and whose control lives
@@ -387,7 +387,7 @@ sent : (header : Header) (why : Command) (host : HostId) (object : ObjectId) (m 
 sent header why host object (message.Init control size) past h o p s shared c up was =
     sent_init header host object control size past h o p s (λ is. there_two (λ g k. live_control g k past ≡ None) host.0 object.0 h o is c.none) (λ is. there_two (λ g k. last_control g k past < control) host.0 object.0 h o is (omega (arith, c.number))) up was
 sent header why host object (message.Create control size) past h o p s shared c up was =
-    let alone : (host.0 == h && object.0 == o) ≡ true → ⊥ = λ is. let less = below header o shared in let over = c.temporary in apart host.0 object.0 h o is less over in
+    let alone : (host.0 == h && object.0 == o) ≡ true → ⊥ = λ is. let less = shared_declared header o shared in let over = c.temporary in apart host.0 object.0 h o is less over in
     sent_init header host object control size past h o p s (λ is. absurd (alone is)) (λ is. absurd (alone is)) up was
   where
     apart : (a b h o : ℕ) → (a == h && b == o) ≡ true → o < named header → named header ≤ b → ⊥

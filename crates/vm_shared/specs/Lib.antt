@@ -1,2 +1,3 @@
 pub mod Kinds
+pub mod Carried
 pub mod Run

@@ -61,7 +61,7 @@ pub carries_all : (report : Report) (run : Script) (outside : Outside) (h : List
     → CarriesAll (Some run) h
 carries_all report run outside h before after s runs ends uncut =
     let legal = ends_legal report run outside h before after s ends uncut in
-    carried run.header outside h runs.built.paged (causes_of run outside h legal) legal.rests.paid legal.holds.paid
+    carried run.header outside h (causes_of run outside h legal) legal.rests.paid legal.holds.paid
 
 -- nothing has happened: nobody waits, and nothing is asked
 none_waits : (header : Header) → NobodyWaitsInVain header []
@@ -69,8 +69,8 @@ none_waits header = record { short = λ host task access below waits on. let bad
 
 none_carried : (header : Header) → IsCarried header []
 none_carried header = record {
-  asked = λ host o p is. absurd (cc);
-  opening = λ host o control live ready. let bad : None ≡ Some control = live in absurd (cc);
+  asked = λ host o p ours is. absurd (cc);
+  opening = λ host o control ours live ready. let bad : None ≡ Some control = live in absurd (cc);
 }
 
 pub none_wait_for_frames : (run : Script) (h : List Event) → h ≡ [] → WaitsForFramesAlone (Some run) h
