@@ -26,6 +26,9 @@ ghost use Rattle.vm_legal.specs.Outside.{Outside, is_shared};
 ghost use Rattle.vm_legal.specs.Walks.{page_on};
 ghost use Rattle.vm_shared.specs.Kinds.{NoneIsTemporary};
 ghost use Rattle.vm_shared.specs.Run as run;
+ghost use Rattle.vm_shared.specs.Waits.{IsWaiting, WaitersAgree};
+ghost use Rattle.vm_model.specs.Waiters.{Waiter, waiter_of, waiters};
+ghost use Rattle.vm_abroad.specs.Whose.{IsNewTask};
 ghost use Rattle.vm_model.specs.Side.{side};
 ghost use Rattle.vm_legal.specs.Debts.{IsPaid};
 ghost use Rattle.vm_legal.specs.Prompt.{AllServed};
@@ -120,4 +123,13 @@ pub fn copies_and_loads_are_current()
     ensures flat { (header : Header) (outside : Outside) (history : List Event) → EachEvent (HasCause header outside) history → (o p : ℕ) → is_shared header o ≡ true → flat_page header outside o p history ≡ current header.size (page_part header.size o p history) }
     ensures copies { (header : Header) (outside : Outside) (history : List Event) → NoneIsTemporary header → EachEvent (HasCause header outside) history → EachEvent (OwnBytes header) history → EachEvent (CopiesCurrent header outside) history }
     ensures loads { (header : Header) (outside : Outside) (history : List Event) → EachEvent (HasCause header outside) history → EachEvent (OwnBytes header) history → EachEvent (LoadsCurrent header outside) history }
+{}
+
+/// Who waits for a page of shared memory, and who is noted for it in the page's part, are the same: each
+/// load and store with what it wants of the page, and each slow copy that has a page left to read. Nobody
+/// else is noted as a load or a store, if no task is made anew while it lives.
+#[tactic(auto, using(crate::proofs::Waiters::waiters_agree, crate::proofs::OnlyWaiters::only_waiters))]
+pub fn waiters_are_noted()
+    ensures agree { (header : Header) (outside : Outside) (o p : ℕ) (history : List Event) → EachEvent (HasCause header outside) history → is_shared header o ≡ true → WaitersAgree header o p history }
+    ensures only { (header : Header) (outside : Outside) (o p : ℕ) (history : List Event) → EachEvent (HasCause header outside) history → EachEvent IsNewTask history → is_shared header o ≡ true → (h task : ℕ) (w : Waiter) → waiter_of task (waiters h (page_part header.size o p history)) ≡ Some w → IsWaiting header.size o p h task w history }
 {}
