@@ -1,0 +1,4 @@
+pub mod Kinds
+pub mod Carried
+pub mod Run
+pub mod Waits
