@@ -8,7 +8,7 @@ use Rattle.vm_kernel.proofs.Locked.{Done, IsTaken, Request, done, inner_of, requ
 use Rattle.vm_kernel.proofs.Locking.{asks, rests_locked, rests_roomier}
 use Rattle.vm_kernel.proofs.Own.{named_host}
 use Rattle.vm_kernel.proofs.Turning.{unrun}
-use Rattle.vm_kernel.specs.Taking.{IsLockPaid, IsPlainWord, is_lock_request}
+use Rattle.vm_kernel.specs.Taking.{IsLockPaid, IsWord, is_lock_request}
 use Rattle.vm_legal.proofs.Paying.{lock_more, locked_more}
 use Rattle.vm_legal.specs.Debts.{HasLocked}
 use Rattle.vm_legal.specs.Licences.{LockRequest, gives_back, lock_taken}
@@ -31,7 +31,7 @@ pub record IsLock (m : Message) : Type 0 where
   pub is : m ≡ message.Lock page count returns flush 8 reply
   pub few : returns < 3
 
-pub lock_of : (size : ℕ) (m : Message) → IsPlainWord size m → is_lock_request m ≡ true → IsLock m
+pub lock_of : (size : ℕ) (m : Message) → IsWord size m → is_lock_request m ≡ true → IsLock m
 lock_of size (message.Lock page count returns flush lock reply) word asks = record { page = page; count = count; returns = returns; flush = flush; reply = reply; is = ap (λ z. message.Lock page count returns flush z reply) word.1; few = word.0 }
 lock_of size other word asks = absurd (let bad : false ≡ true = asks in cc)
 
@@ -54,7 +54,7 @@ live_of (Some known) control lives = by known.live refl lives
     by false live same = absurd (let bad : false ≡ true = same in cc)
 
 -- so it can be done
-pub can_lock : (header : Header) (h : ℕ) (k : Parts) (ids : Ids) (past : List Event) (object : ObjectId) (control : ℕ) (m : Message) (events : List Event) → Rests header h k ids past → IsPlainWord k.size m → is_lock_request m ≡ true → is_control control (live_in (object_at k.memory.objects object.0)) ≡ true
+pub can_lock : (header : Header) (h : ℕ) (k : Parts) (ids : Ids) (past : List Event) (object : ObjectId) (control : ℕ) (m : Message) (events : List Event) → Rests header h k ids past → IsWord k.size m → is_lock_request m ≡ true → is_control control (live_in (object_at k.memory.objects object.0)) ≡ true
     → EachOnce (k.memory.queues.inactive ++ k.memory.queues.active) → CanLock (lock_state k.memory k.laundry.held k.laundry.room events) object.0 m
 can_lock header h k ids past object control m events rests word asks lives once =
     let is = lock_of k.size m word asks in
@@ -161,7 +161,7 @@ heeds_live header h outside doing k ids past object control page count returns f
 
 -- from the start of the call
 
-pub heeds_none : (header : Header) (h : ℕ) (outside : Outside) (doing : Command) (k : Parts) (ids : Ids) (past front after : List Event) (object : ObjectId) (control : ℕ) (m : Message) → Rests header h k ids past → front ≡ hears h object control m ∷ [] → IsPlainWord k.size m → is_lock_request m ≡ true
+pub heeds_none : (header : Header) (h : ℕ) (outside : Outside) (doing : Command) (k : Parts) (ids : Ids) (past front after : List Event) (object : ObjectId) (control : ℕ) (m : Message) → Rests header h k ids past → front ≡ hears h object control m ∷ [] → IsWord k.size m → is_lock_request m ≡ true
     → after ≡ [] → is_control control (live_in (object_at k.memory.objects object.0)) ≡ false → Heeds header h outside doing k k ids (front ++ past) after
 heeds_none header h outside doing k ids past front after object control m rests told word asked nothing dead =
     let is = lock_of k.size m word asked in
@@ -170,7 +170,7 @@ heeds_none header h outside doing k ids past front after object control m rests 
     (subst (λ (z : Message). Heeds header h outside doing k k ids (hears h object control z ∷ past) []) (sym is.is)
     (heeds_dead header h outside doing k ids past object control is.page is.count is.returns is.flush is.reply rests dead)))
 
-pub heeds_done : (header : Header) (h : ℕ) (outside : Outside) (doing : Command) (k : Parts) (ids : Ids) (past front before after : List Event) (object : ObjectId) (control : ℕ) (m : Message) (memory : HostParts) (laundry : LaundryList) → Rests header h k ids past → front ≡ hears h object control m ∷ [] → IsPlainWord k.size m → is_lock_request m ≡ true
+pub heeds_done : (header : Header) (h : ℕ) (outside : Outside) (doing : Command) (k : Parts) (ids : Ids) (past front before after : List Event) (object : ObjectId) (control : ℕ) (m : Message) (memory : HostParts) (laundry : LaundryList) → Rests header h k ids past → front ≡ hears h object control m ∷ [] → IsWord k.size m → is_lock_request m ≡ true
     → before ≡ [] → is_control control (live_in (object_at k.memory.objects object.0)) ≡ true → Obeys k.host object m (lock_state k.memory k.laundry.held k.laundry.room before) (lock_state memory laundry.held laundry.room after)
     → Fit memory → memory.buffers.size ≡ k.memory.buffers.size → Heeds header h outside doing k (record k { memory = memory; laundry = laundry }) ids (front ++ past) after
 heeds_done header h outside doing k ids past front before after object control m memory laundry rests told word asked nothing lives obeys fit size =

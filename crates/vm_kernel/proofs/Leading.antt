@@ -75,11 +75,6 @@ can_fault header h past k ids who w events works is =
     below_last : (n : ℕ) → n ≤ 8192 → n < 2 ^ 32 - 1
     below_last n less = omega arith
 
--- it stores as the history has it
-pub storing_is : (what : Want) → is_store (access_in what) ≡ is_storing what
-storing_is (want.Load address n) = refl
-storing_is (want.Store address n value) = refl
-
 -- where the access of a task leads, after a history
 pub record Leads (header : Header) (h : ℕ) (past : List Event) (k : Parts) (task : ℕ) (what : Want) (top : PageKey) (at : IsAt k.maps k.chains task what top) : Type 0 where
   pub lives : host_of task past ≡ Some h

@@ -1,10 +1,10 @@
 -- A page obeys a lock request: what the kernel stands for behind that.
-use Rattle.vm_kernel.proofs.Common.{AllReferred, ArePlain, Bool, Caused, ChainTable, Changes, Command, Discards, Does, Drops, Elsewhere, Event, Fit, FrameTable, HasControls, HasFrames, HasHomes, HasKinds, HasLaundry, HasOrder, HasPages, HasTasks, HasUse, HasWaiters, Header, HostParts, Ids, IfSome, IsPlainRow, IsReferred, IsSettled, LaundryList, List, Local, LocalEffect, Matches, None, ObjectId, ObjectRow, ObjectTable, Option, Outside, PageKey, PageNo, PageRow, Parts, PartsFit, PutsAbsent, Queues, ResidentTable, Rests, Returns, SameObjects, Some, Suffice, TakesLock, Up, [], absent_at, ap, arith, away, entries_of, false, fit_objects, frame_count, frame_here, frames_held, frames_wired, holds, home_of, host_id, host_of, if◌then◌else◌, in_use, inr, is_control, is_on, is_ready, is_some, last_control, live_control, live_in, local, local_after, local_of_row, named, nat_tests, next_region, not, object_at, object_home, page_in, pages_of_row, paging, place_of, queues_except, ready_in, refl, returns_out, reverse, row_at, slice_get, some_is, subst, sym, true, waiting, ℕ, ◌&&◌, ◌++◌, ◌+◌, ◌-◌, ◌<◌, ◌==◌, ◌||◌, ◌∙◌, ◌∷◌, ◌≡◌}
+use Rattle.vm_kernel.proofs.Common.{AllReferred, ArePlain, Bool, Caused, ChainTable, Changes, Command, Discards, Does, Drops, Elsewhere, Event, Fit, FrameTable, HasControls, HasFrames, HasHomes, HasKinds, HasLaundry, HasOrder, HasPages, HasTasks, HasUse, HasWaiters, Header, HostParts, Ids, IfSome, IsPlainRow, IsReferred, IsSettled, LaundryList, List, Local, LocalEffect, Matches, None, ObjectId, ObjectRow, ObjectTable, Option, Outside, PageKey, PageNo, PageRow, Parts, PartsFit, PutsAbsent, Queues, ResidentTable, Rests, Returns, SameObjects, Some, Suffice, TakesLock, Up, [], absent_at, ap, arith, away, entries_of, false, fit_objects, frame_count, frame_here, frames_held, frames_wired, holds, home_of, host_id, host_of, if◌then◌else◌, in_use, inr, is_control, is_on, is_ready, is_some, is_woken, last_control, live_control, live_in, local, local_after, local_of_row, named, nat_tests, next_region, not, object_at, object_home, page_in, pages_of_row, paging, place_of, queues_except, ready_in, refl, returns_out, reverse, row_at, slice_get, some_is, subst, sym, true, waiting, ℕ, ◌&&◌, ◌++◌, ◌+◌, ◌-◌, ◌<◌, ◌==◌, ◌||◌, ◌∙◌, ◌∷◌, ◌≡◌}
 use Rattle.vm_kernel.proofs.After.{Leaves, controls_after, homeless_after, regions_after}
 use Rattle.vm_kernel.proofs.Answers.{IsNothing, hears}
 use Rattle.vm_kernel.proofs.Brings.{plain_changed}
 use Rattle.vm_kernel.proofs.Growing.{Follows, suffices}
-use Rattle.vm_kernel.proofs.Hearing.{regions_of}
+use Rattle.vm_kernel.proofs.Hearing.{may_lock, regions_of}
 use Rattle.vm_kernel.proofs.Known.{IsOther, known_on, other_nested, pages_known}
 use Rattle.vm_kernel.proofs.Losing.{IsSeen, seen_here}
 use Rattle.vm_kernel.proofs.Mine.{own_named}
@@ -70,7 +70,7 @@ pub record Quiet (header : Header) (h : ℕ) (k : Parts) (past now : List Event)
   pub homes : HasHomes header h k.chains (λ r. home_of r now)
   pub controls : {os : ObjectTable} → HasControls (named header) h os (λ o. last_control h o past) (λ o. live_control h o past) (λ o. is_ready h o past) (λ o. object_home o past)
       → HasControls (named header) h os (λ o. last_control h o now) (λ o. live_control h o now) (λ o. is_ready h o now) (λ o. object_home o now)
-  pub waits : {rs : ResidentTable} {os : ObjectTable} → HasWaiters k.maps k.chains rs os k.waits.rows woken.Nobody (λ t. waiting t past) → HasWaiters k.maps k.chains rs os k.waits.rows woken.Nobody (λ t. waiting t now)
+  pub waits : {rs : ResidentTable} {os : ObjectTable} → HasWaiters k.maps k.chains rs os k.waits.rows (is_woken woken.Nobody) (λ t. waiting t past) → HasWaiters k.maps k.chains rs os k.waits.rows (is_woken woken.Nobody) (λ t. waiting t now)
   pub order : HasOrder k now
   pub settled : IsSettled now
 
@@ -86,6 +86,7 @@ quiet_none rests =
       waits = λ has. has;
       order = rests.order;
       settled = m.settled;
+      replied = m.replied;
     }
 
 -- a page is dropped
@@ -127,7 +128,7 @@ pub record Moved (header : Header) (h : ℕ) (k : Parts) (memory : HostParts) (l
   pub washed : HasLaundry memory.frames memory.resident laundry (returns_out h now)
   pub frames : HasFrames (slice_get (reverse header.frames.items) h) memory.frames (frames_held header.size h now) (frames_wired h now)
   pub referred : AllReferred k.chains memory.objects memory.resident
-  pub waits : HasWaiters k.maps k.chains memory.resident memory.objects k.waits.rows woken.Nobody (λ t. waiting t past)
+  pub waits : HasWaiters k.maps k.chains memory.resident memory.objects k.waits.rows (is_woken woken.Nobody) (λ t. waiting t past)
 
 pub rests_moved : (header : Header) (h : ℕ) (k : Parts) (ids : Ids) (memory : HostParts) (laundry : LaundryList) (past now : List Event) → Rests header h k ids past → Quiet header h k past now → Moved header h k memory laundry past now
     → Rests header h (record k { memory = memory; laundry = laundry }) ids now
@@ -154,6 +155,7 @@ rests_moved header h k ids memory laundry past now rests quiet moved =
             controls = quiet.controls (controls_same k.memory.objects memory.objects _ _ _ m.controls moved.objects.at);
             homeless = homeless_after quiet.leaves m.homeless;
             settled = quiet.settled;
+            replied = quiet.replied;
             laundry = moved.washed;
             frames = moved.frames;
           };
@@ -190,6 +192,7 @@ referred_same : (cs : ChainTable) (os os2 : ObjectTable) (rs : ResidentTable) �
 referred_same cs os os2 rs same all = record {
   live = λ o known found. all.live o known (sym (same.at o) ∙ found);
   pages = λ o p row found. still o (all.pages o p row found);
+  locks = λ o p row found. may_lock os os2 o row same (all.locks o p row found);
   shadows = λ o row found. still o (all.shadows o row found);
 }
   where
@@ -217,8 +220,8 @@ moved_of header h k ids memory laundry key row x held lists past now rests r pag
       washed = washed;
       frames = frames;
       referred = referred_same k.chains k.memory.objects memory.objects memory.resident r.objects (referred_row o p x k.chains k.memory.objects k.memory.resident memory.resident c.row (λ z is. rests.referred.pages o p row c.found) rests.referred);
-      waits = waits_told k.maps k.chains memory.resident k.memory.objects memory.objects k.waits.rows woken.Nobody _
-          (waiters_page k.maps k.chains k.memory.resident memory.resident k.memory.objects k.waits.rows woken.Nobody _ o p x rests.waits c.row (here_not_asked (row_at k.memory.resident o p) row c.found r.here) r.unasked)
+      waits = waits_told k.maps k.chains memory.resident k.memory.objects memory.objects k.waits.rows (is_woken woken.Nobody) _
+          (waiters_page k.maps k.chains k.memory.resident memory.resident k.memory.objects k.waits.rows (is_woken woken.Nobody) _ o p x rests.waits c.row (here_not_asked (row_at k.memory.resident o p) row c.found r.here) r.unasked)
           (told_all k.maps k.chains k.memory.objects memory.objects (λ o2 told. record { row = told.row; found = r.objects.at o2 ∙ told.found; sent = told.sent })) (λ o2 p2 r2 there is. ap ready_in (r.objects.at o2) ∙ is);
     }
 

@@ -8,6 +8,7 @@ pub mod Files
 pub mod Fresh
 pub mod Going
 pub mod Knowing
+pub mod Locks
 pub mod Making
 pub mod Marks
 pub mod Places
