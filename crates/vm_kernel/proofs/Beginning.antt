@@ -175,7 +175,7 @@ begun_grows header h outside k ids past task (want.Store address size value) m f
 -- a task that didn't wait waits with an access that is to be run
 pub waits_begun : (maps : Mapped) (chains : ChainTable) (resident : ResidentTable) (objects : ObjectTable) (rows new : List Waiting) (task : TaskId) (what : Want) (was : ℕ → Option Access) (now : ℕ → Option Access)
     → HasWaiters maps chains resident objects rows (is_woken woken.Nobody) was → PutsEntry task.0 (Some (begun_row task what)) rows new → entry rows task.0 ≡ None → IsAllowed maps task.0 (address_in what) (need_in what) → IsSizedWant what
-    → ((t : ℕ) → now t ≡ (if task.0 == t then Some (access_in what) else was t)) → HasWaiters maps chains resident objects new woken.Nobody now
+    → ((t : ℕ) → now t ≡ (if task.0 == t then Some (access_in what) else was t)) → HasWaiters maps chains resident objects new (is_woken woken.Nobody) now
 waits_begun maps chains resident objects rows new task what was now has puts none allowed sized is =
     record {
       is = λ t here. is t ∙ (both (task.0 == t) t here ∙ ap waiting_in (sym (puts.at t)));

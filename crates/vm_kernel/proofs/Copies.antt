@@ -448,7 +448,7 @@ rests_copied header h outside doing task source offset row past k k2 ids ids2 be
                 (controls_referred top (s.known.references + 1) s.known k.memory.objects k2.memory.objects (λ o. last_control h o past) (λ o. live_control h o past) (λ o. is_ready h o past) s.object s.refers m.controls);
             homeless = homes_next header outside e (now ∷ past) (doing, enters) (homes_next header outside now past (doing, copy_cause header s.copy source offset pages past may.temporary may.from number) m.homeless);
             settled = record { returned = refl; shut = λ region. refl };
-            replied = replied_behind tt m.replied;
+            replied = replied_behind tt (replied_behind tt m.replied);
             laundry = rw (frames_are, rows_are, s.laundry) m.laundry;
             frames = rw frames_are m.frames;
           };

@@ -53,6 +53,7 @@ pub mod Recounts
 pub mod Refusals
 pub mod Regions
 pub mod Replied
+pub mod Requesting
 pub mod Returning
 pub mod Rewrites
 pub mod Rooms
@@ -74,5 +75,6 @@ pub mod Uncopied
 pub mod Unlocking
 pub mod Untold
 pub mod Uses
+pub mod Waked
 pub mod Washing
 pub mod Wires

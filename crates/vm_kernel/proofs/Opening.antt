@@ -309,7 +309,7 @@ rests_opened header h outside doing task address bytes object offset pages new p
                 homes_next header outside begins (enters ∷ past) (doing, map_opens header h task address bytes object offset new past k ids rests may o.known)
                 (homes_next header outside enters past (doing, map_enters header h task address bytes object offset past k ids rests may) m.homeless);
             settled = record { returned = refl; shut = λ region. refl };
-            replied = replied_behind tt m.replied;
+            replied = replied_behind tt (replied_behind tt m.replied);
             laundry = m.laundry;
             frames = m.frames;
           };

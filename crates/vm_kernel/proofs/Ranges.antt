@@ -407,7 +407,7 @@ rests_range header h outside task address bytes past k k2 ids maps lined rests m
                 (files_temporary header h ids.next_object (Some (new_object pages)) k.memory.objects k2.memory.objects (λ o. home_of o past) (first_temporary header h past k ids rests).object made.object_row m.files);
             homes = homes_range header h k.chains k2.chains n (new_region object pages) (λ r. home_of r past) (λ r. home_of r (ranged task ids address bytes pages ++ past)) m.homes (λ r is. homes_stay r h (ranged task ids address bytes pages) past is) (range_home header h task address bytes past k ids rests may) made.region_row;
             settled = record { returned = refl; shut = λ region. refl };
-            replied = replied_behind tt m.replied;
+            replied = replied_behind tt (replied_behind tt m.replied);
             laundry = m.laundry;
             frames = m.frames;
           };

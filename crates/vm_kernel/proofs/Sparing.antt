@@ -1,5 +1,5 @@
 -- The pages that are spared where one is reclaimed: the one that the front of the frame queue is to copy, and those for whose unlocks accesses wait.
-use Rattle.vm_kernel.proofs.Common.{Bool, Event, FreesOrReturns, HasWaits, Header, Ids, IfSome, List, Matches, None, Option, PageKey, PageRow, Parts, Reason, Reclaim, Rests, Some, Waiting, Waits, [], access_in, ap, entry, eqb_tells, false, if◌then◌else◌, inl, inr, is_some, local, next_page, owner_of, page_key, paging, refl, row_at, some_is, subst, sym, true, waiting_in, ℕ, ◌++◌, ◌==◌, ◌||◌, ◌∙◌, ◌∷◌, ◌≡◌, ◌⊎◌}
+use Rattle.vm_kernel.proofs.Common.{Bool, Event, FreesOrReturns, HasWaits, Header, Ids, IfSome, List, Matches, None, Option, PageKey, PageRow, Parts, Reason, Reclaim, Rests, Some, Waiting, Waits, [], access_in, address_in, ap, entries_of, entry, entry_at, eqb_tells, false, if◌then◌else◌, inl, inr, is_some, local, next_page, owner_of, page_key, paging, refl, row_at, some_is, subst, sym, true, waiting_in, ℕ, ◌++◌, ◌==◌, ◌||◌, ◌∙◌, ◌∷◌, ◌≡◌, ◌⊎◌}
 use Rattle.std.proofs.lemmas.Bool.{or_right}
 use Rattle.vm_base.specs.declared.ids.FrameNo.{FrameNo}
 use Rattle.vm_kernel.proofs.Own.{lives_here, rows_here}
@@ -158,14 +158,17 @@ here_frame row here = ap (λ b. if b then Some row.frame else None) here
 -- it is skipped where somebody waits for the page
 locked_skipped : (rs : ResidentTable) (o p t : ℕ) (row : PageRow) (v : Waiting) (ws : List Waiting) → row_at rs o p ≡ Some row → row.here ≡ true → entry ws t ≡ Some v → v.on ≡ on.Page (page_key o p) → is_skipped (frames_locked rs ws) row.frame.0 ≡ true
 locked_skipped rs o p t row v [] found here is on_page = absurd (let bad : None ≡ Some v = is in cc)
-locked_skipped rs o p t row v (w ∷ ws) found here is on_page = skipped_both (option_list (frame_spared rs (page_waited w.on))) (frames_locked rs ws) row.frame.0 ∙ by (w.task.0 == t) is
-  where
-    frame_is : w ≡ v → frame_spared rs (page_waited w.on) ≡ Some row.frame
-    frame_is same = ap (λ (z : Waiting). frame_spared rs (page_waited z.on)) same ∙ (ap (λ z. frame_spared rs (page_waited z)) on_page ∙ (ap frame_here found ∙ here_frame row here))
-
-    by : (b : Bool) → (if b then Some w else entry ws t) ≡ Some v → (is_skipped (option_list (frame_spared rs (page_waited w.on))) row.frame.0 || is_skipped (frames_locked rs ws) row.frame.0) ≡ true
-    by true same = ap (λ b. b || is_skipped (frames_locked rs ws) row.frame.0) (one_listed (frame_spared rs (page_waited w.on)) row.frame (frame_is (some_is w v same)))
-    by false later = or_right (is_skipped (option_list (frame_spared rs (page_waited w.on))) row.frame.0) (is_skipped (frames_locked rs ws) row.frame.0) (locked_skipped rs o p t row v ws found here later on_page)
+locked_skipped rs o p t row v (w ∷ ws) found here is on_page =
+    skipped_both (option_list (frame_spared rs (page_waited w.on))) (frames_locked rs ws) row.frame.0
+    ∙ elim (eqb_tells w.task.0 t) [
+      | inl same ↦
+          let it : w ≡ v = some_is w v (sym (ap (λ b. if b then Some w else entry ws t) same.0) ∙ is) in
+          ap (λ b. b || is_skipped (frames_locked rs ws) row.frame.0) (one_listed (frame_spared rs (page_waited w.on)) row.frame
+          (ap (λ (z : Waiting). frame_spared rs (page_waited z.on)) it ∙ (ap (λ z. frame_spared rs (page_waited z)) on_page ∙ (ap frame_here found ∙ here_frame row here))))
+      | inr apart ↦
+          or_right (is_skipped (option_list (frame_spared rs (page_waited w.on))) row.frame.0) (is_skipped (frames_locked rs ws) row.frame.0)
+          (locked_skipped rs o p t row v ws found here (sym (ap (λ b. if b then Some w else entry ws t) apart.0) ∙ is) on_page)
+    ]
 
 sent_here : (header : Header) (h : ℕ) (k : Parts) (ids : Ids) (past : List Event) (o p : ℕ) (row : PageRow) → Matches header h k ids [] past → row_at k.memory.resident o p ≡ Some row → row.unlock_sent ≡ true → row.here ≡ true
 sent_here header h k ids past o p row m found sent = by row.here refl
@@ -191,20 +194,22 @@ skips_one k key here =
 
 -- and no other is
 
+-- one more page may be spared
+spared_more : (header : Header) (h : ℕ) (k : Parts) (past : List Event) (reason : On) (rest : List FrameNo) (x : Option FrameNo) → frame_spared k.memory.resident (page_waited reason) ≡ x → ((key : PageKey) (row : PageRow) → reason ≡ on.Page key → row_at k.memory.resident key.object.0 key.page.0 ≡ Some row → row.here ≡ true → WaitsUnlocked header h key.object.0 key.page.0 past)
+    → AreSpared header h past (paging k).frame_at rest → AreSpared header h past (paging k).frame_at (option_list x ++ rest)
+spared_more header h k past reason rest None is waits others = others
+spared_more header h k past reason rest (Some f) is waits others =
+    let page = waited_frame k.memory.resident reason f is in
+    let row = here_row (row_at k.memory.resident page.0.object.0 page.0.page.0) f page.2 in
+    ((page.0.object.0, page.0.page.0, inr (waits page.0 row.0 page.1 row.1 row.2), page.2), others)
+
 spared_locked : (header : Header) (h : ℕ) (k : Parts) (ids : Ids) (past : List Event) (ws : List Waiting) → Matches header h k ids [] past → HasWaits k woken.Nobody past → EachOnce ws → ((t : ℕ) (v : Waiting) → entry ws t ≡ Some v → entry k.waits.rows t ≡ Some v)
     → AreSpared header h past (paging k).frame_at (frames_locked k.memory.resident ws)
 spared_locked header h k ids past [] m waits once stand = tt
-spared_locked header h k ids past (w ∷ ws) m waits once stand = by (frame_spared k.memory.resident (page_waited w.on)) refl
-  where
-    rest : AreSpared header h past (paging k).frame_at (frames_locked k.memory.resident ws)
-    rest = spared_locked header h k ids past ws m waits once.1 (later_stand w ws k.waits.rows once stand)
-
-    by : (x : Option FrameNo) → frame_spared k.memory.resident (page_waited w.on) ≡ x → AreSpared header h past (paging k).frame_at (option_list x ++ frames_locked k.memory.resident ws)
-    by None is = rest
-    by (Some f) is =
-        let page = waited_frame k.memory.resident w.on f is in
-        let row = here_row (row_at k.memory.resident page.0.object.0 page.0.page.0) f page.2 in
-        ((page.0.object.0, page.0.page.0, inr (waits_for_unlock header h k ids past page.0.object.0 page.0.page.0 w.task.0 row.0 w m waits row.1 row.2 (first_stands w ws k.waits.rows stand) page.1), page.2), rest)
+spared_locked header h k ids past (w ∷ ws) m waits once stand =
+    spared_more header h k past w.on (frames_locked k.memory.resident ws) (frame_spared k.memory.resident (page_waited w.on)) refl
+    (λ key row on_page found here. waits_for_unlock header h k ids past key.object.0 key.page.0 w.task.0 row w m waits found here (first_stands w ws k.waits.rows stand) on_page)
+    (spared_locked header h k ids past ws m waits once.1 (later_stand w ws k.waits.rows once stand))
 
 pub are_spared : (header : Header) (h : ℕ) (k : Parts) (ids : Ids) (past : List Event) (spared : Option PageKey) → Matches header h k ids [] past → HasWaits k woken.Nobody past → EachOnce k.waits.rows → IsToCopy header h k spared past
     → AreSpared header h past (paging k).frame_at (frames_spared k.memory.resident spared k.waits.rows)

@@ -6,7 +6,7 @@ use Rattle.vm_model.specs.declared.message.Message.TheVariants as message
 use Rattle.vm_waits.specs.declared.waiting.On.TheVariants as on
 use Rattle.vm_supply.specs.declared.woken.Woken.TheVariants as woken
 use Rattle.vm_kernel.specs.Serving.{wants_frame}
-use Rattle.vm_kernel.specs.Turns.{Bare, ForCopy, IsFront, Shadow}
+use Rattle.vm_kernel.specs.Turns.{Bare, ForCopy, ForUnlock, IsFront, Shadow}
 use Rattle.vm_kernel.specs.declared.attempt.Attempt.{Attempt}
 use Rattle.vm_kernel.specs.declared.attempt.Attempt.TheVariants as attempt
 use Rattle.vm_kernel.proofs.Growing.{free_is}

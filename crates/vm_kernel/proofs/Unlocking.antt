@@ -102,7 +102,7 @@ works_unlocked header h past k ids w key row object access memory waits2 works i
       order = put.order.keeps (λ u. begun_at u past) 0 works.order;
     }
 
-equal_of : (m n : ℕ) → (m == n) ≡ true → m ≡ n
+pub equal_of : (m n : ℕ) → (m == n) ≡ true → m ≡ n
 equal_of m n is = grind (arith, nat_tests, is)
 
 -- where the step took a lock request over the page that wants a reply, the reply was sent

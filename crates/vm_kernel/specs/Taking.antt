@@ -80,6 +80,13 @@ HasEnded woken.Nobody rows past = Unit {0}
 HasEnded (woken.ReadyOf object) rows past = Unit {0}
 HasEnded (woken.Page key) rows past = Unit {0}
 
+-- whoever is to be ended waits still
+abbrev pub KeepsAskers : Woken → List Waiting → List Waiting → Type 0
+KeepsAskers (woken.Fails key) old new = new ≡ old
+KeepsAskers woken.Nobody old new = Unit {0}
+KeepsAskers (woken.ReadyOf object) old new = Unit {0}
+KeepsAskers (woken.Page key) old new = Unit {0}
+
 -- an error that the step took has ended each access that waited for its page
 abbrev pub EndsEach : Header → List Waiting → List Event → Type 0
 EndsEach header rows past = (host object page t : ℕ) (w : Waiting) → error_taken header.size past ≡ Some (record { host = host; object = object; page = page }) → entry rows t ≡ Some w → w.on ≡ on.Page (page_key object page)

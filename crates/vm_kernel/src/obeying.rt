@@ -5,7 +5,7 @@ ghost use Rattle.vm_model.specs.declared.message.Channel.TheVariants.{Down};
 ghost use Rattle.vm_kernel.specs.Begun.{LegalEvents, Passing};
 ghost use Rattle.vm_kernel.specs.Matches.{Rests, Works, host_id};
 ghost use Rattle.vm_kernel.specs.Plays.{Plays, PlaysAnswer, paging};
-ghost use Rattle.vm_kernel.specs.Taking.{EndsNobody, FailsNow, HasAsker, IsAbsencePaid, IsAnswered, IsLockPaid, IsWord, PageWaitedFor, is_away, is_lock_request, is_unlocked, page_waited};
+ghost use Rattle.vm_kernel.specs.Taking.{EndsNobody, FailsNow, HasAsker, IsAbsencePaid, IsAnswered, IsLockPaid, IsWord, KeepsAskers, PageWaitedFor, is_away, is_lock_request, is_unlocked, page_waited};
 ghost use Rattle.vm_waits.specs.Waits.{oldest_row, woken};
 ghost use Rattle.vm_kernel.specs.Turns.{RunsNoneYet};
 ghost use Rattle.vm_objects.specs.Objects.{object_at};
@@ -19,9 +19,10 @@ use crate::parts::Parts;
 use vm_base::{NoMemory, ObjectId, PageKey, PageNo};
 use vm_locks::lock;
 use vm_model::{Events, Message};
+use vm_resident::Resident;
 use vm_shadow::Ids;
 use vm_supply::Woken;
-use vm_waits::On;
+use vm_waits::{On, Waits};
 
 impl Parts {
     /// Does what a pager says: its answer is heard, or its lock request is obeyed.
@@ -43,7 +44,7 @@ impl Parts {
         ensures fresh { IfOk result (λ woken. EndsNobody woken (log.new.items ++ (given.front ++ given.past))) }
         ensures asker { IfOk result (λ woken. HasAsker woken self.new.waits.rows) }
         ensures answered { IfOk result (λ woken. IsAnswered woken self.new.memory.resident) }
-        ensures waits { OnOk result (is_lock_request message.now ≡ false → self.new.waits ≡ self.old.waits) }
+        ensures askers { IfOk result (λ woken. KeepsAskers woken self.old.waits.rows self.new.waits.rows) }
         ensures queue { OnOk result (self.new.waits.queue ≡ self.old.waits.queue) }
         ensures goes { OnOk result (LegalEvents given.header given.host given.outside given.command (given.front ++ given.past) [] log.new.items) }
         ensures early { OnOk result (RunsNoneYet log.new.items) }
@@ -91,7 +92,13 @@ impl Parts {
         let Message::Lock { page, count, .. } = message else {
             unreachable!()
         };
-        self.wake_unlocked(object, *page, *count);
+        wake_unlocked(
+            &mut self.waits,
+            &self.memory.resident,
+            object,
+            *page,
+            *count,
+        );
         self.memory.queues.stand_once();
         lock(
             self.host,
@@ -103,56 +110,6 @@ impl Parts {
         )
     }
 
-    // Those that wait for a page of the range which isn't asked are to be run again.
-    fn wake_unlocked(&mut self, object: ObjectId, page: PageNo, count: u32)
-        ensures kept { self.new ≡ record self.old { waits = self.new.waits } }
-        ensures rows { self.new.waits.rows ≡ map (woken (is_unlocked self.old.memory.resident object.0 page.0 count)) self.old.waits.rows }
-        ensures queue { self.new.waits.queue ≡ self.old.waits.queue }
-    {
-        'all: while let Some(key) = self.next_unlocked(object, page, count) {
-            self.waits.wake_page(key);
-        }
-    }
-
-    // The first page of the range, in the order of those that wait, for which one waits and which
-    // isn't asked; None exactly where there is none.
-    fn next_unlocked(&self, object: ObjectId, page: PageNo, count: u32) -> Option<PageKey>
-        ensures { PageWaitedFor result (oldest_row (is_unlocked self.now.memory.resident object.0 page.0 count) self.now.waits.rows) }
-    {
-        let rows = self.waits.rows();
-        'all: for waiting in rows {
-            if self.is_unlocked(waiting.on, object, page, count) {
-                return page_of(waiting.on);
-            }
-        }
-        None
-    }
-
-    // Whether an access waits for a page of the range which isn't asked.
-    fn is_unlocked(&self, on: On, object: ObjectId, page: PageNo, count: u32) -> bool
-        ensures { result ≡ is_unlocked self.now.memory.resident object.0 page.0 count on }
-    {
-        match on {
-            On::Page { key } => {
-                key.object.0 == object.0
-                    && key.page.0 >= page.0
-                    && key.page.0 - page.0 < count
-                    && !self.is_away(key)
-            }
-            On::Again | On::Ready { object: _ } | On::Frame => false,
-        }
-    }
-
-    // Whether a page is asked.
-    fn is_away(&self, key: PageKey) -> bool
-        ensures { result ≡ is_away (row_at self.now.memory.resident key.object.0 key.page.0) }
-    {
-        match self.memory.resident.get(key) {
-            Some(row) => !row.here,
-            None => false,
-        }
-    }
-
     // Whether the control of an object lives.
     fn is_live(&self, object: ObjectId, control: u32) -> bool
         ensures { result ≡ is_control control (live_in (object_at self.now.memory.objects object.0)) }
@@ -161,6 +118,67 @@ impl Parts {
             Some(known) => known.live && known.control == control,
             None => false,
         }
+    }
+}
+
+// Those that wait for a page of the range which isn't asked are to be run again: each waits for an
+// unlock.
+fn wake_unlocked(
+    waits: &mut Waits,
+    resident: &Resident,
+    object: ObjectId,
+    page: PageNo,
+    count: u32,
+)
+    ensures rows { waits.new.rows ≡ map (woken (is_unlocked resident.now object.0 page.0 count)) waits.old.rows }
+    ensures queue { waits.new.queue ≡ waits.old.queue }
+{
+    'all: while let Some(key) = next_unlocked(waits, resident, object, page, count) {
+        waits.wake_page(key);
+    }
+}
+
+// The page for which the oldest of these waits; None exactly where there is none.
+fn next_unlocked(
+    waits: &Waits,
+    resident: &Resident,
+    object: ObjectId,
+    page: PageNo,
+    count: u32,
+) -> Option<PageKey>
+    ensures { PageWaitedFor result (oldest_row (is_unlocked resident.now object.0 page.0 count) waits.now.rows) }
+{
+    let rows = waits.rows();
+    'all: for waiting in rows {
+        if is_unlocked(resident, waiting.on, object, page, count) {
+            return page_of(waiting.on);
+        }
+    }
+    None
+}
+
+// Whether an access waits for a page of the range which isn't asked.
+fn is_unlocked(resident: &Resident, on: On, object: ObjectId, page: PageNo, count: u32) -> bool
+    ensures { result ≡ is_unlocked resident.now object.0 page.0 count on }
+{
+    match on {
+        On::Page { key } => {
+            key.object.0 == object.0
+                && key.page.0 >= page.0
+                && key.page.0 - page.0 < count
+                && !is_away(resident, key)
+        }
+        On::Again | On::Ready { object: _ } | On::Frame => false,
+    }
+}
+
+// Whether a page is asked.
+fn is_away(resident: &Resident, key: PageKey) -> bool
+    ensures { result ≡ is_away (row_at resident.now key.object.0 key.page.0) }
+{
+    match resident.get(key) {
+        Some(row) => !row.here,
+        None => false,
     }
 }
 

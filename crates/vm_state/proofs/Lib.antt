@@ -21,4 +21,5 @@ pub mod Tallies
 pub mod Told
 pub mod Waited
 pub mod Waiting
+pub mod Waking
 pub mod Walks
