@@ -107,9 +107,9 @@ heeds_dead header h outside doing k ids past object control page count returns f
     }
 
 -- a kernel works with other buffers of the same size
-works_roomier : {header : Header} {h : ℕ} {k : Parts} {ids : Ids} {past : List Event} (memory : HostParts) (laundry : LaundryList) → Works header h (record k { memory = record memory { buffers = k.memory.buffers }; laundry = laundry }) ids woken.Nobody past → Fit memory → memory.buffers.size ≡ k.memory.buffers.size
+works_roomier : {header : Header} {h : ℕ} (k : Parts) {ids : Ids} {past : List Event} (memory : HostParts) (laundry : LaundryList) → Works header h (record k { memory = record memory { buffers = k.memory.buffers }; laundry = laundry }) ids woken.Nobody past → Fit memory → memory.buffers.size ≡ k.memory.buffers.size
     → Works header h (record k { memory = memory; laundry = laundry }) ids woken.Nobody past
-works_roomier {k = k} memory laundry works fit size =
+works_roomier k memory laundry works fit size =
     record { matches = matches_with memory.queues memory.buffers k.waits fit size works.matches; used = works.used; referred = works.referred; waits = works.waits; order = works.order }
 
 -- or it was done, and those are to be run again that waited for unlocks under it
@@ -119,7 +119,7 @@ heeds_live : (header : Header) (h : ℕ) (outside : Outside) (doing : Command) (
     → Fit memory → memory.buffers.size ≡ k.memory.buffers.size → Heeds header h outside doing k (record k { memory = memory; laundry = laundry; waits = waits2 }) ids (asks h object control page count returns flush lock reply ∷ past) after
 heeds_live header h outside doing k ids past object control page count returns flush lock reply memory laundry waits2 after rests few lives woke obeys fit size =
     record {
-      works = works_roomier memory laundry its.works fit size;
+      works = works_roomier (record k { waits = waits2 }) memory laundry its.works fit size;
       fails = error_more header.size after now inner;
       goes = its.goes;
       early = unrun after its.quiet;

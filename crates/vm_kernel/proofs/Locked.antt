@@ -1,5 +1,6 @@
 -- The pages of a lock request's range obey one after another, and the pager is told.
-use Rattle.vm_kernel.proofs.Common.{AllInner, Bool, Caused, Command, EachOf, Event, FrameTable, Header, HostParts, Ids, IsInner, IsPlainRow, LegalEvents, List, Local, None, ObjectId, ObjectRow, Option, Outside, PageKey, PageNo, PageRow, Parts, Plays, PutsRow, ResidentTable, Rests, RunsNone, Some, Still, Then, [], absent_at, ap, append-nil, arith, before_more, false, host_id, if◌then◌else◌, inl, inr, live_in, local, local_of_row, nat_lt, nat_tests, not, object_at, page_in, page_on, paging, place_of, refl, row_at, row_cases, row_put, or_true, since, some_is, subst, suc, sym, true, zero, ℕ, ◌++◌, ◌+◌, ◌<◌, ◌==◌, ◌&&◌, ◌||◌, ◌∙◌, ◌∷◌, ◌≡◌, ◌≤◌, ◌⊎◌}
+use Rattle.vm_kernel.proofs.Common.{AllInner, Bool, Caused, Command, EachOf, Event, FrameTable, Header, HostParts, Ids, IsInner, IsPlainRow, LegalEvents, List, Local, None, ObjectId, ObjectRow, Option, Outside, PageKey, PageNo, PageRow, Parts, Plays, PutsRow, ResidentTable, Rests, RunsNone, Some, Still, Then, [], absent_at, ap, append-nil, arith, before_more, false, host_id, if◌then◌else◌, inl, inr, live_in, local, local_of_row, nat_lt, nat_tests, not, object_at, page_in, page_on, paging, place_of, refl, row_at, row_cases, row_put, or_true, since, some_is, subst, suc, sym, true, zero, ℕ, ◌++◌, ◌+◌, ◌<◌, ◌==◌, ◌&&◌, ◌||◌, ◌∙◌, ◌∷◌, ◌≡◌, ◌≤◌, ◌⊎◌, nat_le, eqb_tells, Works}
+use Rattle.std.specs.Prelude.{option_map}
 use Rattle.vm_kernel.proofs.Finishing.{changes_beside}
 use Rattle.vm_kernel.proofs.Growing.{Follows, goes_more, goes_none, suffices}
 use Rattle.vm_kernel.proofs.Locking.{ComesTo, Mid, works_mid, comes_dropped, comes_returned, comes_saved, comes_still, completed, drops, gives, quiet_completed, rests_moved, StaysPut}
@@ -590,18 +591,18 @@ mid_all r s all =
       owners = λ g. sym (owner_repaged (pended (ahead_in r all.to)) s.parts.resident g (pended_frame (ahead_in r all.to)));
     })
   where
+    never : (b : Bool) → (b && false) ≡ false
+    never true = refl
+    never false = refl
+
     none : (o p : ℕ) → is_ahead (ahead_in r all.to) o p ≡ false
     none o p = out (r.object.0 == o) (nat_le r.page.0 p) (nat_lt p (r.page.0 + r.count)) (nat_le all.to p) over
       where
         over : (nat_lt p (r.page.0 + r.count) && nat_le all.to p) ≡ false
         over = elim (below_or p all.to) [
-          | inl low ↦ ap (λ b. nat_lt p (r.page.0 + r.count) && b) (grind (arith, nat_tests, low)) ∙ never (nat_lt p (r.page.0 + r.count))
-          | inr high ↦ let end = all.end in ap (λ b. b && nat_le all.to p) (grind (arith, nat_tests, high, end))
+          | inl low ↦ ap (λ b. nat_lt p (r.page.0 + r.count) && b) {y = false} (grind (arith, nat_tests, low)) ∙ never (nat_lt p (r.page.0 + r.count))
+          | inr high ↦ let end = all.end in ap (λ b. b && nat_le all.to p) {y = false} (grind (arith, nat_tests, high, end))
         ]
-
-        never : (b : Bool) → (b && false) ≡ false
-        never true = refl
-        never false = refl
 
         out : (a b c d : Bool) → (c && d) ≡ false → (a && ((b && c) && d)) ≡ false
         out true true true d is = is
@@ -671,7 +672,7 @@ done_told r s t all wanted =
     let moment = s.events ++ r.past in
     let rests = completed_rests r (at_state r.kernel s) moment (mid_all r s all) in
     let follows : Follows r.header r.host r.outside r.command e moment =
-    record { consequence = tt; cause = completed_cause r s t all wanted; own_bytes = tt; frames = suffices r.header r.host s.parts.frames (e ∷ moment) rests.matches.frames; inner = tt; said = refl; own = own_named r.host; creates = tt } in
+    record { consequence = tt; cause = completed_cause r s t all wanted; own_bytes = tt; frames = suffices r.header r.host s.parts.frames (e ∷ moment) rests.frames; inner = tt; said = refl; own = own_named r.host; creates = tt } in
     let goes = goes_more r.header r.host r.outside r.command r.past [] s.events e o.goes o.rests.settled follows in
     let sent = since_now (completes r.host r.object.0) e moment tt (rw (itself r.host, itself r.object.0) refl) in
     record {

@@ -1,8 +1,9 @@
 -- A page obeys a lock request: what the kernel stands for behind that.
-use Rattle.vm_kernel.proofs.Common.{AllReferred, ArePlain, Bool, Caused, ChainTable, Changes, Command, Discards, Does, Drops, Elsewhere, Event, Fit, FrameTable, HasControls, HasFrames, HasHomes, HasKinds, HasLaundry, HasOrder, HasPages, HasTasks, HasUse, HasWaiters, Header, HostParts, Ids, IfSome, IsPlainRow, IsReferred, IsSettled, LaundryList, List, Local, LocalEffect, Matches, None, ObjectId, ObjectRow, ObjectTable, Option, Outside, PageKey, PageNo, PageRow, Parts, PartsFit, PutsAbsent, Queues, ResidentTable, Rests, Returns, SameObjects, Some, Suffice, TakesLock, Up, [], absent_at, ap, arith, away, entries_of, false, fit_objects, frame_count, frame_here, frames_held, frames_wired, holds, home_of, host_id, host_of, if◌then◌else◌, in_use, inl, inr, is_control, is_on, is_ready, is_some, is_woken, last_control, live_control, live_in, local, local_after, local_of_row, named, nat_tests, next_region, not, object_at, object_home, page_in, pages_of_row, paging, place_of, queues_except, ready_in, refl, returns_out, reverse, row_at, slice_get, some_is, subst, sym, true, waiting, ℕ, ◌&&◌, ◌++◌, ◌+◌, ◌-◌, ◌<◌, ◌==◌, ◌||◌, ◌∙◌, ◌∷◌, ◌≡◌}
+use Rattle.vm_kernel.proofs.Common.{AllReferred, ArePlain, Bool, Caused, ChainTable, Changes, Command, Discards, Does, Drops, Elsewhere, Event, Fit, FrameTable, HasControls, HasFrames, HasHomes, HasKinds, HasLaundry, HasOrder, HasPages, HasTasks, HasUse, HasWaiters, Header, HostParts, Ids, IfSome, IsPlainRow, IsReferred, IsSettled, LaundryList, List, Local, LocalEffect, Matches, None, ObjectId, ObjectRow, ObjectTable, Option, Outside, PageKey, PageNo, PageRow, Parts, PartsFit, PutsAbsent, Queues, ResidentTable, Rests, Returns, SameObjects, Some, Suffice, TakesLock, Up, [], absent_at, ap, arith, away, entries_of, false, fit_objects, frame_count, frame_here, frames_held, frames_wired, holds, home_of, host_id, host_of, if◌then◌else◌, in_use, inl, inr, is_control, is_on, is_ready, is_some, is_woken, last_control, live_control, live_in, local, local_after, local_of_row, named, nat_tests, next_region, not, object_at, object_home, page_in, pages_of_row, paging, place_of, queues_except, ready_in, refl, returns_out, reverse, row_at, slice_get, some_is, subst, sym, true, waiting, ℕ, ◌&&◌, ◌++◌, ◌+◌, ◌-◌, ◌<◌, ◌==◌, ◌||◌, ◌∙◌, ◌∷◌, ◌≡◌, AreShared, HasEntries, HasRegions, AllUsed, HasWaits, IsRanged, Works, backing_of, marked_regions, next_object, region_of, length, HaveHomes}
+use Rattle.vm_state.specs.Stands.{KnowsFiles}
 use Rattle.vm_kernel.proofs.After.{Leaves, controls_after, homeless_after, regions_after}
 use Rattle.vm_kernel.proofs.Answers.{IsNothing, hears}
-use Rattle.vm_kernel.proofs.Brings.{plain_changed, plain_here}
+use Rattle.vm_kernel.proofs.Brings.{plain_changed, plain_here, IsPlainAway}
 use Rattle.vm_kernel.proofs.Growing.{Follows, suffices}
 use Rattle.vm_kernel.proofs.Hearing.{may_lock, regions_of}
 use Rattle.vm_kernel.proofs.Known.{IsOther, known_on, other_nested, pages_known}
@@ -117,7 +118,6 @@ quiet_none rests =
       waits = λ has. has;
       order = rests.order;
       settled = m.settled;
-      replied = m.replied;
     }
 
 -- a page is dropped
@@ -355,7 +355,7 @@ other_returns false = tt
 present_here : (o p : ℕ) (os os2 : ObjectTable) → PutsAbsent o p false os os2 → false ≡ absent_at os2 o p
 present_here o p os os2 put = sym (put.at o p ∙ rw (itself o, itself p) refl)
 
-pages_given : (header : Header) (h : ℕ) (k : Parts) (ids : Ids) (key : PageKey) (row : PageRow) (x : Option PageRow) (held keep : Bool) (lists : Queues) (memory : HostParts) (control : ℕ) (dirty : Bool) (bytes : List ℕ) (past : List Event) → Matches header h k ids [] past
+pages_given : (header : Header) (h : ℕ) (k : Parts) (ids : Ids) (key : PageKey) (row : PageRow) (x : Option PageRow) (held keep : Bool) (lists : Queues) (memory : HostParts) (control : ℕ) (dirty : Bool) (bytes : List ℕ) (past : List Event) → Mid header h k ids past
     → Changes key row.frame (Some row) x held (page_in k.memory.frames row.frame.0) lists k.memory memory → PutsAbsent key.object.0 key.page.0 false k.memory.objects memory.objects
     → local_after header.size (Returns keep) (local_of_row k.memory.frames (Some row) (absent_at k.memory.objects key.object.0 key.page.0)) ≡ local_of_row memory.frames x (absent_at memory.objects key.object.0 key.page.0)
     → HasPages memory.frames memory.resident memory.objects (λ o p. known_local header o p (local header.size h (place_of o p) (gives h key control dirty keep bytes ∷ past)))

@@ -1,5 +1,5 @@
 -- A lock request is taken at once for all pages of its range, and its host goes through them one after another: the rows as they will be, of those that it hasn't come to.
-use Rattle.vm_kernel.proofs.Common.{Bool, Changes, Fit, FrameNo, FrameTable, HostParts, IfSome, List, Local, None, Option, PageKey, PageRow, PutsOwner, PutsRow, Queues, ResidentTable, Some, TakesLock, [], ap, arith, eqb_tells, false, if◌then◌else◌, inl, inr, is_some, led, local_after, local_of_row, lock_number, nat_tests, not, owner_of, page_in, page_key, refl, row_at, some_is, subst, sym, true, ℕ, suc, ◌&&◌, ◌+◌, ◌<◌, ◌==◌, ◌||◌, ◌∙◌, ◌∷◌, ◌≡◌, ◌≤◌, ◌⊎◌}
+use Rattle.vm_kernel.proofs.Common.{Bool, Changes, Fit, FrameNo, FrameTable, HostParts, IfSome, List, Local, None, Option, PageKey, PageRow, PutsRow, Queues, ResidentTable, Some, TakesLock, [], ap, arith, eqb_tells, false, if◌then◌else◌, inl, inr, is_some, led, local_after, local_of_row, lock_number, nat_tests, not, owner_of, page_in, page_key, refl, row_at, some_is, subst, sym, true, ℕ, suc, ◌&&◌, ◌+◌, ◌<◌, ◌==◌, ◌||◌, ◌∙◌, ◌∷◌, ◌≡◌, ◌≤◌, ◌⊎◌}
 use Rattle.std.specs.Prelude.{map, nat_le, option_map}
 use Rattle.std.proofs.lemmas.Bool.{and_parts}
 use Rattle.vm_base.specs.declared.ids.Lock.{Lock}
@@ -222,10 +222,7 @@ number_ahead false lock own few = by (lock == 8) refl
   where
     by : (b : Bool) → (lock == 8) ≡ b → lock_number (lock_after (if b then None else Some (lock_numbered lock)) own) ≡ (if b then lock_number own else lock)
     by true is = refl
-    by false is = elim few [ inl less ↦ lock_of-prohibits lock less | inr bad ↦ absurd (let no : true ≡ false = sym (eight bad) ∙ is in cc) ]
-
-    eight : lock ≡ 8 → (lock == 8) ≡ true
-    eight same = ap (λ z. z == 8) same
+    by false is = elim few [ inl less ↦ lock_of-prohibits lock less | inr bad ↦ absurd (let no : true ≡ false = sym (ap (λ z. z == 8) bad) ∙ is in cc) ]
 
 pub shown_pended : (size : ℕ) (a : Ahead) (fs : FrameTable) (o p : ℕ) (x : Option PageRow) (lacked : Bool) → (a.lock < 4) ⊎ (a.lock ≡ 8)
     → (if is_ahead a o p then local_after size (TakesLock a.lock a.flush) (local_of_row fs x lacked) else local_of_row fs x lacked) ≡ local_of_row fs (option_map (pended a o p) x) lacked

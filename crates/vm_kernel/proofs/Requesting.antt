@@ -1,5 +1,5 @@
 -- A lock request is taken: what the kernel stands for, once its rows are as they will be, and those are to be run again that wait for unlocks under it.
-use Rattle.vm_kernel.proofs.Common.{AllReferred, Bool, Elsewhere, Event, Fit, HasLaundry, HasPages, HasWaiters, Header, Ids, IsReferred, List, Local, LocalEffect, Mapped, None, ObjectId, ObjectTable, On, Option, PageKey, PageNo, PageRow, PartsFit, Parts, Reason, ResidentTable, Rests, Some, TakesLock, WaitTable, Waiting, Want, [], absent_at, ap, arith, entry, eqb_tells, false, host_id, if◌then◌else◌, inl, inr, is_control, is_woken, live_control, local, local_after, local_of_row, map, named, not, object_at, owner_of, page_key, place_of, refl, row_at, some_is, subst, sym, true, waiting, ℕ, ◌&&◌, ◌<◌, ◌==◌, ◌||◌, ◌∙◌, ◌∷◌, ◌≡◌, ◌⊎◌}
+use Rattle.vm_kernel.proofs.Common.{AllReferred, Bool, Elsewhere, Event, Fit, HasLaundry, HasPages, HasWaiters, Header, Ids, IsReferred, List, Local, LocalEffect, Mapped, None, ObjectId, ObjectTable, On, Option, PageKey, PageNo, PageRow, PartsFit, Parts, Reason, ResidentTable, Rests, Some, TakesLock, WaitTable, Waiting, Want, [], absent_at, ap, arith, entry, eqb_tells, false, host_id, if◌then◌else◌, inl, inr, is_control, is_woken, live_control, local, local_after, local_of_row, map, named, not, object_at, owner_of, page_key, place_of, refl, row_at, some_is, subst, sym, true, waiting, ℕ, ◌&&◌, ◌<◌, ◌==◌, ◌||◌, ◌∙◌, ◌∷◌, ◌≡◌, ◌⊎◌, ObjectRow}
 use Rattle.std.specs.Prelude.{All, get_or, length, nat_le, nat_lt, option_map, ◌+◌, ◌≤◌}
 use Rattle.vm_frames.specs.Frames.{is_claimed}
 use Rattle.vm_kernel.proofs.After.{Leaves, controls_after, homeless_after, regions_after}
@@ -182,8 +182,8 @@ waits_taken maps k object page count lock flush rows2 past has woke =
     awaited_was o p row was is awaits = by (was.here && is_ahead a o p) (sym (ap is_awaited is) ∙ awaits)
       where
         less : (b c : Bool) → (not b || false) ≡ true → (not b || c) ≡ true
-        less true c no = absurd (let bad : false ≡ true = no in cc)
-        less false c yes = refl
+        less true c is_not = absurd (let bad : false ≡ true = is_not in cc)
+        less false c is_so = refl
 
         by : (b : Bool) → is_awaited (if b then aimed a was else was) ≡ true → is_awaited was ≡ true
         by true is_now = less was.here was.unlock_sent is_now
@@ -227,9 +227,9 @@ waits_taken maps k object page count lock flush rows2 past has woke =
         off out = assoc (o == object.0) (in_range p page.0 count) (not (is_away (row_at rs o p))) out
           where
             assoc : (b c d : Bool) → (b && c) ≡ false → (b && (c && d)) ≡ false
-            assoc true true d no = absurd (let bad : true ≡ false = no in cc)
-            assoc true false d no = refl
-            assoc false c d no = refl
+            assoc true true d outside = absurd (let bad : true ≡ false = outside in cc)
+            assoc true false d outside = refl
+            assoc false c d outside = refl
 
         by : (here ahead : Bool) → was.here ≡ here → (o == object.0 && in_range p page.0 count) ≡ ahead → who (on.Page (page_key o p)) ≡ false
         by false ahead gone out = away gone
@@ -277,7 +277,7 @@ pages_taken header h k object control page count returns lock flush reply past h
     known = pages_known header header.size effect_at there (λ o p. other_if (object.0 == o && in_range p page.0 count) (TakesLock lock flush) tt) (record { shown = shown })
 
 -- the request is taken
-pub mid_taken : (header : Header) (h : ℕ) (k : Parts) (ids : Ids) (past : List Event) (object : ObjectId) (control : ℕ) (page : PageNo) (count returns lock : ℕ) (flush reply : Bool) (waits2 : WaitTable) → Rests header h k ids past → is_control control (live_control h object.0 past) ≡ true → (known : _) → object_at k.memory.objects object.0 ≡ Some known → known.live ≡ true
+pub mid_taken : (header : Header) (h : ℕ) (k : Parts) (ids : Ids) (past : List Event) (object : ObjectId) (control : ℕ) (page : PageNo) (count returns lock : ℕ) (flush reply : Bool) (waits2 : WaitTable) → Rests header h k ids past → is_control control (live_control h object.0 past) ≡ true → (known : ObjectRow) → object_at k.memory.objects object.0 ≡ Some known → known.live ≡ true
     → (lock < 4) ⊎ (lock ≡ 8) → waits2.rows ≡ map (waits.woken (is_unlocked k.memory.resident object.0 page.0 count)) k.waits.rows
     → Mid header h (aiming k (ahead_of object page count flush lock page.0) waits2) ids (asks h object control page count returns flush lock reply ∷ past)
 mid_taken header h k ids past object control page count returns lock flush reply waits2 rests lives known found live few woke =

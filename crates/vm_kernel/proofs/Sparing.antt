@@ -1,5 +1,5 @@
 -- The pages that are spared where one is reclaimed: the one that the front of the frame queue is to copy, and those for whose unlocks accesses wait.
-use Rattle.vm_kernel.proofs.Common.{Bool, Event, FreesOrReturns, HasWaits, Header, Ids, IfSome, List, Matches, None, Option, PageKey, PageRow, Parts, Reason, Reclaim, Rests, Some, Waiting, Waits, [], access_in, address_in, ap, entries_of, entry, entry_at, eqb_tells, false, if◌then◌else◌, inl, inr, is_some, local, next_page, owner_of, page_key, paging, refl, row_at, some_is, subst, sym, true, waiting_in, ℕ, ◌++◌, ◌==◌, ◌||◌, ◌∙◌, ◌∷◌, ◌≡◌, ◌⊎◌}
+use Rattle.vm_kernel.proofs.Common.{Bool, Event, FreesOrReturns, HasWaits, Header, Ids, IfSome, List, Matches, None, Option, PageKey, PageRow, Parts, Reason, Reclaim, Rests, Some, Waiting, Waits, [], access_in, address_in, ap, entries_of, entry, entry_at, eqb_tells, false, if◌then◌else◌, inl, inr, is_some, local, next_page, owner_of, page_key, paging, refl, row_at, some_is, subst, sym, true, waiting_in, ℕ, ◌++◌, ◌==◌, ◌||◌, ◌∙◌, ◌∷◌, ◌≡◌, ◌⊎◌, append_assoc, append-nil, get_or, length, take, take_more, ◌+◌, ◌<◌}
 use Rattle.std.proofs.lemmas.Bool.{or_right}
 use Rattle.vm_base.specs.declared.ids.FrameNo.{FrameNo}
 use Rattle.vm_kernel.proofs.Own.{lives_here, rows_here}
@@ -267,3 +267,15 @@ keeps_spared header h k k2 None answer before after to_copy r = tt
 keeps_spared header h k k2 (Some key) answer before after to_copy r =
     let here = to_copy.1 in
     (here.0, r.kept key.object.0 key.page.0 here.0 here.1 here.2 (skips_one k key here), here.2)
+
+-- the frames of the pages for whose unlocks accesses wait, an access at a time
+
+locked_both : (rs : ResidentTable) (xs ys : List Waiting) → frames_locked rs (xs ++ ys) ≡ frames_locked rs xs ++ frames_locked rs ys
+locked_both rs [] ys = refl
+locked_both rs (w ∷ ws) ys =
+    ap (λ z. option_list (frame_spared rs (page_waited w.on)) ++ z) (locked_both rs ws ys) ∙ sym (append_assoc (option_list (frame_spared rs (page_waited w.on))) (frames_locked rs ws) (frames_locked rs ys))
+
+pub locked_more : (rs : ResidentTable) (rows : List Waiting) (i : ℕ) (d : Waiting) → i < length rows → frames_locked rs (take (i + 1) rows) ≡ frames_locked rs (take i rows) ++ option_list (frame_spared rs (page_waited (get_or rows i d).on))
+locked_more rs rows i d inside =
+    ap (frames_locked rs) (take_more rows i d inside)
+    ∙ (locked_both rs (take i rows) (get_or rows i d ∷ []) ∙ ap (λ z. frames_locked rs (take i rows) ++ z) (append-nil (option_list (frame_spared rs (page_waited (get_or rows i d).on)))))

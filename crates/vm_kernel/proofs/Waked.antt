@@ -53,7 +53,7 @@ count_less test key of (x ∷ xs) w is waits = by (test x.on) refl is (λ later.
     woken_now : x.on ≡ on.Page key → one (test (woken (woken_page key) x).on) ≡ 0
     woken_now page =
         ap (λ (z : On). one (test (if woken_page key z then with_on x on.Again else x).on)) page
-        ∙ (ap (λ (b : Bool). one (test (if b then with_on x on.Again else x).on)) (rw (itself key.object.0, itself key.page.0) refl) ∙ ap one of.again)
+        ∙ (ap (λ (b : Bool). one (test (if b then with_on x on.Again else x).on)) {y = true} (rw (itself key.object.0, itself key.page.0) refl) ∙ ap one of.again)
 
     by : (b : Bool) → test x.on ≡ b → (if b then Some x else oldest_row test xs) ≡ Some w → (oldest_row test xs ≡ Some w → count_rows test (map (woken (woken_page key)) xs) < count_rows test xs)
         → one (test (woken (woken_page key) x).on) + count_rows test (map (woken (woken_page key)) xs) < one (test x.on) + count_rows test xs

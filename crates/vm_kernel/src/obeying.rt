@@ -123,13 +123,7 @@ impl Parts {
 
 // Those that wait for a page of the range which isn't asked are to be run again: each waits for an
 // unlock.
-fn wake_unlocked(
-    waits: &mut Waits,
-    resident: &Resident,
-    object: ObjectId,
-    page: PageNo,
-    count: u32,
-)
+fn wake_unlocked(waits: &mut Waits, resident: &Resident, object: ObjectId, page: PageNo, count: u32)
     ensures rows { waits.new.rows ≡ map (woken (is_unlocked resident.now object.0 page.0 count)) waits.old.rows }
     ensures queue { waits.new.queue ≡ waits.old.queue }
 {

@@ -1,5 +1,4 @@
 use Rattle.std.proofs.Common.{◌≡◌, map}
-use Rattle.std.specs.Prelude.{◌×◌}
 use Rattle.vm_kernel.specs.Taking.{is_unlocked}
 use Rattle.vm_waits.specs.Waits.{count_rows, woken}
 use Rattle.vm_kernel.proofs.obeying.wake_unlocked.Given as goal

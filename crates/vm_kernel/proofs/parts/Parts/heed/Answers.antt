@@ -1,4 +1,4 @@
-use Rattle.vm_kernel.proofs.Growing.{on_ok}
+use Rattle.vm_kernel.proofs.Growing.{each_ok, on_ok}
 use Rattle.vm_kernel.proofs.Heeding.{askers_kept, early_answer, none_locked, other_word}
 use Rattle.std.proofs.Common.{ap}
 use Rattle.vm_waits.specs.Waits.{WaitTable}
@@ -12,7 +12,7 @@ returns-in_default g c =
       fresh = c.hear.ensures.fresh;
       asker = c.hear.ensures.asker;
       answered = c.hear.ensures.answered;
-      askers = on_ok c.hear.result _ _ (λ same. askers_kept _ c.args.self.now.waits c.hear.new.self.waits same) c.hear.ensures.waits;
+      askers = each_ok c.hear.result _ _ (λ same woken. askers_kept woken c.args.self.now.waits c.hear.new.self.waits same) c.hear.ensures.waits;
       queue = on_ok c.hear.result _ _ (λ same. ap (λ (z : WaitTable). z.queue) same) c.hear.ensures.waits;
       goes = c.hear.ensures.goes;
       early = on_ok c.hear.result _ _ (λ brought. early_answer c.hear.new.log.items brought) c.hear.ensures.brought;
