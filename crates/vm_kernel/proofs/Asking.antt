@@ -1,5 +1,5 @@
 -- What a request for a page leaves of the kernel, and an access that waits for something else.
-use Rattle.vm_kernel.proofs.Common.{Asks, AsksPage, Bool, Event, FrameNo, HasWaiters, Header, HostParts, Ids, IsAsked, List, Matches, ObjectRow, ObjectTable, On, PageKey, PageRow, Parts, Reason, Some, Up, WaitTable, Waiting, Works, [], ap, arith, begun_at, entry, false, frames_held, frames_wired, host_id, inl, is_control, is_ready_state, live_control, local, local_after, object_at, place_of, ready_in, refl, returns_out, reverse, slice_get, some_is, subst, sym, true, waiting, with_on, ℕ, ◌&&◌, ◌+◌, ◌==◌, ◌∙◌, ◌∷◌, ◌≡◌}
+use Rattle.vm_kernel.proofs.Common.{Asks, AsksPage, Bool, Event, FrameNo, HasWaiters, Header, HostParts, Ids, List, Matches, ObjectRow, ObjectTable, On, PageKey, PageRow, Parts, Reason, Some, Up, WaitTable, Waiting, Works, [], ap, arith, begun_at, entry, false, frames_held, frames_wired, host_id, inl, is_control, is_ready_state, live_control, local, local_after, object_at, place_of, ready_in, refl, returns_out, reverse, slice_get, some_is, subst, sym, true, waiting, with_on, ℕ, ◌&&◌, ◌+◌, ◌==◌, ◌∙◌, ◌∷◌, ◌≡◌}
 use Rattle.vm_abroad.proofs.Home.{object_stays}
 use Rattle.vm_fault.specs.Faults.{KeepsPlan}
 use Rattle.vm_model.specs.declared.event.Event.TheVariants as event

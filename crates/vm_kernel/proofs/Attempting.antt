@@ -1,5 +1,5 @@
 -- An access is run: what holds after each thing that it may come to.
-use Rattle.vm_kernel.proofs.Common.{Bool, Command, Event, Header, HostId, HostParts, Ids, IfSome, IsAt, JoinsQueue, LegalEvents, List, Matches, None, ObjectId, Option, Outside, PageKey, PageRow, Parts, RegionRow, Some, Up, WaitTable, Waiting, Want, Wants, WantsFrame, Works, [], access_in, address_in, ap, append_assoc, claimed, clean_row, count_again, entry, entry_at, false, free, host_id, if◌then◌else◌, inl, inr, named, one_again, one_frame, page_at, page_of, queued, refl, region_at, row_at, row_put, rows_in, some_is, subst, suc, sym, true, unlocked, with_on, zero, ℕ, ◌%◌, ◌&&◌, ◌++◌, ◌+◌, ◌-◌, ◌∙◌, ◌∷◌, ◌≡◌, ◌≤◌, ◌⊎◌}
+use Rattle.vm_kernel.proofs.Common.{Bool, Command, Event, Header, HostId, HostParts, Ids, IfSome, IsAt, JoinsQueue, LegalEvents, List, Matches, None, ObjectId, Option, Outside, PageKey, PageRow, Parts, RegionRow, Some, Up, WaitTable, Waiting, Want, Wants, WantsFrame, Works, [], access_in, address_in, ap, append_assoc, claimed, clean_row, count_again, entry, entry_at, false, free, host_id, if◌then◌else◌, inl, inr, named, one_again, one_frame, page_at, page_of, queued, refl, region_at, row_put, rows_in, some_is, subst, suc, sym, true, unlocked, with_on, zero, ℕ, ◌%◌, ◌&&◌, ◌++◌, ◌+◌, ◌-◌, ◌∙◌, ◌∷◌, ◌≡◌, ◌≤◌, ◌⊎◌}
 use Rattle.vm_base.specs.declared.entry.Entry.{Entry}
 use Rattle.vm_fault.specs.Faults.{AfterZeros, AsksUnlock, AtOnce, Ended, FaultState, Faulted, Hits, Needs, NothingChanges, Nowhere, Prepares, Raised, RequestsPage, ToAsk, ToRaise}
 use Rattle.vm_fault.specs.Walks.{Finds, PassesOver, Sinks, StopsAsked, WalksTo, is_storing, keeps_out, top_place, wanted_number, writes_at}

@@ -1,5 +1,5 @@
 -- A load or store begins: its task waits, and the access is to be run.
-use Rattle.vm_kernel.proofs.Common.{Access, Asker, BeganInOrder, Bool, ChainTable, Code, Command, EndsNext, Entry, Event, FindsPage, Grows, HasWaiters, Header, Ids, IsAllowed, IsDone, IsLined, IsNextAccess, IsSizedWant, LegalEvents, List, Mapped, Matches, None, ObjectTable, Option, Outside, Parts, PutsEntry, Ran, Reason, ResidentTable, Rests, RunsFirst, Some, Starts, TaskId, WaitTable, Waiting, Want, Works, [], access_in, access_refusal, acting, acts_on, address_in, allows, ap, arith, begun_at, code_where, count_again, entries_in, entries_of, entry, entry_at, eqb_tells, false, host_of, if◌then◌else◌, inl, inr, is_none, is_some, is_woken, length, lives_on, need_in, none_again, not, puts_cases, puts_elsewhere, refl, refusal, rows_in, some_is, subst, sym, true, waiting, waiting_in, ℕ, ◌%◌, ◌++◌, ◌+◌, ◌<◌, ◌==◌, ◌∙◌, ◌∷◌, ◌≡◌}
+use Rattle.vm_kernel.proofs.Common.{Access, Asker, BeganInOrder, Bool, ChainTable, Code, Command, EndsNext, Entry, Event, FindsPage, Grows, HasWaiters, Header, Ids, IsAllowed, IsDone, IsLined, IsNextAccess, IsSizedWant, LegalEvents, List, Mapped, Matches, None, ObjectTable, Option, Outside, Parts, PutsEntry, Ran, Reason, ResidentTable, Rests, RunsFirst, Some, Starts, TaskId, WaitTable, Waiting, Want, Works, [], access_in, access_refusal, acting, acts_on, address_in, allows, ap, arith, begun_at, code_where, count_again, entries_in, entries_of, entry, entry_at, eqb_tells, false, host_of, if◌then◌else◌, inl, inr, is_none, is_some, is_woken, length, lives_on, need_in, none_again, not, puts_cases, puts_elsewhere, refl, refusal, rows_in, subst, sym, true, waiting, waiting_in, ℕ, ◌%◌, ◌++◌, ◌+◌, ◌<◌, ◌==◌, ◌∙◌, ◌∷◌, ◌≡◌}
 use Rattle.vm_base.specs.declared.code.Code.TheVariants as code
 use Rattle.vm_base.specs.declared.ids.Access.{Access as Need}
 use Rattle.vm_model.specs.declared.event.Event.TheVariants as event

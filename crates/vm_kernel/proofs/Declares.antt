@@ -16,7 +16,6 @@ use Rattle.vm_state.proofs.Knowing.{counts_still, known_cases, known_put, known_
 use Rattle.vm_state.proofs.Tallies.{tally_none, tally_put, tally_same}
 use Rattle.vm_state.proofs.Told.{told_all, waits_told}
 use Rattle.vm_state.specs.References.{is_backing, is_over, references_to, tally}
-use Rattle.vm_supply.specs.declared.woken.Woken.{Woken}
 use Rattle.vm_kernel.specs.Mapping.{Again, Holds}
 use Rattle.vm_kernel.proofs.Counts.{by_none, none_on, on_entered, one_on}
 use Rattle.vm_kernel.proofs.Regions.{apart_there, none_leads}

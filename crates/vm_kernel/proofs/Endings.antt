@@ -1,5 +1,5 @@
 -- Tasks end, and ranges are unmapped.
-use Rattle.vm_kernel.proofs.Common.{Access, AllRows, Bool, ChainTable, ChangesOnly, Command, Entry, Event, HasTasks, HasUse, HasWaiters, Header, Ids, IsDone, IsShared, List, Lowered, MapChange, Mapped, None, ObjectTable, On, Option, Outside, Parts, Raised, Ran, ResidentTable, Rests, Some, Starts, Sweeps, TaskId, Waiting, Woken, [], ap, arith, count_on, entries_in, entries_of, eqb_tells, false, has_region, holds, host_of, if◌then◌else◌, in_use, inl, inr, is_on, is_woken, length, most_entries, named, next_region, parts_for, refl, region_entries, removal, removed, rows_in, rows_rewritten, subst, sym, true, unwrap_or, waiting, ℕ, ◌++◌, ◌+◌, ◌-◌, ◌==◌, ◌∙◌, ◌∷◌, ◌≡◌, ◌≤◌}
+use Rattle.vm_kernel.proofs.Common.{Access, AllRows, Bool, ChainTable, ChangesOnly, Command, Entry, Event, HasTasks, HasUse, HasWaiters, Header, Ids, IsDone, IsShared, List, Lowered, MapChange, Mapped, None, ObjectTable, On, Option, Outside, Parts, Raised, Ran, ResidentTable, Rests, Some, Starts, Sweeps, TaskId, Waiting, [], ap, arith, count_on, entries_in, entries_of, eqb_tells, false, has_region, holds, host_of, if◌then◌else◌, in_use, inl, inr, is_on, is_woken, length, most_entries, named, next_region, parts_for, refl, region_entries, removal, removed, rows_in, rows_rewritten, subst, sym, true, unwrap_or, waiting, ℕ, ◌++◌, ◌+◌, ◌-◌, ◌==◌, ◌∙◌, ◌∷◌, ◌≡◌, ◌≤◌}
 use Rattle.std.proofs.Common.{is_some}
 use Rattle.vm_abroad.proofs.Home.{homes_next, object_stays}
 use Rattle.vm_kernel.proofs.After.{controls_stay, regions_moved}

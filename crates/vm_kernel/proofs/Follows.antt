@@ -1,5 +1,5 @@
 -- The causes of what an access does: in the history in front of it stands what its event wants.
-use Rattle.vm_kernel.proofs.Common.{Command, Comes, Event, Header, Ids, IsAt, List, Matches, ObjectId, ObjectRow, Outside, PageKey, PageRow, Parts, Some, Suffice, TaskId, Up, Waits, Want, [], access_in, address_in, ap, arith, desired_access, entries_of, entry_at, false, host_id, if◌then◌else◌, inl, inr, is_store, little_endian, lock_number, named, nat_tests, number_at, page_at, page_in, page_of, refl, region_of, slice_range, subst, suc, sym, true, unlocked, zero, ℕ, ◌%◌, ◌+◌, ◌==◌, ◌∙◌, ◌∷◌, ◌≡◌, ◌≤◌}
+use Rattle.vm_kernel.proofs.Common.{Command, Comes, Event, Header, Ids, IsAt, List, Matches, ObjectId, ObjectRow, Outside, PageKey, PageRow, Parts, Some, Suffice, TaskId, Up, Waits, Want, [], access_in, address_in, ap, arith, desired_access, entries_of, entry_at, false, host_id, if◌then◌else◌, inl, inr, is_store, little_endian, named, nat_tests, number_at, page_at, page_in, page_of, refl, region_of, slice_range, subst, suc, sym, true, zero, ℕ, ◌%◌, ◌+◌, ◌==◌, ◌∙◌, ◌∷◌, ◌≡◌, ◌≤◌}
 use Rattle.vm_fault.specs.Walks.{Finds, MayCome, Sinks, WalksTo, is_storing, wanted_number}
 use Rattle.vm_kernel.proofs.Growing.{Follows}
 use Rattle.vm_fault.specs.Walks.{keeps_out}

@@ -1,5 +1,5 @@
 -- A message of a pager is taken: what the kernel stands for behind it.
-use Rattle.vm_kernel.proofs.Common.{Access, AllReferred, ArePlain, Backing, Bool, Cancels, ChainTable, Changes, Command, Elsewhere, EndsNobody, Event, FailsNow, FailsPage, FillsPage, Fit, FrameTable, HasAsker, HasControls, HasFrames, HasHomes, HasKinds, HasLaundry, HasOrder, HasPages, HasRegions, HasTasks, HasUse, HasWaiters, Header, HostId, HostParts, Ids, IsAnswered, IsAsked, IsOfKind, IsPagerTold, IsReferred, IsSettled, Lacks, List, Local, LocalEffect, Mapped, Message, None, ObjectId, ObjectRow, ObjectTable, On, Option, Outside, PageNo, PageRow, Parts, PutsObject, PutsRow, Readies, Reason, Region, ResidentTable, Rests, SameMarks, SameObjects, Some, Supplies, TakesError, TakesNothing, TakesPage, Waiting, Want, Woken, Works, Zeroes, [], absent_at, added, ap, arith, asked_is, asked_row, away, backing_of, clean_row, count_released, entries_of, eqb_tells, false, frames_held, frames_wired, holds, home_of, host_id, host_of, if◌then◌else◌, in_use, inl, inr, is_control, is_on, is_ready, is_some, is_woken, key_of, last_control, last_in, live_control, live_in, local, local_after, local_of_row, lock_numbered, marked_regions, named, nat_lt, nat_tests, next_object, next_region, not, object_at, object_home, one_case, page_in, page_key, place_of, ready_in, refl, region_of, replicate, returns_out, reverse, row_at, row_cases, slice_get, some_is, subst, sym, true, unlocked, waiting, ℕ, ◌&&◌, ◌+◌, ◌-◌, ◌<◌, ◌==◌, ◌^◌, ◌∙◌, ◌∷◌, ◌≡◌, ◌≤◌, ◌⊎◌}
+use Rattle.vm_kernel.proofs.Common.{Access, AllReferred, ArePlain, Backing, Bool, Cancels, ChainTable, Changes, Command, Elsewhere, EndsNobody, Event, FailsNow, FailsPage, FillsPage, Fit, FrameTable, HasAsker, HasControls, HasFrames, HasHomes, HasKinds, HasLaundry, HasOrder, HasPages, HasRegions, HasTasks, HasUse, HasWaiters, Header, HostId, HostParts, Ids, IsAnswered, IsOfKind, IsPagerTold, IsReferred, IsSettled, Lacks, List, Local, LocalEffect, Mapped, Message, None, ObjectId, ObjectRow, ObjectTable, On, Option, Outside, PageNo, PageRow, Parts, PutsObject, PutsRow, Readies, Reason, Region, ResidentTable, Rests, SameMarks, SameObjects, Some, Supplies, TakesError, TakesNothing, TakesPage, Waiting, Want, Woken, Works, Zeroes, [], absent_at, added, ap, arith, asked_is, asked_row, away, backing_of, clean_row, count_released, entries_of, eqb_tells, false, frames_held, frames_wired, holds, home_of, host_id, host_of, if◌then◌else◌, in_use, inl, inr, is_control, is_on, is_ready, is_some, is_woken, key_of, last_control, last_in, live_control, live_in, local, local_after, local_of_row, lock_numbered, marked_regions, named, nat_lt, nat_tests, next_object, next_region, not, object_at, object_home, one_case, page_in, page_key, place_of, ready_in, refl, region_of, replicate, returns_out, reverse, row_at, row_cases, slice_get, some_is, subst, sym, true, unlocked, waiting, ℕ, ◌&&◌, ◌+◌, ◌-◌, ◌<◌, ◌==◌, ◌^◌, ◌∙◌, ◌∷◌, ◌≡◌, ◌≤◌, ◌⊎◌}
 use Rattle.vm_model.specs.declared.message.Message.TheVariants as message
 use Rattle.vm_objects.specs.declared.row.PagerState.TheVariants as state
 use Rattle.vm_supply.specs.declared.woken.Woken.TheVariants as woken

@@ -1,5 +1,5 @@
 -- A lock request that a host took is done, and paid.
-use Rattle.vm_kernel.proofs.Common.{AllInner, Bool, Command, Event, Fit, FailsNow, Header, HostId, HostParts, Ids, IsAbsencePaid, IsBrought, LaundryList, LegalEvents, List, Message, None, ObjectId, ObjectRow, Option, Outside, PageNo, Parts, Plays, Rests, RunsNoneYet, Some, Still, Works, [], absence_more, ap, append_assoc, arith, before_more, before_step, eqb_tells, error_more, false, host_id, if◌then◌else◌, inl, inr, is_control, live_in, no_request, not, object_at, paging, refl, returns_out, since_more, some_is, subst, sym, true, ℕ, ◌++◌, ◌<◌, ◌∙◌, ◌∷◌, ◌≡◌}
+use Rattle.vm_kernel.proofs.Common.{AllInner, Bool, Command, Event, Fit, FailsNow, Header, HostId, HostParts, Ids, IsAbsencePaid, IsBrought, LaundryList, LegalEvents, List, Message, None, ObjectId, ObjectRow, Option, Outside, PageNo, Parts, Plays, Rests, RunsNoneYet, Some, Still, Works, [], absence_more, ap, append_assoc, arith, eqb_tells, error_more, false, host_id, if◌then◌else◌, inl, inr, is_control, live_in, no_request, object_at, paging, refl, returns_out, some_is, subst, sym, true, ℕ, ◌++◌, ◌<◌, ◌∙◌, ◌∷◌, ◌≡◌}
 use Rattle.std.specs.Prelude.{map, ◌⊎◌}
 use Rattle.vm_kernel.proofs.Answers.{hears, nothing_dead}
 use Rattle.vm_kernel.proofs.Growing.{goes_none}

@@ -1,8 +1,8 @@
 -- A page obeys a lock request: what the kernel stands for behind that.
-use Rattle.vm_kernel.proofs.Common.{AllReferred, ArePlain, Bool, Caused, ChainTable, Changes, Command, Discards, Does, Drops, Elsewhere, Event, Fit, FrameTable, HasControls, HasFrames, HasHomes, HasKinds, HasLaundry, HasOrder, HasPages, HasTasks, HasUse, HasWaiters, Header, HostParts, Ids, IfSome, IsPlainRow, IsReferred, IsSettled, LaundryList, List, Local, LocalEffect, Matches, None, ObjectId, ObjectRow, ObjectTable, Option, Outside, PageKey, PageNo, PageRow, Parts, PartsFit, PutsAbsent, Queues, ResidentTable, Rests, Returns, SameObjects, Some, Suffice, TakesLock, Up, [], absent_at, ap, arith, away, entries_of, false, fit_objects, frame_count, frame_here, frames_held, frames_wired, holds, home_of, host_id, host_of, if◌then◌else◌, in_use, inl, inr, is_control, is_on, is_ready, is_some, is_woken, last_control, live_control, live_in, local, local_after, local_of_row, named, nat_tests, next_region, not, object_at, object_home, page_in, pages_of_row, paging, place_of, queues_except, ready_in, refl, returns_out, reverse, row_at, slice_get, some_is, subst, sym, true, waiting, ℕ, ◌&&◌, ◌++◌, ◌+◌, ◌-◌, ◌<◌, ◌==◌, ◌||◌, ◌∙◌, ◌∷◌, ◌≡◌, AreShared, HasEntries, HasRegions, AllUsed, HasWaits, IsRanged, Works, backing_of, marked_regions, next_object, region_of, length, HaveHomes}
+use Rattle.vm_kernel.proofs.Common.{AllReferred, Bool, Caused, ChainTable, Changes, Command, Discards, Does, Drops, Elsewhere, Event, Fit, HasControls, HasFrames, HasHomes, HasKinds, HasLaundry, HasOrder, HasPages, HasTasks, HasUse, HasWaiters, Header, HostParts, Ids, IfSome, IsReferred, IsSettled, LaundryList, List, Local, LocalEffect, None, ObjectId, ObjectRow, ObjectTable, Option, Outside, PageKey, PageNo, PageRow, Parts, PartsFit, PutsAbsent, Queues, ResidentTable, Returns, SameObjects, Some, Suffice, Up, [], absent_at, ap, arith, away, entries_of, false, fit_objects, frame_count, frame_here, frames_held, frames_wired, holds, home_of, host_id, host_of, if◌then◌else◌, in_use, inl, inr, is_on, is_ready, is_some, is_woken, last_control, live_control, live_in, local, local_after, local_of_row, named, nat_tests, next_region, not, object_at, object_home, page_in, pages_of_row, paging, place_of, queues_except, ready_in, refl, returns_out, reverse, row_at, slice_get, some_is, subst, sym, true, waiting, ℕ, ◌&&◌, ◌++◌, ◌+◌, ◌-◌, ◌<◌, ◌==◌, ◌||◌, ◌∙◌, ◌∷◌, ◌≡◌, AreShared, HasEntries, HasRegions, AllUsed, HasWaits, IsRanged, Works, backing_of, marked_regions, next_object, region_of, length, HaveHomes}
 use Rattle.vm_state.specs.Stands.{KnowsFiles}
 use Rattle.vm_kernel.proofs.After.{Leaves, controls_after, homeless_after, regions_after}
-use Rattle.vm_kernel.proofs.Answers.{IsNothing, hears}
+use Rattle.vm_kernel.proofs.Answers.{hears}
 use Rattle.vm_kernel.proofs.Brings.{plain_changed, plain_here, IsPlainAway}
 use Rattle.vm_kernel.proofs.Growing.{Follows, suffices}
 use Rattle.vm_kernel.proofs.Hearing.{may_lock, regions_of}
@@ -18,7 +18,6 @@ use Rattle.vm_kernel.proofs.Washing.{laundry_returned}
 use Rattle.vm_kernel.specs.Plays.{AsLocked, DepartsLocked}
 use Rattle.vm_legal.specs.Licences.{Flushed, IsLocked, Wanted, gives_back}
 use Rattle.vm_legal.specs.Living.{tasks as made_tasks}
-use Rattle.vm_model.specs.Words.{in_range}
 use Rattle.vm_model.specs.declared.event.Event.TheVariants as event
 use Rattle.vm_model.specs.declared.message.Message.TheVariants as message
 use Rattle.vm_parts.proofs.Fitting.{fit_changed}

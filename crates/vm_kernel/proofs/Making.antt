@@ -1,5 +1,5 @@
 -- A task is made: it doesn't wait, and who waits goes on waiting; and an object is made, which has no control yet.
-use Rattle.vm_kernel.proofs.Common.{Access, Bool, ChainTable, ChangesOnly, Event, HasControls, HasWaiters, Header, HostId, Ids, List, Mapped, None, ObjectRow, ObjectTable, On, Option, Outside, Parts, PutsObject, Ran, ResidentTable, Rests, Some, Starts, TaskId, Temp, Waiting, Without, Woken, [], ap, arith, entries_in, entry, eqb_tells, false, holds, host_id, inl, inr, is_some, last_in, live_in, next_region, object_at, one_case, ready_in, refl, rows_in, some_is, subst, sym, tasks, true, waiting, waiting_in, ℕ, ◌<◌, ◌∙◌, ◌∷◌, ◌≡◌}
+use Rattle.vm_kernel.proofs.Common.{Access, Bool, ChainTable, ChangesOnly, Event, HasControls, HasWaiters, Header, HostId, Ids, List, Mapped, None, ObjectRow, ObjectTable, On, Option, Outside, Parts, PutsObject, Ran, ResidentTable, Rests, Some, Starts, TaskId, Temp, Waiting, Without, [], ap, arith, entries_in, entry, eqb_tells, false, holds, host_id, inl, inr, is_some, last_in, live_in, next_region, object_at, one_case, ready_in, refl, rows_in, some_is, subst, sym, tasks, true, waiting, waiting_in, ℕ, ◌<◌, ◌∙◌, ◌∷◌, ◌≡◌}
 use Rattle.std.proofs.lemmas.Bool.Decides.{eqb_tells}
 use Rattle.std.specs.Prelude.{unwrap_or}
 use Rattle.vm_base.specs.declared.entry.Entry.{Entry}

@@ -1,5 +1,5 @@
 -- A lock request is taken at once for all pages of its range, and its host goes through them one after another: the rows as they will be, of those that it hasn't come to.
-use Rattle.vm_kernel.proofs.Common.{Bool, Changes, Fit, FrameNo, FrameTable, HostParts, IfSome, List, Local, None, Option, PageKey, PageRow, PutsRow, Queues, ResidentTable, Some, TakesLock, [], ap, arith, eqb_tells, false, if◌then◌else◌, inl, inr, is_some, led, local_after, local_of_row, lock_number, nat_tests, not, owner_of, page_in, page_key, refl, row_at, some_is, subst, sym, true, ℕ, suc, ◌&&◌, ◌+◌, ◌<◌, ◌==◌, ◌||◌, ◌∙◌, ◌∷◌, ◌≡◌, ◌≤◌, ◌⊎◌}
+use Rattle.vm_kernel.proofs.Common.{Bool, Changes, Fit, FrameNo, FrameTable, HostParts, List, None, Option, PageKey, PageRow, Queues, ResidentTable, Some, TakesLock, [], ap, arith, eqb_tells, false, if◌then◌else◌, inl, inr, led, local_after, local_of_row, lock_number, nat_tests, owner_of, refl, row_at, some_is, subst, sym, true, ℕ, suc, ◌&&◌, ◌<◌, ◌==◌, ◌||◌, ◌∙◌, ◌∷◌, ◌≡◌, ◌⊎◌}
 use Rattle.std.specs.Prelude.{map, nat_le, option_map}
 use Rattle.std.proofs.lemmas.Bool.{and_parts}
 use Rattle.vm_base.specs.declared.ids.Lock.{Lock}

@@ -1,5 +1,5 @@
 -- One page of a host is reclaimed, and a pageout does that over and over.
-use Rattle.vm_kernel.proofs.Common.{AllLive, AllSkipped, ArePlain, Begins, Bool, Channel, Command, Created, Creates, EachGone, Elsewhere, Err, Event, Fit, FrameNo, FrameTable, FreesOrReturns, GivesBack, HasControls, HasFrames, HasLaundry, HasOrder, HasPages, HasRegions, HasTasks, HasUse, HasWaits, HaveHomes, Header, HostId, HostIsFull, Ids, IfSome, IsExhausted, IsFreed, IsNothing, IsReturned, KeepsPages, LegalEvents, List, LocalEffect, MatchOption, Matches, None, ObjectRow, Ok, OnOk, Option, Outside, PageKey, PageRow, PagerState, PagesOut, Parts, PartsFit, PutsObject, PutsRow, Queues, Reclaim, ReclaimEffects, ResidentTable, Rests, Result, ReturnCause, Returns, ReturnsOn, Some, Starves, Up, [], absent_at, ap, arith, away, backing_of, claimed, controlled, departures, entries_of, eqb_tells, false, fit_touched, frame_count, frames_held, frames_wired, free, has_pager, holds, home_of, host_id, host_of, if_true, if◌then◌else◌, in_use, inl, inr, is_claimed, is_queued, is_ready, is_skipped, is_woken, last_control, last_in, length, live_control, live_in, local, local_after, local_of_row, looked, mark_there, named, next_object, next_region, not, owner_of, page_in, page_key, place_of, queues_after_search, refl, region_of, returns_out, reverse, row_at, row_cases, row_with_control, sends, slice_get, some_is, subst, sym, told_from, true, unnamed, ℕ, ◌&&◌, ◌++◌, ◌+◌, ◌-◌, ◌<◌, ◌==◌, ◌||◌, ◌∙◌, ◌∷◌, ◌≡◌, ◌⊎◌}
+use Rattle.vm_kernel.proofs.Common.{AllLive, AllSkipped, ArePlain, Begins, Bool, Channel, Command, Created, Creates, EachGone, Elsewhere, Event, Fit, FrameNo, FrameTable, FreesOrReturns, GivesBack, HasControls, HasFrames, HasLaundry, HasOrder, HasPages, HasRegions, HasTasks, HasUse, HasWaits, HaveHomes, Header, HostId, HostIsFull, Ids, IfSome, IsExhausted, IsFreed, IsNothing, IsReturned, KeepsPages, LegalEvents, List, LocalEffect, MatchOption, Matches, None, ObjectRow, Option, Outside, PageKey, PageRow, PagerState, PagesOut, Parts, PartsFit, PutsObject, PutsRow, Queues, Reclaim, ReclaimEffects, ResidentTable, Rests, ReturnCause, Returns, ReturnsOn, Some, Starves, Up, [], absent_at, ap, arith, away, backing_of, claimed, controlled, departures, entries_of, false, fit_touched, frame_count, frames_held, frames_wired, free, has_pager, holds, home_of, host_id, host_of, if_true, if◌then◌else◌, in_use, inl, inr, is_claimed, is_queued, is_ready, is_skipped, is_woken, last_control, last_in, length, live_control, live_in, local, local_after, local_of_row, looked, mark_there, named, next_object, next_region, not, owner_of, page_in, page_key, place_of, queues_after_search, refl, region_of, returns_out, reverse, row_at, row_cases, row_with_control, sends, slice_get, some_is, subst, sym, told_from, true, ℕ, ◌&&◌, ◌++◌, ◌+◌, ◌-◌, ◌<◌, ◌==◌, ◌||◌, ◌∙◌, ◌∷◌, ◌≡◌, ◌⊎◌}
 use Rattle.vm_legal.specs.Licences.{Drops, Reclaimed as ForFrames}
 use Rattle.vm_legal.specs.Living.{tasks as made_tasks}
 use Rattle.vm_legal.specs.Reclaims.{Reclaims as May}
@@ -13,7 +13,6 @@ use Rattle.vm_kernel.proofs.Growing.{Follows, free_is, goes_none, goes_one, suff
 use Rattle.vm_kernel.proofs.Losing.{IsSeen, seen_here}
 use Rattle.vm_kernel.proofs.Brings.{plain_changed}
 use Rattle.vm_kernel.proofs.Pages.{frames_changed, itself, laundry_changed, pages_moved}
-use Rattle.std.specs.Prelude.{IfOk}
 use Rattle.vm_abroad.proofs.Home.{object_stays}
 use Rattle.vm_kernel.proofs.Known.{known_on, other_if, other_nested, pages_known}
 use Rattle.vm_kernel.proofs.Returning.{controls_begun, controls_same, controls_told, counts_controlled, first_of_object, kind_controlled, kinds_controlled, pages_created, ready_controlled, told_controlled, unasked, untold_temporary}
@@ -24,7 +23,7 @@ use Rattle.vm_parts.proofs.Rows.{stood}
 use Rattle.vm_state.specs.Places.{known_local}
 use Rattle.vm_state.specs.Stands.{HasHomes, IsOfKind, KnowsFiles}
 use Rattle.vm_state.proofs.Files.{files_put}
-use Rattle.vm_kernel.specs.Serving.{FreesBut, IsHere, IsToCopy}
+use Rattle.vm_kernel.specs.Serving.{FreesBut, IsToCopy}
 use Rattle.vm_state.proofs.Changing.{regions_controlled}
 use Rattle.vm_state.proofs.Referred.{referred_controlled, referred_gone}
 use Rattle.vm_state.proofs.Told.{waiters_lost}

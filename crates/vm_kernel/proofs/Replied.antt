@@ -1,8 +1,8 @@
 -- A lock request that the step took is done still, whatever comes behind that.
-use Rattle.vm_kernel.proofs.Common.{Bool, Command, Event, List, Message, None, ObjectId, Option, Some, ap, false, or_true, refl, sym, true, ℕ, ◌==◌, ◌&&◌, ◌||◌, ◌∙◌, ◌∷◌, ◌≡◌}
+use Rattle.vm_kernel.proofs.Common.{Bool, Event, List, None, Some, or_true, refl, sym, true, ◌∙◌, ◌∷◌, ◌≡◌}
 use Rattle.vm_kernel.specs.Abroad.{IsNobodys}
 use Rattle.vm_kernel.specs.Matches.{IsReplied}
-use Rattle.vm_legal.specs.Licences.{LockRequest, lock_taken}
+use Rattle.vm_legal.specs.Licences.{lock_taken}
 use Rattle.vm_legal.specs.Steps.{completes, since}
 use Rattle.vm_legal.specs.Stretches.{IsInner}
 use Rattle.vm_model.specs.declared.event.Event.TheVariants as event

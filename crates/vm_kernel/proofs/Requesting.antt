@@ -1,26 +1,21 @@
 -- A lock request is taken: what the kernel stands for, once its rows are as they will be, and those are to be run again that wait for unlocks under it.
-use Rattle.vm_kernel.proofs.Common.{AllReferred, Bool, Elsewhere, Event, Fit, HasLaundry, HasPages, HasWaiters, Header, Ids, IsReferred, List, Local, LocalEffect, Mapped, None, ObjectId, ObjectTable, On, Option, PageKey, PageNo, PageRow, PartsFit, Parts, Reason, ResidentTable, Rests, Some, TakesLock, WaitTable, Waiting, Want, [], absent_at, ap, arith, entry, eqb_tells, false, host_id, if◌then◌else◌, inl, inr, is_control, is_woken, live_control, local, local_after, local_of_row, map, named, not, object_at, owner_of, page_key, place_of, refl, row_at, some_is, subst, sym, true, waiting, ℕ, ◌&&◌, ◌<◌, ◌==◌, ◌||◌, ◌∙◌, ◌∷◌, ◌≡◌, ◌⊎◌, ObjectRow}
-use Rattle.std.specs.Prelude.{All, get_or, length, nat_le, nat_lt, option_map, ◌+◌, ◌≤◌}
-use Rattle.vm_frames.specs.Frames.{is_claimed}
+use Rattle.vm_kernel.proofs.Common.{Bool, Elsewhere, Event, Fit, HasPages, HasWaiters, Header, Ids, List, Local, LocalEffect, Mapped, ObjectId, On, Option, PageKey, PageNo, PageRow, Parts, Reason, ResidentTable, Rests, Some, TakesLock, WaitTable, Waiting, Want, absent_at, ap, eqb_tells, false, if◌then◌else◌, inl, inr, is_control, is_woken, live_control, local, local_after, local_of_row, map, not, object_at, owner_of, page_key, place_of, refl, row_at, subst, sym, true, waiting, ℕ, ◌&&◌, ◌<◌, ◌==◌, ◌||◌, ◌∙◌, ◌∷◌, ◌≡◌, ◌⊎◌, ObjectRow}
+use Rattle.std.specs.Prelude.{nat_le, nat_lt, option_map, ◌+◌}
 use Rattle.vm_kernel.proofs.After.{Leaves, controls_after, homeless_after, regions_after}
-use Rattle.vm_kernel.proofs.Answers.{hears, on_page, same_effect}
-use Rattle.vm_kernel.proofs.Known.{IsOther, other_if, pages_known}
+use Rattle.vm_kernel.proofs.Answers.{on_page}
+use Rattle.vm_kernel.proofs.Known.{other_if, pages_known}
 use Rattle.vm_kernel.proofs.Locking.{Mid, asks}
 use Rattle.vm_kernel.proofs.Ordering.{woken_keeps}
 use Rattle.vm_kernel.proofs.Own.{own_host}
-use Rattle.vm_kernel.proofs.Pages.{itself}
 use Rattle.vm_kernel.proofs.Pending.{Ahead, aimed, fit_pended, is_ahead, owner_repaged, pend, pended, pended_frame, pended_here, retabled, row_back, row_repaged, shown_pended}
-use Rattle.vm_kernel.specs.Fits.{ArePlain, IsPlainRow}
+use Rattle.vm_kernel.specs.Fits.{IsPlainRow}
 use Rattle.vm_kernel.specs.Taking.{is_away, is_unlocked}
 use Rattle.vm_model.specs.Words.{in_range}
-use Rattle.vm_model.specs.declared.message.Message.TheVariants as message
-use Rattle.vm_queues.specs.Queues.{is_queued}
 use Rattle.vm_state.proofs.Waiting.{IsAwaitedBy}
 use Rattle.vm_state.proofs.Waking.{waits_woken}
 use Rattle.vm_state.specs.Places.{known_local}
 use Rattle.vm_state.specs.References.{MayLock, is_live_in}
-use Rattle.vm_state.specs.Stands.{IsWashed}
-use Rattle.vm_state.specs.Waiters.{Asker, IsAsked, IsLockedFor, is_awaited}
+use Rattle.vm_state.specs.Waiters.{is_awaited}
 use Rattle.vm_supply.specs.declared.woken.Woken.TheVariants as woken
 use Rattle.vm_waits.proofs.Tables.{waked}
 use Rattle.vm_waits.specs.Waits.{Waked}

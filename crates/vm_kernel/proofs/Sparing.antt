@@ -1,5 +1,5 @@
 -- The pages that are spared where one is reclaimed: the one that the front of the frame queue is to copy, and those for whose unlocks accesses wait.
-use Rattle.vm_kernel.proofs.Common.{Bool, Event, FreesOrReturns, HasWaits, Header, Ids, IfSome, List, Matches, None, Option, PageKey, PageRow, Parts, Reason, Reclaim, Rests, Some, Waiting, Waits, [], access_in, address_in, ap, entries_of, entry, entry_at, eqb_tells, false, if◌then◌else◌, inl, inr, is_some, local, next_page, owner_of, page_key, paging, refl, row_at, some_is, subst, sym, true, waiting_in, ℕ, ◌++◌, ◌==◌, ◌||◌, ◌∙◌, ◌∷◌, ◌≡◌, ◌⊎◌, append_assoc, append-nil, get_or, length, take, take_more, ◌+◌, ◌<◌}
+use Rattle.vm_kernel.proofs.Common.{Bool, Event, FreesOrReturns, HasWaits, Header, Ids, IfSome, List, Matches, None, Option, PageKey, PageRow, Parts, Reason, Reclaim, Rests, Some, Waiting, Waits, [], access_in, address_in, ap, entries_of, entry, entry_at, eqb_tells, false, if◌then◌else◌, inl, inr, is_some, next_page, owner_of, page_key, paging, refl, row_at, some_is, subst, sym, true, waiting_in, ℕ, ◌++◌, ◌==◌, ◌||◌, ◌∙◌, ◌∷◌, ◌≡◌, ◌⊎◌, append_assoc, append-nil, get_or, length, take, take_more, ◌+◌, ◌<◌}
 use Rattle.std.proofs.lemmas.Bool.{or_right}
 use Rattle.vm_base.specs.declared.ids.FrameNo.{FrameNo}
 use Rattle.vm_kernel.proofs.Own.{lives_here, rows_here}
@@ -9,7 +9,6 @@ use Rattle.vm_kernel.specs.Plays.{AreSpared, frame_here}
 use Rattle.vm_kernel.specs.Serving.{FreesBut, IsHere, IsToCopy, SkipLocked, frame_spared, frames_locked, frames_spared, option_list}
 use Rattle.vm_kernel.specs.Taking.{page_waited}
 use Rattle.vm_legal.specs.Accesses.{WaitsUnlocked}
-use Rattle.vm_pageout.specs.declared.answer.Reclaim.TheVariants as reclaim
 use Rattle.vm_queues.specs.Queues.{is_skipped}
 use Rattle.vm_resident.specs.Resident.{ResidentTable}
 use Rattle.vm_state.proofs.Locks.{named_at}

@@ -1,5 +1,5 @@
 -- What an unlock that is asked for leaves of the kernel, and its cause.
-use Rattle.vm_kernel.proofs.Common.{Bool, Command, Elsewhere, Event, HasPages, HasWaiters, Header, HostParts, Ids, IsAt, List, Local, LocalEffect, Matches, None, ObjectRow, Option, ObjectTable, Outside, PageKey, PageRow, Parts, Some, Suffice, Unlocks, Up, WaitTable, Waiting, Want, Works, [], absent_at, access_in, ap, arith, begun_at, entry, false, frames_held, frames_wired, host_id, if◌then◌else◌, inl, inr, is_store, live_control, live_in, local, local_after, local_of_row, lock_number, named, nat_tests, object_at, page_in, place_of, refl, returns_out, reverse, row_at, slice_get, some_is, subst, sym, true, waiting, with_on, ℕ, ◌&&◌, ◌==◌, ◌∙◌, ◌∷◌, ◌≡◌}
+use Rattle.vm_kernel.proofs.Common.{Bool, Command, Elsewhere, Event, HasWaiters, Header, HostParts, Ids, IsAt, List, LocalEffect, Matches, None, ObjectRow, Option, ObjectTable, Outside, PageKey, PageRow, Parts, Some, Suffice, Unlocks, Up, WaitTable, Waiting, Want, Works, [], absent_at, access_in, ap, arith, begun_at, entry, false, frames_held, frames_wired, host_id, if◌then◌else◌, inl, inr, live_control, live_in, local, local_after, named, nat_tests, object_at, place_of, refl, returns_out, reverse, slice_get, subst, sym, true, waiting, with_on, ℕ, ◌&&◌, ◌==◌, ◌∙◌, ◌∷◌, ◌≡◌}
 use Rattle.vm_abroad.proofs.Home.{object_stays}
 use Rattle.vm_fault.specs.Faults.{KeepsPlan}
 use Rattle.vm_fault.specs.Walks.{Finds, is_storing, keeps_out, wanted_number}
@@ -10,7 +10,7 @@ use Rattle.vm_kernel.proofs.Follows.{asks_for, comes_at}
 use Rattle.vm_kernel.proofs.Growing.{Follows}
 use Rattle.vm_kernel.proofs.Known.{other_nested, pages_known}
 use Rattle.vm_kernel.proofs.Leading.{Leads, it_waits}
-use Rattle.vm_state.proofs.Locks.{kept_locked, names_at, names_kept, storing_is}
+use Rattle.vm_state.proofs.Locks.{kept_locked, names_at}
 use Rattle.vm_kernel.proofs.Mine.{own_named}
 use Rattle.vm_kernel.proofs.Ordering.{PutsInOrder}
 use Rattle.vm_kernel.proofs.Own.{own_host}
@@ -19,7 +19,6 @@ use Rattle.vm_kernel.proofs.Replied.{replied_behind}
 use Rattle.vm_kernel.proofs.Untold.{matches_with}
 use Rattle.vm_kernel.specs.Matches.{IsReplied}
 use Rattle.vm_kernel.specs.Serving.{runs_now}
-use Rattle.vm_legal.specs.Accesses.{names}
 use Rattle.std.proofs.lemmas.Bool.{and_parts}
 use Rattle.vm_legal.specs.Licences.{LockRequest, is_answered_over, lock_taken}
 use Rattle.vm_legal.specs.Steps.{completes, since}
