@@ -100,12 +100,13 @@ impl Kernel {
         Ok(log)
     }
 
-    /// Takes what the pager of temporary memory, or of a file, says to a control of an object, and
-    /// gives what happened behind the taking, up to where the frame queues are served. What isn't for
-    /// the live control, or answers nothing, is discarded (this profile).
+    /// Takes what a pager says to a control of an object, and gives what happened behind the taking, up
+    /// to where the frame queues are served. What isn't for the live control, or answers nothing, is
+    /// discarded (this profile).
     ///
     /// The messages are memory_object_ready, memory_object_data_supply, memory_object_data_unavailable,
-    /// memory_object_data_error, and a memory_object_lock_request that leaves all locks as they are.
+    /// memory_object_data_error, and memory_object_lock_request. Whoever waited for the unlock of a page
+    /// that a lock request is over is run again behind memory_object_lock_completed.
     ///
     /// After `NoMemory` the kernel is used no more.
     pub fn take(

@@ -15,7 +15,3 @@ returns-clause-plays g c = taken_plays c.args.object c.args.control c.args.messa
 pub returns-clause-restarts : goal.returns-clause-restarts
 returns-clause-restarts g c =
     subst (λ (z : Parts). Restarted g.given.header g.given.host c.take.new.self.waits.rows (g.given.front ++ g.given.past) z.waits.queue c.take.new.self.waits.queue c.take.new.log.items) c.self.view_is c.in_ok-take.ensures.restarts
-
--- for any word
-pub take-requires : goal.take-requires
-take-requires g c = ?
