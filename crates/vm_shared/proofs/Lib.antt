@@ -14,4 +14,7 @@ pub mod Steps
 pub mod Answered
 pub mod Protocol
 pub mod Carried
+pub mod Flat
+pub mod Currents
 pub mod Run
+pub mod OnlyWaiters

@@ -45,7 +45,7 @@ waiter_for size task (Copying address bytes to) = record { task = task; store = 
 -- the events of a task
 
 -- the event is of the task, and may change what it waits for
-abbrev is_of : ℕ → Event → Bool
+abbrev pub is_of : ℕ → Event → Bool
 is_of task (event.TaskMade made host) = made.0 == task
 is_of task (event.TaskEnded gone) = gone.0 == task
 is_of task (event.Entered owner address bytes region offset prot inherit) = owner.0 == task
@@ -63,13 +63,13 @@ is_of task (event.Failed owner object page) = owner.0 == task
 is_of task other = false
 
 -- what is known of a task as it waits
-record IsSame (size task : ℕ) (past now : List Event) : Type 0 where
-  host : host_of task now ≡ host_of task past
-  entries : entries_of size task now ≡ entries_of size task past
-  waits : waiting task now ≡ waiting task past
-  next : next_page task now ≡ next_page task past
+pub record IsSame (size task : ℕ) (past now : List Event) : Type 0 where
+  pub host : host_of task now ≡ host_of task past
+  pub entries : entries_of size task now ≡ entries_of size task past
+  pub waits : waiting task now ≡ waiting task past
+  pub next : next_page task now ≡ next_page task past
 
-same : (size task : ℕ) (e : Event) (past : List Event) → is_of task e ≡ false → IsSame size task past (e ∷ past)
+pub same : (size task : ℕ) (e : Event) (past : List Event) → is_of task e ≡ false → IsSame size task past (e ∷ past)
 same size task (event.TaskMade made host) past is = record { host = rw is refl; entries = rw is refl; waits = rw is refl; next = refl }
 same size task (event.TaskEnded gone) past is = record { host = rw is refl; entries = rw is refl; waits = rw is refl; next = refl }
 same size task (event.Entered owner address bytes region offset prot inherit) past is = record { host = refl; entries = rw is refl; waits = refl; next = refl }
@@ -89,7 +89,7 @@ same size task other past is = record { host = refl; entries = refl; waits = ref
 -- the effects of others' events
 
 -- the effect is of another task, or of none
-abbrev Spares : ℕ → ActEffect → Type 0
+abbrev pub Spares : ℕ → ActEffect → Type 0
 Spares task (Begins other store at size value) = (other == task) ≡ false
 Spares task (Loads other value) = (other == task) ≡ false
 Spares task (Stores other at size value) = (other == task) ≡ false
@@ -105,7 +105,7 @@ spares_others task (TakesDown control word) = tt
 spares_others task StepBegins = tt
 spares_others task e = tt
 
-spares_on : (task h : ℕ) (a : Act) → Spares task a.effect → Spares task (effect_on h a)
+pub spares_on : (task h : ℕ) (a : Act) → Spares task a.effect → Spares task (effect_on h a)
 spares_on task h a is = by (a.host == h)
   where
     by : (b : Bool) → Spares task (if b then a.effect else to_others a.effect)
@@ -122,7 +122,7 @@ spares_sent task p (message.Create control size) = tt
 spares_sent task p m = tt
 
 -- an event that isn't of the task spares it
-spares : (task size o p : ℕ) (hosts : ℕ → ℕ) (means : ℕ → ℕ → Bool) (held : ℕ → ℕ → ℕ → List ℕ) (e : Event) → is_of task e ≡ false → Spares task (act_of size o p hosts means held e).effect
+pub spares : (task size o p : ℕ) (hosts : ℕ → ℕ) (means : ℕ → ℕ → Bool) (held : ℕ → ℕ → ℕ → List ℕ) (e : Event) → is_of task e ≡ false → Spares task (act_of size o p hosts means held e).effect
 spares task size o p hosts means held (event.Sent (Up host object) m) is = spares_if task (object.0 == o) (sent_act_effect p m) Nothing (spares_sent task p m) tt
 spares task size o p hosts means held (event.Sent (Down host object control) m) is = spares_if task (object.0 == o) (SentDown control (down_word p m)) Nothing tt tt
 spares task size o p hosts means held (event.Taken (Up host object) m) is = spares_if task (object.0 == o) (TakenUp (up_word p m)) StepBegins tt tt
@@ -144,16 +144,16 @@ spares task size o p hosts means held other is = tt
 
 -- the waiters of others
 
-else_same : {A : Type 0} (b : Bool) (x y : A) → b ≡ false → (if b then x else y) ≡ y
+pub else_same : {A : Type 0} (b : Bool) (x y : A) → b ≡ false → (if b then x else y) ≡ y
 else_same b x y is = rw is refl
 
-then_same : {A : Type 0} (b : Bool) (x y : A) → b ≡ true → (if b then x else y) ≡ x
+pub then_same : {A : Type 0} (b : Bool) (x y : A) → b ≡ true → (if b then x else y) ≡ x
 then_same b x y is = rw is refl
 
-number_is : (a b : ℕ) → (a == b) ≡ true → a ≡ b
+pub number_is : (a b : ℕ) → (a == b) ≡ true → a ≡ b
 number_is a b is = grind (arith, nat_tests)
 
-itself : (n : ℕ) → (n == n) ≡ true
+pub itself : (n : ℕ) → (n == n) ≡ true
 itself n = grind (arith, nat_tests)
 
 -- without another task's accesses the task's is the same
@@ -168,7 +168,7 @@ left_there task other (w ∷ ws) apart = by (w.task == other) refl (left_there t
         later ∙ sym (else_same (w.task == task) (Some w) (waiter_of task ws) none)
     by false is later = ap (λ x. if w.task == task then Some w else x) later
 
-waiter_stays : (task : ℕ) (e : ActEffect) (ws : List Waiter) → Spares task e → waiter_of task (waiters_after e ws) ≡ waiter_of task ws
+pub waiter_stays : (task : ℕ) (e : ActEffect) (ws : List Waiter) → Spares task e → waiter_of task (waiters_after e ws) ≡ waiter_of task ws
 waiter_stays task (Begins other store at size value) ws is = else_same (other == task) (Some (record { task = other; store = store; at = at; size = size; value = value })) (waiter_of task ws) is
 waiter_stays task (Loads other value) ws is = left_there task other ws is
 waiter_stays task (Stores other at size value) ws is = left_there task other ws is
@@ -185,7 +185,7 @@ begins_there size h on task owner store m at bytes value ws mine here means =
 
 -- the task's own events
 
-none_waits : {A : Type 0} (task : ℕ) (access : Access) (past : List Event) → waiting task past ≡ None → waiting task past ≡ Some access → A
+pub none_waits : {A : Type 0} (task : ℕ) (access : Access) (past : List Event) → waiting task past ≡ None → waiting task past ≡ Some access → A
 none_waits task access past none some = let bad : None ≡ Some access = sym none ∙ some in absurd (cc)
 
 -- a task that waits does nothing else
@@ -211,13 +211,13 @@ on_host task h (event.TaskEnded gone ∷ past) lives = by (gone.0 == task) lives
 on_host task h (e ∷ past) lives = on_host task h past lives
 
 -- the task of a slow copy's page waits with that copy
-copies_plain : {A : Type 0} (task : ℕ) (access : Access) (address bytes to : ℕ) (past : List Event) → IsPlainAccess access → waiting task past ≡ Some (Copying address bytes to) → waiting task past ≡ Some access → A
+pub copies_plain : {A : Type 0} (task : ℕ) (access : Access) (address bytes to : ℕ) (past : List Event) → IsPlainAccess access → waiting task past ≡ Some (Copying address bytes to) → waiting task past ≡ Some access → A
 copies_plain task (Loading a b) address bytes to past plain copy some = let bad : Some (Copying address bytes to) ≡ Some (Loading a b) = sym copy ∙ some in absurd (cc)
 copies_plain task (Storing a b v) address bytes to past plain copy some = let bad : Some (Copying address bytes to) ≡ Some (Storing a b v) = sym copy ∙ some in absurd (cc)
 copies_plain task (Copying a b t) address bytes to past plain copy some = absurd plain
 
 -- the address of a load or a store
-abbrev at_address : Access → ℕ
+abbrev pub at_address : Access → ℕ
 at_address access = address_of 0 0 access
 
 -- what stands in the part for a load or a store of the page

@@ -19,10 +19,12 @@ ghost use Rattle.vm_model.specs.Moments.{EachEvent, BeforeSteps};
 ghost use Rattle.vm_model.specs.PageLicences.{ActsLicensed};
 ghost use Rattle.vm_model.specs.PagePart.{page_part};
 ghost use Rattle.vm_model.specs.Server.{current, NoRequest, NoUpgrade, first, line};
-ghost use Rattle.vm_legal.specs.Bytes.{OwnBytes};
+ghost use Rattle.vm_legal.specs.Bytes.{OwnBytes, CopiesCurrent, LoadsCurrent};
+ghost use Rattle.vm_legal.specs.Flat.{flat_page};
 ghost use Rattle.vm_legal.specs.Licences.{HasCause};
 ghost use Rattle.vm_legal.specs.Outside.{Outside, is_shared};
 ghost use Rattle.vm_legal.specs.Walks.{page_on};
+ghost use Rattle.vm_shared.specs.Kinds.{NoneIsTemporary};
 ghost use Rattle.vm_shared.specs.Run as run;
 ghost use Rattle.vm_model.specs.Side.{side};
 ghost use Rattle.vm_legal.specs.Debts.{IsPaid};
@@ -106,4 +108,16 @@ pub fn shared_run()
     ensures shared { is_shared run.header 0 ≡ true }
     ensures causes { EachEvent (HasCause run.header run.outside) run.history }
     ensures own_bytes { EachEvent (OwnBytes run.header) run.history }
+{}
+
+/// The flat map speaks of shared memory too: its page is what the stores of the page's part leave,
+/// whatever page it is. So a slow copy from a shared page takes the flat map's bytes, and a load of
+/// shared memory answers them; the law of the flat map supposes both.
+///
+/// No declared object is temporary: of one that were, nothing would say what its pager answers.
+#[tactic(auto, using(crate::proofs::Flat::current_is_flat, crate::proofs::Currents::copies_current, crate::proofs::Currents::loads_current))]
+pub fn copies_and_loads_are_current()
+    ensures flat { (header : Header) (outside : Outside) (history : List Event) → EachEvent (HasCause header outside) history → (o p : ℕ) → is_shared header o ≡ true → flat_page header outside o p history ≡ current header.size (page_part header.size o p history) }
+    ensures copies { (header : Header) (outside : Outside) (history : List Event) → NoneIsTemporary header → EachEvent (HasCause header outside) history → EachEvent (OwnBytes header) history → EachEvent (CopiesCurrent header outside) history }
+    ensures loads { (header : Header) (outside : Outside) (history : List Event) → EachEvent (HasCause header outside) history → EachEvent (OwnBytes header) history → EachEvent (LoadsCurrent header outside) history }
 {}
