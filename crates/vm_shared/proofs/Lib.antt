@@ -7,6 +7,9 @@ pub mod Servers
 pub mod Kept
 pub mod Stepped
 pub mod Waiters
+pub mod Rows
+pub mod Causes
+pub mod Pages
 pub mod Steps
 pub mod Answered
 pub mod Carried

@@ -102,11 +102,11 @@ numbering header outside (e ∷ past) caused =
     record { numbered = numbered_next header outside e past was.numbered was.made caused.0; made = made_next header outside e past was.made caused.0; fills = fills_next header outside e past was.numbered was.fills caused.0 }
 
 -- below a temporary object stand temporary ones alone
-leads_later : (header : Header) (past : List Event) → NumberedAt header past → (n a b o p : ℕ) → named header ≤ a → Leads (λ k. backing_of header k past) n a b o p → named header ≤ o
+pub leads_later : (header : Header) (past : List Event) → NumberedAt header past → (n a b o p : ℕ) → named header ≤ a → Leads (λ k. backing_of header k past) n a b o p → named header ≤ o
 leads_later header past num zero a b o p above is = omega (arith, above, is.0)
 leads_later header past num (suc n) a b o p above is = leads_later header past num n (backing_of header a past).under ((backing_of header a past).shift + b) o p (num.lower a is.0) is.1
 
-walks_later : (header : Header) (sights : ℕ → ℕ → Sight) (past : List Event) → NumberedAt header past → (n a b o p : ℕ) → named header ≤ a → Walks sights (λ k. backing_of header k past) n a b o p → named header ≤ o
+pub walks_later : (header : Header) (sights : ℕ → ℕ → Sight) (past : List Event) → NumberedAt header past → (n a b o p : ℕ) → named header ≤ a → Walks sights (λ k. backing_of header k past) n a b o p → named header ≤ o
 walks_later header sights past num zero a b o p above is = omega (arith, above, is.0)
 walks_later header sights past num (suc n) a b o p above is = walks_later header sights past num n (backing_of header a past).under ((backing_of header a past).shift + b) o p (num.lower a is.1) is.2
 

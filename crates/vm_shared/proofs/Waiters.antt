@@ -196,7 +196,7 @@ ended : {A : Type 0} (b : Bool) (access : Access) (was : Option Access) → b �
 ended b access was is some = let bad : None ≡ Some access = sym (then_same b None was is) ∙ some in absurd (cc)
 
 -- a task that lives is on the host where it began last
-on_host : (task h : ℕ) (past : List Event) → host_of task past ≡ Some h → task_host task past ≡ h
+pub on_host : (task h : ℕ) (past : List Event) → host_of task past ≡ Some h → task_host task past ≡ h
 on_host task h [] lives = absurd (cc)
 on_host task h (event.TaskMade made host ∷ past) lives = by (made.0 == task) lives (on_host task h past)
   where
