@@ -14,3 +14,4 @@ pub mod Steps
 pub mod Answered
 pub mod Carried
 pub mod Protocol
+pub mod ServedRun

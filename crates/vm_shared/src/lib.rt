@@ -29,6 +29,7 @@ ghost use Rattle.vm_legal.specs.Undelivered.{undelivered};
 ghost use Rattle.vm_legal.specs.Walks.{page_on};
 ghost use Rattle.vm_quiet.specs.Quiet.{AllSupplied, NobodyWaitsInVain, SharedAreAnswered};
 ghost use Rattle.vm_shared.specs.Carried.{SharedAreCarried};
+ghost use Rattle.vm_shared.specs.Served as served;
 
 /// Each event of a shared page has its cause in the page's part, so the law of one shared page is about
 /// every history whose events have their causes, and whose loads and stores are of what their own hosts
@@ -97,4 +98,14 @@ pub fn takings_keep_the_protocol()
 #[tactic(auto, using(crate::proofs::Carried::shared_are_carried))]
 pub fn what_the_server_is_asked_is_on_its_way()
     ensures carried { (header : Header) (outside : Outside) (history : List Event) → EachEvent (HasCause header outside) history → EachEvent (OwnBytes header) history → BeforeSteps (IsPaid header) history → IsPaid header history → AllServed header history → SharedAreCarried header history }
+{}
+
+/// A worked history that meets all of that: two hosts map one shared page, host 0 reads it, host 1 wants to
+/// write it, and host 0 gives it up. It ends with nothing undelivered.
+#[tactic(auto, using(crate::proofs::ServedRun::served_causes, crate::proofs::ServedRun::served_own, crate::proofs::ServedRun::served_delivered, crate::proofs::ServedRun::served_supplied))]
+pub fn served_run()
+    ensures supplied { AllSupplied served.header }
+    ensures causes { EachEvent (HasCause served.header served.outside) served.history }
+    ensures own { EachEvent (OwnBytes served.header) served.history }
+    ensures delivered { undelivered served.history ≡ [] }
 {}
