@@ -18,3 +18,4 @@ pub mod Flat
 pub mod Currents
 pub mod Run
 pub mod OnlyWaiters
+pub mod ServedRun
