@@ -6,7 +6,7 @@ use Rattle.vm_legal.specs.Outside.{is_private}
 use Rattle.vm_legal.proofs.Unshared.{NoneIsShared, file_unshared, none_shared}
 use Rattle.vm_model.specs.Regions.{Region}
 
-homes : (header : Header) (outside : Outside) (past : List Event) → EachEvent (HasCause header outside) past → HaveHomes header past
+pub homes : (header : Header) (outside : Outside) (past : List Event) → EachEvent (HasCause header outside) past → HaveHomes header past
 homes header outside [] causes = homes_start header
 homes header outside (e ∷ past) causes = homes_next header outside e past causes.0 (homes header outside past causes.1)
 

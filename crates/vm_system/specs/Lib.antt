@@ -1,4 +1,5 @@
 pub mod Channels
+pub mod Flat
 pub mod Keeping
 pub mod Making
 pub mod Orderly
