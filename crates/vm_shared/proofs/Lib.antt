@@ -10,11 +10,12 @@ pub mod Waiters
 pub mod Rows
 pub mod Causes
 pub mod Pages
-pub mod Flat
-pub mod Currents
 pub mod Steps
 pub mod Answered
 pub mod Protocol
 pub mod Carried
+pub mod Flat
+pub mod Currents
 pub mod Run
 pub mod OnlyWaiters
+pub mod ServedRun

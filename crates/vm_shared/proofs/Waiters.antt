@@ -27,9 +27,20 @@ use Rattle.vm_legal.specs.Accesses.{At, Waits, page_of}
 use Rattle.vm_legal.specs.Licences as L
 use Rattle.vm_legal.specs.Licences.{HasCause}
 use Rattle.vm_legal.specs.Outside.{Outside, is_shared}
-use Rattle.vm_shared.specs.Waits.{IsPlainAccess, WaitersAgree, at_address, waiter_for}
 use Rattle.vm_shared.proofs.Declared.{declared_top_own, shared_declared}
 use Rattle.vm_shared.proofs.Numbering.{Numbering, at_made, comes_own, numbering, top_own}
+
+-- a load or a store
+abbrev pub IsPlainAccess : Access → Type 0
+IsPlainAccess (Loading address bytes) = Unit {0}
+IsPlainAccess (Storing address bytes value) = Unit {0}
+IsPlainAccess (Copying address bytes to) = ⊥
+
+-- what a task's access is in the part of its page
+abbrev pub waiter_for : ℕ → ℕ → Access → Waiter
+waiter_for size task (Loading address bytes) = record { task = task; store = false; at = address % size; size = bytes; value = 0 }
+waiter_for size task (Storing address bytes value) = record { task = task; store = true; at = address % size; size = bytes; value = value }
+waiter_for size task (Copying address bytes to) = record { task = task; store = false; at = 0; size = 0; value = 0 }
 
 -- the events of a task
 
@@ -204,6 +215,10 @@ pub copies_plain : {A : Type 0} (task : ℕ) (access : Access) (address bytes to
 copies_plain task (Loading a b) address bytes to past plain copy some = let bad : Some (Copying address bytes to) ≡ Some (Loading a b) = sym copy ∙ some in absurd (cc)
 copies_plain task (Storing a b v) address bytes to past plain copy some = let bad : Some (Copying address bytes to) ≡ Some (Storing a b v) = sym copy ∙ some in absurd (cc)
 copies_plain task (Copying a b t) address bytes to past plain copy some = absurd plain
+
+-- the address of a load or a store
+abbrev pub at_address : Access → ℕ
+at_address access = address_of 0 0 access
 
 -- what stands in the part for a load or a store of the page
 abbrev IsThere : ℕ → ℕ → ℕ → ℕ → ℕ → Access → List Event → Type 0
@@ -472,6 +487,13 @@ first_noted size o p address bytes next count rows noted left means = by (bytes 
     by : (n : ℕ) → bytes / size - next ≡ n → times_meant size (λ at. has_page size o p at (entry_at at rows)) (address + next * size) n ≤ count → 0 < count
     by zero none noted = absurd (omega (arith, none, left))
     by (suc n) some noted = let one : ◌≡◌ {A = ℕ} (if has_page size o p (address + next * size) (entry_at (address + next * size) rows) then 1 else 0) 1 = ap (λ b. if b then 1 else 0) means in omega (arith, noted, one)
+
+-- Whoever waits for page p of object o is in the page's part: a load or a store with what it wants of the page, and a slow copy that has a page left to read.
+pub record WaitersAgree (header : Header) (o p : ℕ) (past : List Event) : Type 0 where
+  pub there : (task : ℕ) (access : Access) → IsPlainAccess access → (waits : Waits header task access past) → waits.at.entry.region.0 ≡ o → page_of header task access past waits.at.entry ≡ p
+      → waiter_of task (waiters waits.at.host (page_part header.size o p past)) ≡ Some (waiter_for header.size task access)
+  pub reads : (task address bytes to : ℕ) → (waits : Waits header task (Copying address bytes to) past) → waits.at.entry.region.0 ≡ o → page_of header task (Copying address bytes to) past waits.at.entry ≡ p → next_page task past < bytes / header.size
+      → any_reader (readers waits.at.host (page_part header.size o p past)) ≡ true
 
 pub waiters_agree : (header : Header) (outside : Outside) (o p : ℕ) (past : List Event) → EachEvent (HasCause header outside) past → is_shared header o ≡ true → WaitersAgree header o p past
 waiters_agree header outside o p past caused shared = record { there = there; reads = reads }

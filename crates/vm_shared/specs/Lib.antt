@@ -1,4 +1,4 @@
-pub mod Kinds
 pub mod Carried
+pub mod Kinds
 pub mod Run
-pub mod Waits
+pub mod Served
