@@ -44,7 +44,7 @@ pub use Rattle.vm_kernel.proofs.Growing.{paid_of}
 pub use Rattle.vm_kernel.specs.Abroad.{IsNobodys}
 pub use Rattle.vm_kernel.specs.Begun.{CreatesHere, IsLined, KernelSays, SomeKernelSays}
 pub use Rattle.vm_kernel.specs.Matches.{IsRanged, host_id}
-pub use Rattle.vm_kernel.specs.Taking.{EndsAll, IsAbsencePaid, IsErrorPaid, IsLockPaid, IsPlainWord}
+pub use Rattle.vm_kernel.specs.Taking.{EndsAll, IsAbsencePaid, IsErrorPaid, IsLockPaid, IsWord}
 pub use Rattle.vm_legal.proofs.Groups.{cut_of, open_of, so_far}
 pub use Rattle.vm_legal.proofs.Inside.{before_more, taken_more, takings_more}
 pub use Rattle.vm_legal.proofs.Locks.{no_request}

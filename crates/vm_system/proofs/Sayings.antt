@@ -1,5 +1,5 @@
 -- The letters on their way under what a kernel says, and under what a pager answers or asks.
-use Rattle.vm_system.proofs.Common.{AllInner, AllLetters, AllLicensed, Bool, CanSend, CanTell, CanTellAll, Channel, Command, CreatesHere, Down, EachIn, Ending, Event, FileAnswer, FileTable, HasMade, HasPageOf, Header, Held, HostId, IsHostLetter, IsInner, IsOrderly, IsPlainWord, KernelSays, Licensed, List, MaySendUp, Message, None, ObjectId, Option, Outside, PageNo, PagerAnswer, Put, Read, RequestAnswer, SlotTable, Some, SomeKernelSays, Up, Write, [], arith, became, device_failed, error, false, has_lost, held_at, home_for, home_of, host_id, inl, inr, is_ended, is_made, last_control, length, live_control, makes, named, nat_tests, never, object_home, queue, refl, sent_to, subst, suc, supply, sym, taking, told_of, true, undelivered, up, ℕ, ◌&&◌, ◌++◌, ◌+◌, ◌==◌, ◌||◌, ◌∙◌, ◌∷◌, ◌≡◌, ◌≤◌}
+use Rattle.vm_system.proofs.Common.{AllInner, AllLetters, AllLicensed, Bool, CanSend, CanTell, CanTellAll, Channel, Command, CreatesHere, Down, EachIn, Ending, Event, FileAnswer, FileTable, HasMade, HasPageOf, Header, Held, HostId, IsHostLetter, IsInner, IsOrderly, IsWord, KernelSays, Licensed, List, MaySendUp, Message, None, ObjectId, Option, Outside, PageNo, PagerAnswer, Put, Read, RequestAnswer, SlotTable, Some, SomeKernelSays, Up, Write, [], arith, became, device_failed, error, false, has_lost, held_at, home_for, home_of, host_id, inl, inr, is_ended, is_made, last_control, length, live_control, makes, named, nat_tests, never, object_home, queue, refl, sent_to, subst, suc, supply, sym, taking, told_of, true, undelivered, up, ℕ, ◌&&◌, ◌++◌, ◌+◌, ◌==◌, ◌||◌, ◌∙◌, ◌∷◌, ◌≡◌, ◌≤◌}
 use Rattle.std.specs.Prelude.{◌<◌}
 use Rattle.vm_model.specs.declared.event.Event.TheVariants as event
 use Rattle.vm_model.specs.declared.message.Message.TheVariants as message
@@ -228,12 +228,12 @@ pub record AllTold (header : Header) (events past : List Event) : Type 0 where
   pub orderly : IsOrderly header (events ++ past)
   pub can : CanTellAll header.size events past
 
-page_of_answer : (size : ℕ) (m : Message) → IsPlainWord size m → HasPageOf size m
+page_of_answer : (size : ℕ) (m : Message) → IsWord size m → HasPageOf size m
 page_of_answer size (message.Supply page lock precious bytes) is = is.2
 page_of_answer size (message.Return control page dirty keep bytes) is = absurd is
 page_of_answer size m is = tt
 
-sent_down : (header : Header) (host : ℕ) (object : ObjectId) (control : ℕ) (m : Message) (past : List Event) → IsOrderly header past → host < length header.frames.items → IsPlainWord header.size m → IsOrderly header (sent_to host object control m ∷ past)
+sent_down : (header : Header) (host : ℕ) (object : ObjectId) (control : ℕ) (m : Message) (past : List Event) → IsOrderly header past → host < length header.frames.items → IsWord header.size m → IsOrderly header (sent_to host object control m ∷ past)
 sent_down header host object control m past old known answer = record {
   letters = letters_sent header (Down (host_id host) object control) m past old.letters (known, answer);
   washed = λ h. washed_sent h (Down (host_id host) object control) m past (old.washed h);
@@ -252,12 +252,12 @@ pub record Server (header : Header) (host at : ℕ) (object : ObjectId) (control
 told_none : (header : Header) (past : List Event) → IsOrderly header past → AllTold header [] past
 told_none header past old = record { orderly = old; can = tt }
 
-told_down : (header : Header) (host at : ℕ) (object : ObjectId) (control : ℕ) (m : Message) (events past : List Event) → AllTold header events past → Server header host at object control (events ++ past) → IsPlainWord header.size m
+told_down : (header : Header) (host at : ℕ) (object : ObjectId) (control : ℕ) (m : Message) (events past : List Event) → AllTold header events past → Server header host at object control (events ++ past) → IsWord header.size m
     → AllTold header (sent_to at object control m ∷ events) past
 told_down header host at object control m events past more server answer = subst (λ (h : ℕ). AllTold header (sent_to h object control m ∷ events) past) (sym server.own)
     (record { orderly = sent_down header host object control m (events ++ past) more.orderly server.known answer; can = ((page_of_answer header.size m answer, server.made), more.can) })
 
-told_one : (header : Header) (host at : ℕ) (object : ObjectId) (control : ℕ) (m : Message) (past : List Event) → IsOrderly header past → Server header host at object control past → IsPlainWord header.size m → AllTold header (sent_to at object control m ∷ []) past
+told_one : (header : Header) (host at : ℕ) (object : ObjectId) (control : ℕ) (m : Message) (past : List Event) → IsOrderly header past → Server header host at object control past → IsWord header.size m → AllTold header (sent_to at object control m ∷ []) past
 told_one header host at object control m past old server answer = told_down header host at object control m [] past (told_none header past old) server answer
 
 -- a request is answered

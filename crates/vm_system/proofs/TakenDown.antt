@@ -1,5 +1,5 @@
 -- An answer of a pager is taken by its host.
-use Rattle.vm_system.proofs.Common.{AllFilesServe, AllInner, AllServe, Bool, CanTellAll, Channel, ChannelId, Device, Down, EndsAll, Event, Header, HostId, HostTable, HostsPart, IsAbsencePaid, IsErrorPaid, IsLockPaid, IsPaid, IsPlainWord, Letter, Licensed, List, MayTakeFrom, Message, None, ObjectId, Option, Posts, Some, Spares, State, Step, Took, Up, ap, created, devices, false, first, length, queue, sym, taken_letter, taken_more, true, up, ℕ, ◌++◌, ◌<◌, ◌∙◌, ◌∷◌, ◌≡◌}
+use Rattle.vm_system.proofs.Common.{AllFilesServe, AllInner, AllServe, Bool, CanTellAll, Channel, ChannelId, Device, Down, EndsAll, Event, Header, HostId, HostTable, HostsPart, IsAbsencePaid, IsErrorPaid, IsLockPaid, IsPaid, IsWord, Letter, Licensed, List, MayTakeFrom, Message, None, ObjectId, Option, Posts, Some, Spares, State, Step, Took, Up, ap, created, devices, false, first, length, queue, sym, taken_letter, taken_more, true, up, ℕ, ◌++◌, ◌<◌, ◌∙◌, ◌∷◌, ◌≡◌}
 use Rattle.vm_model.specs.declared.event.Device.TheVariants.{Files, Paging}
 use Rattle.vm_model.specs.declared.event.Event.TheVariants as event
 use Rattle.vm_system.proofs.Agreeing.{carry_other, carry_spared, devices_said, files_other, files_spared, serve_other, spared_said}
@@ -10,7 +10,7 @@ use Rattle.vm_system.proofs.Following.{agrees_said, filed_spares, kept_behind}
 use Rattle.vm_system.proofs.Taken.{Front, devices_lined, front_carry, front_content, front_of, front_settled, front_suffice, taken_licensed, takes_step}
 
 pub down_letter : (given : Step) (line : Option ℕ) (number : ChannelId) (host : HostId) (object : ObjectId) (control : ℕ) (m : Message) (s : State) → MayTakeFrom given line number (Down host object control) s
-    → first (queue (Down host object control) given.past) ≡ Some m → (host.0 < length given.header.frames.items) × IsPlainWord given.header.size m
+    → first (queue (Down host object control) given.past) ≡ Some m → (host.0 < length given.header.frames.items) × IsWord given.header.size m
 down_letter given line number host object control m s may head =
     let front = front_of given line number (Down host object control) s may in
     letter_first given.header (Down host object control) m given.past front.orderly head

@@ -19,7 +19,7 @@ use Rattle.pg_default.specs.Stands.{is_ended, is_heard_elsewhere}
 use Rattle.vm_abroad.specs.Home.{home_of, object_home}
 use Rattle.vm_model.specs.Named.{named}
 use Rattle.vm_kernel.specs.Matches.{host_id}
-use Rattle.vm_kernel.specs.Taking.{IsPlainWord}
+use Rattle.vm_kernel.specs.Taking.{IsWord}
 
 -- what a kernel says to a pager, where a page has so many bytes; the control that is to be answered has its channel
 abbrev pub IsWordUp : ℕ → (ℕ → Bool) → Message → Type 0
@@ -38,7 +38,7 @@ IsHostLetter header past letter = IsOn letter.channel letter.message
   where
     IsOn : Channel → Message → Type 0
     IsOn (Up host object) m = (host.0 < length header.frames.items) × IsWordUp header.size (λ control. is_made (Down host object control) past) m
-    IsOn (Down host object control) m = (host.0 < length header.frames.items) × IsPlainWord header.size m
+    IsOn (Down host object control) m = (host.0 < length header.frames.items) × IsWord header.size m
 
 abbrev pub AllLetters : Header → List Event → List Letter → Type 0
 AllLetters header past [] = Unit {0}
