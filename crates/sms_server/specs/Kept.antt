@@ -1,0 +1,101 @@
+-- How the pages are kept: by rising object, and by rising page of an object.
+use Rattle.std.specs.Prelude.{ℕ, suc, ◌≡◌, ◌≤◌, ◌+◌, ◌==◌, Bool, true, false, List, [], ◌∷◌, ◌++◌, Option, Some, None, if◌then◌else◌, length, nat_lt, nat_le, slice_get}
+use Rattle.sms_pages.specs.Directory.{IsNewDirectory, IsSame, most_replies}
+use Rattle.sms_pages.specs.Directory as pages
+use Rattle.vm_base.specs.Keys.{IsFrom, is_before, is_page}
+use Rattle.vm_base.specs.Limits.{most_hosts}
+use Rattle.vm_base.specs.declared.ids.PageKey.{PageKey}
+use Rattle.vm_model.specs.declared.event.Event.{Event}
+use Rattle.vm_model.specs.declared.message.Message.{Message}
+use Rattle.sms_server.specs.Answers.{RowAfter, row_events}
+use Rattle.sms_server.specs.Table.{ServerTable}
+use Rattle.sms_server.specs.declared.page_row.PageRow.{PageRow}
+
+-- by rising object and page, from one on
+abbrev pub ByKey : ℕ → ℕ → List PageRow → Type 0
+ByKey object page [] = Unit {0}
+ByKey object page (row ∷ rows) = IsFrom object page row.key × ByKey row.key.object.0 (suc row.key.page.0) rows
+
+-- how many pages come in front of one
+abbrev pub rows_before : ℕ → ℕ → List PageRow → ℕ
+rows_before object page [] = 0
+rows_before object page (row ∷ rows) = if is_before row.key object page then suc (rows_before object page rows) else 0
+
+-- how many pages of objects below one come first
+abbrev pub objects_below : ℕ → List PageRow → ℕ
+objects_below object [] = 0
+objects_below object (row ∷ rows) = if nat_lt row.key.object.0 object then suc (objects_below object rows) else 0
+
+-- how many pages of objects up to one come first
+abbrev pub objects_up_to : ℕ → List PageRow → ℕ
+objects_up_to object [] = 0
+objects_up_to object (row ∷ rows) = if nat_le row.key.object.0 object then suc (objects_up_to object rows) else 0
+
+-- whether a page stands at a place
+abbrev pub is_page_at : ℕ → ℕ → Option PageRow → Bool
+is_page_at object page None = false
+is_page_at object page (Some row) = is_page row.key object page
+
+-- each page has so many bytes, and a control for each host
+abbrev pub AreWhole : ℕ → List PageRow → Type 0
+AreWhole size [] = Unit {0}
+AreWhole size (row ∷ rows) = (length row.directory.bytes ≡ size) × (length row.heard ≡ most_hosts) × AreWhole size rows
+
+-- a directory at hand for a further page is a new one
+abbrev pub IsSpare : ℕ → Option pages.Directory → Type 0
+IsSpare size None = Unit {0}
+IsSpare size (Some directory) = IsNewDirectory size directory
+
+-- a directory at hand has the memory of its first call
+abbrev pub is_ready : Option pages.Directory → Bool
+is_ready None = false
+is_ready (Some directory) = directory.prepared
+
+abbrev pub all_replies : List PageRow → ℕ
+all_replies [] = 0
+all_replies (row ∷ rows) = most_replies row.directory + all_replies rows
+
+abbrev pub IsPreparedRow : Option PageRow → Type 0
+IsPreparedRow None = Unit {0}
+IsPreparedRow (Some row) = row.directory.prepared ≡ true
+
+-- each page has the memory of its next call at hand
+abbrev pub AllPrepared : List PageRow → Type 0
+AllPrepared rows = (k : ℕ) → IsPreparedRow (slice_get rows k)
+
+-- a page is as it was, but for the memory at hand
+abbrev pub IsSameRow : Option PageRow → Option PageRow → Type 0
+IsSameRow None None = Unit {0}
+IsSameRow (Some old) (Some new) = (new.key ≡ old.key) × IsSame old.directory new.directory × (new.heard ≡ old.heard)
+IsSameRow old new = ⊥
+
+abbrev pub RowsAreSame : List PageRow → List PageRow → Type 0
+RowsAreSame old new = (k : ℕ) → IsSameRow (slice_get old k) (slice_get new k)
+
+abbrev pub IsRowAfter : ℕ → Message → Option PageRow → Option PageRow → Type 0
+IsRowAfter h m None None = Unit {0}
+IsRowAfter h m (Some old) (Some new) = RowAfter h m old new
+IsRowAfter h m old new = ⊥
+
+-- each page took the message
+abbrev pub RowsAfter : ℕ → Message → List PageRow → List PageRow → Type 0
+RowsAfter h m old new = (k : ℕ) → IsRowAfter h m (slice_get old k) (slice_get new k)
+
+-- the events of all pages, those of the first page first
+abbrev pub rows_events : ℕ → Message → List PageRow → List Event
+rows_events h m [] = []
+rows_events h m (row ∷ rows) = rows_events h m rows ++ row_events h m row
+
+-- a page stands at an index, with the memory of its next call and of the events of its answer
+pub record IsPreparedAt (key : PageKey) (i : ℕ) (table : ServerTable) : Type 0 where
+  pub row : PageRow
+  pub at : slice_get table.rows i ≡ Some row
+  pub key_is : row.key ≡ key
+  pub prepared : row.directory.prepared ≡ true
+  pub room : most_replies row.directory ≤ table.room
+
+pub record IsKept (size : ℕ) (rows : List PageRow) (spare : Option pages.Directory) (events : List Event) : Type 0 where
+  pub by_key : ByKey 0 0 rows
+  pub whole : AreWhole size rows
+  pub new : IsSpare size spare
+  pub none : events ≡ []
