@@ -12,6 +12,8 @@ use Rattle.vm_legal.specs.Stretches.{EachOf}
 use Rattle.vm_legal.specs.Reclaims.{IsReclaim}
 use Rattle.vm_resident.specs.Resident.{ResidentTable, page_key, row_at}
 use Rattle.vm_resident.specs.declared.page_row.PageRow.{PageRow}
+use Rattle.vm_locks.specs.Requests.{IsLockRequest}
+use Rattle.vm_supply.specs.Answers.{IsAnswer}
 use Rattle.vm_supply.specs.declared.woken.Woken.{Woken}
 use Rattle.vm_supply.specs.declared.woken.Woken.TheVariants as woken
 use Rattle.vm_waits.specs.Waits.{entry}
@@ -35,6 +37,15 @@ IsPlainWord size (message.Supply page lock precious bytes) = IsPlainAnswer size 
 IsPlainWord size (message.Unavailable page) = IsPlainAnswer size (message.Unavailable page)
 IsPlainWord size (message.Error page reason) = IsPlainAnswer size (message.Error page reason)
 IsPlainWord size other = ⊥
+
+-- what a pager may say, where a page has so many bytes: it answers, or asks for locks
+abbrev pub IsWord : ℕ → Message → Type 0
+IsWord size (message.Lock page count returns flush lock reply) = IsLockRequest (message.Lock page count returns flush lock reply)
+IsWord size (message.Ready cache strategy) = IsAnswer size (message.Ready cache strategy)
+IsWord size (message.Supply page lock precious bytes) = IsAnswer size (message.Supply page lock precious bytes)
+IsWord size (message.Unavailable page) = IsAnswer size (message.Unavailable page)
+IsWord size (message.Error page reason) = IsAnswer size (message.Error page reason)
+IsWord size other = ⊥
 
 -- the message is a lock request
 abbrev pub is_lock_request : Message → Bool

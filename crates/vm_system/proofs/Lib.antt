@@ -2,6 +2,7 @@ mod Common
 pub mod Agreeing
 pub mod Answering
 pub mod Apart
+pub mod Awaited
 pub mod Beginning
 pub mod Cleaning
 pub mod Empty
@@ -10,7 +11,9 @@ pub mod Filed
 pub mod Filing
 pub mod Following
 pub mod Growth
+pub mod Hearing
 pub mod Homes
+pub mod Lawfulness
 pub mod Legal
 pub mod Letters
 pub mod Made
@@ -27,7 +30,7 @@ pub mod Taken
 pub mod TakenDown
 pub mod TakenFiled
 pub mod TakenFrom
+pub mod TakenShared
 pub mod TakenUp
-pub mod Unfilled
 pub mod Untouched
 pub mod Washings

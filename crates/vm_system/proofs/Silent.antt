@@ -170,3 +170,7 @@ all_returned header hosts past rests = (common_all header hosts past rests).sett
 
 pub paid_inner : (header : Header) (line : ℕ) (h events : List Event) → AllInner events → created (events ++ event.Line line ∷ h) ≡ None → IsPaid header (events ++ event.Line line ∷ h)
 paid_inner header line h events inner none = paid_of header (event.Line line ∷ h) events (record { line = line; before = h; is = refl }) inner none
+
+-- at the start nothing is owed
+pub paid_start : (header : Header) → IsPaid header []
+paid_start header = ?

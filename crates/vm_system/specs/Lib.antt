@@ -1,5 +1,6 @@
 pub mod Channels
 pub mod Keeping
+pub mod Lawful
 pub mod Making
 pub mod Orderly
 pub mod Posts

@@ -1,5 +1,5 @@
 // The whole system.
-ghost use Rattle.std.specs.Prelude.{◌≡◌, ◌≢◌, ◌+◌, ◌≤◌, ◌<◌, ◌↔◌, ◌⊎◌, ◌&&◌, ◌^◌, ◌∷◌, ℕ, List, [], true, false, None, Ok, Some, IfOk, IsErrOf, IsOkAnd, IsSome, IsTrue, OnOk, OnErr, is_none, length, nat_le, slice_get};
+ghost use Rattle.std.specs.Prelude.{◌≡◌, ◌≢◌, ◌+◌, ◌≤◌, ◌<◌, ◌↔◌, ◌⊎◌, ◌&&◌, ◌^◌, ◌∷◌, ℕ, List, [], true, false, None, Ok, Some, IfOk, IsErrOf, IsOkAnd, IsSome, IsTrue, OnOk, OnErr, is_none, length, nat_le, reverse};
 ghost use Rattle.vm_base.specs.Limits.{most_slots};
 ghost use Rattle.vm_base.specs.declared.code.Code.{Code};
 ghost use Rattle.vm_model.specs.Limits.{most_events};
@@ -17,9 +17,9 @@ ghost use Rattle.vm_legal.specs.Steps.{before_step, takings};
 ghost use Rattle.vm_model.specs.Moments.{before_last_line};
 ghost use Rattle.vm_kernel.specs.Matches.{IsRanged};
 ghost use Rattle.vm_legal.specs.Follows.{head};
-ghost use Rattle.vm_model.specs.Named.{declared_pages, named};
+ghost use Rattle.vm_model.specs.Named.{named};
 ghost use Rattle.vm_hosts.specs.Steps.{Step};
-ghost use Rattle.vm_system.specs.Stands.{AllFilesServe, AllTold, AreEmpty, AreNumbered, FilesAreKept, IsOfFiles, PagingIsKept, SystemStands};
+ghost use Rattle.vm_system.specs.Stands.{AllFilesServe, AllTold, AreEmpty, AreNumbered, FilesAreKept, IsSupplied, PagingIsKept, SystemStands};
 ghost use Rattle.vm_system.specs.Steps.{DevicesHaveCause, GrowsWithinLimit, HasMore, IsMemoryStop, KeepsLegal, KeepsOpen, LeavesBacking, MayCut, MayCutOpen, Setting, arms, takes_any, took_up};
 
 use crate::channels::Channels;
@@ -56,7 +56,7 @@ impl Model for System {
 impl System {
     /// Nothing has happened yet; the hosts' frames are taken.
     pub fn new(alloc: Global, header: &Header) -> Result<System, NoMemory>
-        requires built { IsOfFiles header.now }
+        requires built { IsSupplied header.now }
         requires few { header.now.slots ≤ most_slots }
         ensures stands { (outside : Outside) → IfOk result (λ system. SystemStands header.now outside system) }
         ensures kept { (outside : Outside) → (areas : List ℕ → Told) → IfOk result (λ system. (outside.paging ≡ true → AllTold areas system.pagers.items) → PagingIsKept header.now outside areas system) }
@@ -257,7 +257,7 @@ fn make_pagers(alloc: Global, header: &Header) -> Result<Vec<DefaultPager>, NoMe
     Ok(pagers)
 }
 
-// The pagers of the declared objects.
+// The pagers of the declared objects, as if all were files.
 fn make_files(alloc: Global, header: &Header) -> Result<Vec<FilePager>, NoMemory>
     requires { named header.now < 2 ^ 32 }
     ensures { IfOk result (λ files. AllFilesServe header.now files.items []) }

@@ -1,5 +1,5 @@
 // Messages are taken.
-ghost use Rattle.std.specs.Prelude.{◌≡◌, ◌≢◌, ◌+◌, ◌<◌, ◌≤◌, ◌∷◌, ◌++◌, ℕ, List, None, Some, OnOk, OnErr, true, false, [], IfOk, length, slice_get};
+ghost use Rattle.std.specs.Prelude.{◌≡◌, ◌≢◌, ◌+◌, ◌<◌, ◌≤◌, ◌∷◌, ◌++◌, ℕ, List, None, Some, OnOk, OnErr, true, false, [], IfOk, length, reverse, slice_get};
 ghost use Rattle.vm_model.specs.declared.command.Command.TheVariants as command;
 ghost use Rattle.vm_model.specs.declared.message.Channel.{Channel};
 ghost use Rattle.vm_model.specs.declared.message.Channel.TheVariants as channels;
@@ -11,6 +11,7 @@ ghost use Rattle.vm_model.specs.Named.{named};
 ghost use Rattle.vm_system.specs.Making.{Spares, SparesFiles, SparesPaging};
 ghost use Rattle.vm_system.specs.Stands.{FilesAreKept, PagingIsKept};
 ghost use Rattle.vm_legal.specs.Homes.{gives_frame};
+ghost use Rattle.vm_legal.specs.Outside.{is_file, is_shared, kind_of};
 ghost use Rattle.vm_hosts.specs.Steps.{Going, Step};
 ghost use Rattle.vm_system.specs.Steps.{DevicesHaveCause, takes_any, takes_up};
 ghost use Rattle.vm_system.specs.Takings.{Followed, MayBeCut, MayTakeFrom, PagerHasAnswered, Took};
@@ -188,7 +189,7 @@ impl State {
     ) -> Result<(), NoMemory>
         ghost given: { Step }
         requires may { MayTakeFrom given line number (channels.Up host object) self.old }
-        requires declared { object.0 < named given.header }
+        requires file { is_file given.header object.0 ≡ true }
         requires files { FilesAreKept given.header given.outside (F.area files.old.inner) self.old }
         ensures took { OnOk result (Took given self.new) }
         ensures cut { OnErr result (MayBeCut given self.old.history.items self.new.history.items) }

@@ -20,7 +20,8 @@ returns-clause-stands c = λ outside. new_stands c.args.header.now outside _ (re
   numbered = c.in_ok-pagers.ensures.numbered;
   empty = c.in_ok-pagers.ensures.empty;
   files = c.in_ok-files.ensures;
-  pages = c.in_ok-pages.ensures;
+  declared = c.in_ok-declared.ensures;
+  server = record { size = c.new-2.ensures.size; rows = c.new-2.ensures.rows };
   channels = c.new-2.ensures.channels;
   letters = c.new-2.ensures.letters;
   made = c.new-3.ensures;
@@ -37,7 +38,8 @@ returns-clause-kept c = λ outside areas told. new_kept c.args.header.now outsid
   numbered = c.in_ok-pagers.ensures.numbered;
   empty = c.in_ok-pagers.ensures.empty;
   files = c.in_ok-files.ensures;
-  pages = c.in_ok-pages.ensures;
+  declared = c.in_ok-declared.ensures;
+  server = record { size = c.new-2.ensures.size; rows = c.new-2.ensures.rows };
   channels = c.new-2.ensures.channels;
   letters = c.new-2.ensures.letters;
   made = c.new-3.ensures;
@@ -54,7 +56,8 @@ returns-clause-files c = λ outside areas told. new_files_kept c.args.header.now
   numbered = c.in_ok-pagers.ensures.numbered;
   empty = c.in_ok-pagers.ensures.empty;
   files = c.in_ok-files.ensures;
-  pages = c.in_ok-pages.ensures;
+  declared = c.in_ok-declared.ensures;
+  server = record { size = c.new-2.ensures.size; rows = c.new-2.ensures.rows };
   channels = c.new-2.ensures.channels;
   letters = c.new-2.ensures.letters;
   made = c.new-3.ensures;
