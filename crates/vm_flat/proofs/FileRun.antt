@@ -173,7 +173,7 @@ caused_10 : EachEvent (HasCause header outside) past_10
 caused_10 = ((settling, (refl, (refl, omega arith))), caused_9)
 
 caused_11 : EachEvent (HasCause header outside) past_11
-caused_11 = ((settling, record { task = 0; access = Loading 64 2; waits = record { waits = refl; at = record { host = 0; entry = mapped; lives = refl; found = refl } }; on_host = refl; unmarked = λ store. refl; comes = record { top = 0; top_page = 0; steps = 0; is_top = record { object = refl; page = refl }; walks = (refl, refl) }; number = refl; live = refl; ready = refl; away = refl; unasked = refl; known = refl }), caused_10)
+caused_11 = ((settling, record { task = 0; access = Loading 64 2; waits = record { waits = refl; at = record { host = 0; entry = mapped; lives = refl; found = refl } }; on_host = refl; unmarked = λ store. refl; comes = record { top = 0; top_page = 0; steps = 0; is_top = record { object = refl; page = refl }; walks = (refl, refl) }; number = refl; live = refl; ready = refl; away = refl; unasked = refl; known = refl; left = tt }), caused_10)
 
 caused_12 : EachEvent (HasCause header outside) past_12
 caused_12 = ((settling, (refl, (refl, omega arith))), caused_11)
@@ -257,7 +257,7 @@ caused_38 : EachEvent (HasCause header outside) past_38
 caused_38 = ((settling, refl), caused_37)
 
 caused_39 : EachEvent (HasCause header outside) past_39
-caused_39 = ((settling, record { task = 0; access = Loading 0 1; waits = record { waits = refl; at = record { host = 0; entry = own; lives = refl; found = refl } }; on_host = refl; unmarked = λ store. refl; comes = record { top = 1; top_page = 0; steps = 0; is_top = record { object = refl; page = refl }; walks = (refl, refl) }; number = refl; live = refl; ready = refl; away = refl; unasked = refl; known = refl }), caused_38)
+caused_39 = ((settling, record { task = 0; access = Loading 0 1; waits = record { waits = refl; at = record { host = 0; entry = own; lives = refl; found = refl } }; on_host = refl; unmarked = λ store. refl; comes = record { top = 1; top_page = 0; steps = 0; is_top = record { object = refl; page = refl }; walks = (refl, refl) }; number = refl; live = refl; ready = refl; away = refl; unasked = refl; known = refl; left = tt }), caused_38)
 
 caused_40 : EachEvent (HasCause header outside) past_40
 caused_40 = ((settling, tt), caused_39)
@@ -281,7 +281,7 @@ caused_46 : EachEvent (HasCause header outside) past_46
 caused_46 = ((settling, refl), caused_45)
 
 caused_47 : EachEvent (HasCause header outside) past_47
-caused_47 = ((settling, record { task = 0; access = Loading 64 2; waits = record { waits = refl; at = record { host = 0; entry = mapped; lives = refl; found = refl } }; on_host = refl; unmarked = λ store. refl; comes = record { top = 0; top_page = 0; steps = 0; is_top = record { object = refl; page = refl }; walks = (refl, refl) }; number = refl; live = refl; ready = refl; away = refl; unasked = refl; known = refl }), caused_46)
+caused_47 = ((settling, record { task = 0; access = Loading 64 2; waits = record { waits = refl; at = record { host = 0; entry = mapped; lives = refl; found = refl } }; on_host = refl; unmarked = λ store. refl; comes = record { top = 0; top_page = 0; steps = 0; is_top = record { object = refl; page = refl }; walks = (refl, refl) }; number = refl; live = refl; ready = refl; away = refl; unasked = refl; known = refl; left = tt }), caused_46)
 
 caused_48 : EachEvent (HasCause header outside) past_48
 caused_48 = ((settling, tt), caused_47)

@@ -181,7 +181,7 @@ caused_10 : EachEvent (HasCause header outside) past_10
 caused_10 = ((settling, (refl, (refl, omega arith))), caused_9)
 
 caused_11 : EachEvent (HasCause header outside) past_11
-caused_11 = ((settling, record { task = 0; access = Loading 64 2; waits = record { waits = refl; at = record { host = 0; entry = mapped; lives = refl; found = refl } }; on_host = refl; unmarked = λ store. refl; comes = record { top = 0; top_page = 0; steps = 0; is_top = record { object = refl; page = refl }; walks = (refl, refl) }; number = refl; live = refl; ready = refl; away = refl; unasked = refl; known = refl }), caused_10)
+caused_11 = ((settling, record { task = 0; access = Loading 64 2; waits = record { waits = refl; at = record { host = 0; entry = mapped; lives = refl; found = refl } }; on_host = refl; unmarked = λ store. refl; comes = record { top = 0; top_page = 0; steps = 0; is_top = record { object = refl; page = refl }; walks = (refl, refl) }; number = refl; live = refl; ready = refl; away = refl; unasked = refl; known = refl; left = tt }), caused_10)
 
 caused_12 : EachEvent (HasCause header outside) past_12
 caused_12 = ((settling, (refl, (refl, omega arith))), caused_11)
@@ -271,7 +271,7 @@ caused_40 : EachEvent (HasCause header outside) past_40
 caused_40 = ((settling, refl), caused_39)
 
 caused_41 : EachEvent (HasCause header outside) past_41
-caused_41 = ((settling, record { task = 0; access = Loading 64 2; waits = record { waits = refl; at = record { host = 0; entry = mapped; lives = refl; found = refl } }; on_host = refl; unmarked = λ store. refl; comes = record { top = 0; top_page = 0; steps = 0; is_top = record { object = refl; page = refl }; walks = (refl, refl) }; number = refl; live = refl; ready = refl; away = refl; unasked = refl; known = refl }), caused_40)
+caused_41 = ((settling, record { task = 0; access = Loading 64 2; waits = record { waits = refl; at = record { host = 0; entry = mapped; lives = refl; found = refl } }; on_host = refl; unmarked = λ store. refl; comes = record { top = 0; top_page = 0; steps = 0; is_top = record { object = refl; page = refl }; walks = (refl, refl) }; number = refl; live = refl; ready = refl; away = refl; unasked = refl; known = refl; left = tt }), caused_40)
 
 caused_42 : EachEvent (HasCause header outside) past_42
 caused_42 = ((settling, tt), caused_41)

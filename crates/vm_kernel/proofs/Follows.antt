@@ -4,9 +4,10 @@ use Rattle.vm_fault.specs.Walks.{Finds, MayCome, Sinks, WalksTo, is_storing, wan
 use Rattle.vm_kernel.proofs.Growing.{Follows}
 use Rattle.vm_kernel.proofs.Leading.{Leads, it_waits, storing_is, top_at}
 use Rattle.vm_kernel.proofs.Mine.{own_lives, own_named}
+use Rattle.vm_legal.specs.Licences.{HasPageLeft}
 use Rattle.vm_legal.specs.Walks.{IsTop}
 use Rattle.vm_model.specs.Regions.{Region}
-use Rattle.vm_model.specs.Waiting.{Loading, Storing}
+use Rattle.vm_model.specs.Waiting.{Loading, Storing, next_page}
 use Rattle.vm_model.specs.declared.event.Event.TheVariants as event
 use Rattle.vm_model.specs.declared.message.Message.TheVariants as message
 use Rattle.vm_objects.specs.declared.row.PagerState.TheVariants as state
@@ -202,6 +203,10 @@ asks_for (want.Store address size value) (suc n) = ap (λ b. if b then 3 else 1)
     later : (n : ℕ) → (suc n == 0) ≡ false
     later n = grind (arith, nat_tests)
 
+asks_left : (size next : ℕ) (what : Want) → HasPageLeft size (access_in what) next
+asks_left size next (want.Load address bytes) = tt
+asks_left size next (want.Store address bytes value) = tt
+
 -- a page is asked for
 pub request_follows : (header : Header) (h : ℕ) (outside : Outside) (doing : Command) (past : List Event) (k : Parts) (task : ℕ) (what : Want) (top : PageKey) (at : IsAt k.maps k.chains task what top) (steps : ℕ) (key : PageKey) (object : ObjectRow)
     → Leads header h past k task what top at → IsShown header h k.memory k.chains past → (is_storing what ≡ true → at.row.marked ≡ false) → MayCome k.memory k.chains steps top key object → object.state ≡ state.Ready
@@ -224,6 +229,7 @@ request_follows header h outside doing past k task what top at steps key object 
         away = may.away;
         unasked = may.unasked;
         known = may.known;
+        left = asks_left header.size (next_page task past) what;
       };
       own_bytes = tt;
       frames = frames;

@@ -10,9 +10,10 @@ use Rattle.vm_model.specs.declared.event.Event.{Event}
 use Rattle.vm_model.specs.declared.script.Declared.{Declared}
 use Rattle.vm_model.specs.declared.script.Header.{Header}
 use Rattle.vm_model.specs.Named.{declared, named}
+use Rattle.vm_model.specs.Controls.{live_control}
 use Rattle.vm_model.specs.Local.{Local}
 use Rattle.vm_model.specs.Waiting.{Access, is_store}
-use Rattle.vm_legal.specs.Accesses.{Waits, WaitsUnlocked, names}
+use Rattle.vm_legal.specs.Accesses.{Waits, WaitsUnlocked, is_ready, names}
 use Rattle.vm_model.specs.Moments.{BeforeSteps, EachEvent}
 use Rattle.vm_legal.specs.Debts.{IsPaid}
 use Rattle.vm_legal.specs.Licences.{HasCause, is_paged}
@@ -68,12 +69,24 @@ shared_tame File is = refl
 shared_tame Shared is = refl
 shared_tame Wild is = never is
 
+pub shared_supplied : (header : Header) (o : ℕ) → is_shared header o ≡ true → is_wild header o ≡ false
+shared_supplied header o is = shared_tame (kind_of header o) is
+
 none_wild : (header : Header) (o : ℕ) → AllSupplied header → is_wild header o ≡ false
 none_wild header o all = by (one_of header o all)
   where
     by : (is_paged header o ≡ true) ⊎ (is_shared header o ≡ true) → is_wild header o ≡ false
     by (inl is) = paged_supplied header o is
-    by (inr is) = shared_tame (kind_of header o) is
+    by (inr is) = shared_supplied header o is
+
+-- where nothing is undelivered each live control is ready, but for wild objects'
+pub ready_now : (header : Header) (outside : Outside) (history : List Event) (host o control : ℕ) → EachEvent (HasCause header outside) history → BeforeSteps (IsPaid header) history → IsPaid header history → undelivered history ≡ []
+    → is_wild header o ≡ false → live_control host o history ≡ Some control → is_ready host o history ≡ true
+ready_now header outside history host o control causes steps paid delivered ours live = by (is_ready host o history) refl
+  where
+    by : (b : Bool) → is_ready host o history ≡ b → is_ready host o history ≡ true
+    by true is = is
+    by false is = absurd (way_none (opens control) says_ready (readies o) host o control history delivered (done_opening header history paid host o control ours) (opens_of header outside host history causes steps o control ours live is))
 
 quiet_asked : (header : Header) (outside : Outside) (history : List Event) (host o p : ℕ) → IsQuiet header outside history → (page_on header host o p history).asked ≡ true → ⊥
 quiet_asked header outside history host o p quiet is = by (one_of header o quiet.supplied)
@@ -96,8 +109,7 @@ quiet_locked header outside history host o p store quiet here named unlocking = 
 no_pager : (header : Header) (outside : Outside) (history : List Event) (host : ℕ) (store : Bool) (o p : ℕ) → IsQuiet header outside history → Awaits header host store o p history → ⊥
 no_pager header outside history host store o p quiet (AnAnswer is) = quiet_asked header outside history host o p quiet is
 no_pager header outside history host store o p quiet (AReady control live is) =
-    let ours = none_wild header o quiet.supplied in
-    way_none (opens control) says_ready (readies o) host o control history quiet.delivered (done_opening header history quiet.paid host o control ours) (opens_of header outside host history quiet.causes quiet.steps o control ours live is)
+    never (sym is ∙ ready_now header outside history host o control quiet.causes quiet.steps quiet.paid quiet.delivered (none_wild header o quiet.supplied) live)
 no_pager header outside history host store o p quiet (AnUnlock here named unlocking) = quiet_locked header outside history host o p store quiet here named unlocking
 
 no_unlock : (header : Header) (outside : Outside) (history : List Event) (host o p : ℕ) → IsQuiet header outside history → WaitsUnlocked header host o p history → ⊥

@@ -1,1 +1,16 @@
+pub mod Answered
+pub mod Carried
+pub mod Causes
+pub mod Declared
 pub mod Founded
+pub mod Kept
+pub mod Numbering
+pub mod Order
+pub mod Pages
+pub mod Protocol
+pub mod Rows
+pub mod Servers
+pub mod Speakers
+pub mod Stepped
+pub mod Steps
+pub mod Waiters
