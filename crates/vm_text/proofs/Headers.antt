@@ -1,5 +1,5 @@
--- Where no header line is one for which nothing is built, a script declares no wild object.
-use Rattle.std.proofs.Common.{◌≡◌, ◌≢◌, ℕ, ◌+◌, ◌-◌, ◌≤◌, nat_lt, nat_le, Bool, true, false, ◌&&◌, ◌||◌, cond, List, [], ◌∷◌, length, reverse, replicate, Option, Some, None, Result, Ok, Err, refl, ap, arith, slice_set, subst}
+-- Where no header line is one for which nothing is built, a script declares files and shared objects alone.
+use Rattle.std.proofs.Common.{◌≡◌, ℕ, inl, inr, ◌+◌, ◌-◌, ◌≤◌, nat_lt, nat_le, Bool, true, false, ◌&&◌, ◌||◌, cond, List, [], ◌∷◌, length, reverse, replicate, Option, Some, None, Result, Ok, Err, refl, ap, arith, slice_set, subst}
 use Rattle.std.proofs.lemmas.Bool.{ltb-true, ltb-false}
 use Rattle.std.proofs.lemmas.List.{length-set, length-replicate, length-reverse}
 use Rattle.std.proofs.lemmas.List.Elements.{All-nil, All-cons}
@@ -15,14 +15,14 @@ use Rattle.vm_text.specs.declared.meaning.HeaderWord.TheVariants as heads
 use Rattle.vm_text.specs.declared.meaning.CommandWord.{CommandWord}
 use Rattle.vm_text.specs.Forms.{Heading, header_words, command_words, stands_already, header_form, hosts_line, frames_line, page_line, slots_line, new_name, object_line, command_form, host_in_word, page_size}
 use Rattle.vm_text.specs.Script.{Reading, nothing_read, Whole, whole_of, header_line, command_line, line_read, lines_read, script_of, whole_script}
-use Rattle.vm_text.specs.Unbuilt.{is_unbuilt_header, is_unbuilt, unbuilt_from, IsBuilt}
+use Rattle.vm_text.specs.Unbuilt.{is_unbuilt_header, is_unbuilt, unbuilt_from, IsBuilt, IsSuppliedKind}
 use Rattle.vm_text.specs.Words.{◌>>=◌, lines_of, words_of, is_comment, word_in, one_word, two_words, number_of, number_between, within}
 
--- no declared object is wild
+-- these objects are such
 abbrev Supplied : List Declared → Type 0
-Supplied objects = All (λ (object : Declared). object.kind ≢ kinds.Wild) objects
+Supplied objects = All (λ (object : Declared). IsSuppliedKind object.kind) objects
 
--- so far none is
+-- those that were declared so far are
 record SoFar (heading : Heading) : Type 0 where
   supplied : Supplied heading.objects
 
@@ -74,14 +74,14 @@ slots_ok old new line is so =
     let made : SoFar (record old { slots = Some two.0 }) = record { supplied = so.supplied } in
     subst SoFar new_is made
 
-object_ok : (kind : ObjectKind) (old new : Heading) (line : List (List ℕ)) → kind ≢ kinds.Wild → object_line kind old line ≡ Ok new → SoFar old → SoFar new
+object_ok : (kind : ObjectKind) (old new : Heading) (line : List (List ℕ)) → IsSuppliedKind kind → object_line kind old line ≡ Ok new → SoFar old → SoFar new
 object_ok kind old new line supplied is so =
     let one = bound (two_words line) _ new is in
     let two = bound (new_name old one.0.0) _ new one.2 in
     let three = bound (number_between 1 4096 one.0.1) _ new two.2 in
     let object : Declared = record { name = two.0; kind = kind; pages = three.0 } in
     let new_is : record old { objects = object ∷ old.objects } ≡ new = cc in
-    let made : SoFar (record old { objects = object ∷ old.objects }) = record { supplied = All-cons (λ o. o.kind ≢ kinds.Wild) object old.objects supplied so.supplied } in
+    let made : SoFar (record old { objects = object ∷ old.objects }) = record { supplied = All-cons (λ (o : Declared). IsSuppliedKind o.kind) object old.objects supplied so.supplied } in
     subst SoFar new_is made
 
 header_ok : (old new : Heading) (word : HeaderWord) (line : List (List ℕ)) → header_form old word line ≡ Ok new → is_unbuilt_header word ≡ false → SoFar old → SoFar new
@@ -89,8 +89,8 @@ header_ok old new heads.Hosts line is built so = hosts_ok old new line is so
 header_ok old new heads.Frames line is built so = frames_ok old new line (reached (nat_lt 0 (length old.frames)) (frames_line old line) _ new is).1 so
 header_ok old new heads.Page line is built so = page_ok old new line is so
 header_ok old new heads.Slots line is built so = slots_ok old new line is so
-header_ok old new heads.File line is built so = object_ok kinds.File old new line (λ same. absurd (cc)) is so
-header_ok old new heads.Shared line is built so = object_ok kinds.Shared old new line (λ same. absurd (cc)) is so
+header_ok old new heads.File line is built so = object_ok kinds.File old new line (inl refl) is so
+header_ok old new heads.Shared line is built so = object_ok kinds.Shared old new line (inr refl) is so
 header_ok old new heads.Wild line is built so = absurd (cc)
 
 header_line_ok : (old new : Reading) (word : HeaderWord) (line : List (List ℕ)) → header_line old word line ≡ Ok new → is_unbuilt_header word ≡ false → SoFar old.heading → SoFar new.heading
@@ -150,4 +150,4 @@ lines_ok number reading (line ∷ lines) script is none so =
 
 pub built : (bytes : List ℕ) (script : Script) → unbuilt_from 1 (lines_of bytes) ≡ None → script_of bytes ≡ Ok (whole_script script) → IsBuilt script.header
 built bytes script none is =
-    lines_ok 1 nothing_read (lines_of bytes) script (passed (nat_lt 1048576 (length bytes)) _ _ (whole_script script) is) none (record { supplied = All-nil (λ object. object.kind ≢ kinds.Wild) })
+    lines_ok 1 nothing_read (lines_of bytes) script (passed (nat_lt 1048576 (length bytes)) _ _ (whole_script script) is) none (record { supplied = All-nil (λ (object : Declared). IsSuppliedKind object.kind) })
