@@ -1,4 +1,6 @@
 mod Edits
+mod Orders
 mod Owners
 mod Places
+mod Rows
 mod Tables

@@ -1,9 +1,11 @@
 // The table of resident pages.
+ghost use Rattle.indexmap.specs.IndexMap.{get};
 ghost use Rattle.std.specs.Prelude.{ℕ, ◌≡◌, ◌+◌, ◌≤◌, ◌<◌, [], Some, None, IfSome, IsOk, IsSomeAnd, MatchOption, OnErr, OnOk};
-ghost use Rattle.vm_resident.specs.Resident.{IsNextPage, IsOwned, NoRowHas, NoRowsFrom, PutsOwner, PutsRow, owner_of, row_at};
+ghost use Rattle.vm_resident.specs.Resident.{page_key, same_page, IsNextPage, IsOwned, NoRowHas, NoRowsFrom, PutsOwner, PutsRow, owner_of, row_at};
 
-use crate::PageRow;
-use crate::resident_page::{ResidentPage, find, is_of_object, owner, stands_at};
+use crate::index::Index;
+use crate::{PageRow, index};
+use indexmap::IndexMap;
 use std::alloc::Global;
 use std::marker::Model;
 use vm_base::{FrameNo, NoMemory, ObjectId, PageKey, PageNo};
@@ -15,20 +17,19 @@ use vm_base::{FrameNo, NoMemory, ObjectId, PageKey, PageNo};
 /// its page. Only `reserve` takes memory.
 #[derive(Drop)]
 pub struct Resident {
-    // By rising object, and by rising page of an object.
-    pages: Vec<ResidentPage>,
+    index: Index,
 }
 
 impl Model for Resident {
-    ghost use Rattle.std.specs.Prelude.{◌-◌, length, vec_capacity};
-    ghost use Rattle.vm_resident.specs.Kept.{ByKey};
     ghost use Rattle.vm_resident.specs.Resident.{ResidentTable};
 
     ghost Value = { ResidentTable };
 
-    ghost view = { λ s. record { rows = s.pages.items; spare = vec_capacity s.pages - length s.pages.items } };
+    ghost use Rattle.vm_resident.specs.Kept.{IsIndex, table_of};
 
-    ghost invariant = { λ s. ByKey 0 0 s.pages.items };
+    ghost view = { λ s. table_of s.index };
+
+    ghost invariant = { λ s. IsIndex s.index };
 }
 
 impl Resident {
@@ -40,7 +41,7 @@ impl Resident {
         ensures owned { IsOwned result }
     {
         Resident {
-            pages: Vec::new(alloc),
+            index: index::no_rows(alloc),
         }
     }
 
@@ -52,8 +53,7 @@ impl Resident {
         ensures succeeds { n ≤ self.old.spare → IsOk result }
         ensures err { OnErr result (self.new ≡ self.old) }
     {
-        self.pages.reserve(n as usize)?;
-        Ok(())
+        index::reserve(&mut self.index, n as usize)
     }
 
     /// Puts in the row of a page that has none, where there is room.
@@ -65,19 +65,14 @@ impl Resident {
         ensures frames { owner_of self.old row.frame.0 ≡ None → PutsOwner row.frame.0 (Some key) self.old self.new }
         ensures owned { IsOwned self.old → owner_of self.old row.frame.0 ≡ None → IsOwned self.new }
     {
-        let i = find(&self.pages, key);
-        let _ = self.pages.insert(i, ResidentPage { key, row });
+        index::put(&mut self.index, key, row);
     }
 
     /// The row of a page; None exactly where the page isn't resident.
     pub fn get(&self, key: PageKey) -> Option<PageRow>
         ensures { result ≡ row_at self.now key.object.0 key.page.0 }
     {
-        let i = find(&self.pages, key);
-        if !stands_at(&self.pages, i, key) {
-            return None;
-        }
-        Some(self.pages[i].row)
+        index::row_of(&self.index, key)
     }
 
     /// Changes the row of a page, which keeps its frame.
@@ -88,8 +83,7 @@ impl Resident {
         ensures frames { (f : ℕ) → owner_of self.new f ≡ owner_of self.old f }
         ensures owned { IsOwned self.old → IsOwned self.new }
     {
-        let i = find(&self.pages, key);
-        self.pages[i] = ResidentPage { key, row };
+        index::change(&mut self.index, key, row);
     }
 
     /// Takes out the row of a page; None exactly where the page wasn't resident.
@@ -101,12 +95,7 @@ impl Resident {
         ensures owned { IsOwned self.old → IsOwned self.new }
         ensures none { result ≡ None → self.new ≡ self.old }
     {
-        let i = find(&self.pages, key);
-        if !stands_at(&self.pages, i, key) {
-            return None;
-        }
-        let page = self.pages.remove(i);
-        Some(page.row)
+        index::take(&mut self.index, key)
     }
 
     /// The first resident page of an object from a page on, which is itself looked at.
@@ -114,11 +103,7 @@ impl Resident {
         ensures { MatchOption result (NoRowsFrom self.now object.0 from.0)
             (λ page. IsNextPage self.now object.0 from.0 page.0) }
     {
-        let i = find(&self.pages, PageKey { object, page: from });
-        if !is_of_object(&self.pages, i, object) {
-            return None;
-        }
-        Some(self.pages[i].key.page)
+        index::next_page(&self.index, object, from)
     }
 
     /// The page whose row has a frame; the first such page, if several have it.
@@ -127,6 +112,13 @@ impl Resident {
         ensures row { MatchOption result (NoRowHas self.now f.0)
             (λ key. IsSomeAnd (row_at self.now key.object.0 key.page.0) (λ row. row.frame.0 ≡ f.0)) }
     {
-        owner(&self.pages, f)
+        index::page_of(&self.index, f)
+    }
+
+    /// The rows by their pages.
+    pub fn table(&self) -> &IndexMap<PageKey, PageRow>
+        ensures rows { (object page : ℕ) → get same_page result.now (page_key object page) ≡ row_at self.now object page }
+    {
+        &self.index.table
     }
 }

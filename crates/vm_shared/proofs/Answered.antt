@@ -12,10 +12,11 @@ use Rattle.vm_model.specs.Moments.{BeforeSteps, EachEvent}
 use Rattle.vm_model.specs.PageLicences.{ActsLicensed}
 use Rattle.vm_model.specs.PagePart.{page_part}
 use Rattle.vm_model.specs.Side.{Side, right_of, side}
+use Rattle.vm_legal.specs.Bytes.{OwnBytes}
 use Rattle.vm_legal.specs.Debts.{IsPaid}
 use Rattle.vm_legal.specs.Licences.{HasCause}
 use Rattle.vm_legal.specs.Outside.{Outside, is_shared, is_wild}
-use Rattle.vm_legal.specs.Prompt.{AllServed}
+use Rattle.vm_legal.specs.Prompt.{AllServed, Prompt}
 use Rattle.vm_legal.specs.Undelivered.{undelivered}
 use Rattle.vm_legal.specs.Walks.{page_on}
 use Rattle.vm_coherence.proofs.Channels.{page_queue}
@@ -25,8 +26,9 @@ use Rattle.vm_coherence.proofs.Locals.{side_is_local}
 use Rattle.vm_coherence.proofs.Still.{answered}
 use Rattle.vm_coherence.specs.Locals.{SideIsLocal, right_now}
 use Rattle.vm_quiet.proofs.Letters.{none_queued}
-use Rattle.vm_quiet.proofs.Quiet.{ready_now, shared_supplied}
-use Rattle.vm_quiet.specs.Quiet.{SharedAreAnswered}
+use Rattle.vm_quiet.proofs.Quiet.{ready_now, shared_supplied, supplied}
+use Rattle.vm_quiet.specs.Quiet.{AllSupplied, NobodyWaitsInVain, SharedAreAnswered}
+use Rattle.vm_shared.proofs.Causes.{licensed}
 use Rattle.vm_shared.proofs.Founded.{founded}
 use Rattle.vm_shared.proofs.Order.{down_in_order, up_in_order}
 use Rattle.vm_shared.proofs.Stepped.{stepped_of}
@@ -78,7 +80,7 @@ has_right page right is here = subst (λ n. 0 < n) (sym is) (pick page.here here
     pick true e = above page.lock
     pick false e = absurd (let bad : false ≡ true = e in cc)
 
-pub all_answered : (header : Header) (outside : Outside) (history : List Event) → IsStill header outside history → ((o p : ℕ) → is_shared header o ≡ true → ActsLicensed header.size (page_part header.size o p history)) → AllServed header history
+all_answered : (header : Header) (outside : Outside) (history : List Event) → IsStill header outside history → ((o p : ℕ) → is_shared header o ≡ true → ActsLicensed header.size (page_part header.size o p history)) → AllServed header history
     → SharedAreAnswered header history
 all_answered header outside history still licensed served =
     record {
@@ -93,3 +95,13 @@ all_answered header outside history still licensed served =
     none o p shared =
         answered header.size (page_part header.size o p history) (licensed o p shared) (steps_done header outside o p history shared still.causes still.steps) (served o p shared)
         (quiet_part header outside history o p still shared (licensed o p shared))
+
+pub shared_are_answered : (header : Header) (outside : Outside) (history : List Event) → EachEvent (HasCause header outside) history → EachEvent (OwnBytes header) history → BeforeSteps (IsPaid header) history → IsPaid header history → AllServed header history → undelivered history ≡ []
+    → SharedAreAnswered header history
+shared_are_answered header outside history causes own steps paid served delivered =
+    all_answered header outside history (record { causes = causes; steps = steps; paid = paid; delivered = delivered }) (λ o p shared. licensed header outside history causes own o p shared) served
+
+pub nobody_waits : (header : Header) (outside : Outside) (history : List Event) → AllSupplied header → EachEvent (HasCause header outside) history → EachEvent (OwnBytes header) history → BeforeSteps (IsPaid header) history → IsPaid header history → AllServed header history → Prompt header history → undelivered history ≡ []
+    → NobodyWaitsInVain header history
+nobody_waits header outside history all causes own steps paid served prompt delivered =
+    supplied header outside history all causes steps paid (shared_are_answered header outside history causes own steps paid served delivered) prompt delivered

@@ -15,6 +15,7 @@ use Rattle.vm_model.specs.PagePart.{page_part}
 use Rattle.vm_model.specs.Server.{Wanting}
 use Rattle.vm_model.specs.Side.{Side, side}
 use Rattle.vm_model.specs.Words.{DownWord, OtherDown, OtherUp, Readying, UpWord, down_word, up_word}
+use Rattle.vm_legal.specs.Bytes.{OwnBytes}
 use Rattle.vm_legal.specs.Debts.{IsPaid}
 use Rattle.vm_legal.specs.Licences.{HasCause}
 use Rattle.vm_legal.specs.Outside.{Outside, is_shared}
@@ -29,6 +30,7 @@ use Rattle.vm_coherence.specs.Carried as word
 use Rattle.vm_coherence.specs.Locals.{SideIsLocal}
 use Rattle.vm_quiet.specs.Carried.{IsUndelivered, is_request}
 use Rattle.vm_shared.proofs.Answered.{has_right, live_some}
+use Rattle.vm_shared.proofs.Causes.{licensed}
 use Rattle.vm_shared.proofs.Founded.{founded}
 use Rattle.vm_shared.proofs.Order.{down_in_order, up_in_order}
 use Rattle.vm_shared.proofs.Steps.{done_now, steps_done}
@@ -176,10 +178,13 @@ awaited_on header h o p history part some = by (part.at.awaited some)
     by (inr (inr (inl up))) = (s.awaited_control, inr (sent_up header h o p history part (word.does_as s.awaited_control) (is_reply s.awaited_control p) (does_is s.awaited_control p) up))
     by (inr (inr (inr up))) = (s.awaited_control, inr (sent_up header h o p history part (word.ends_as s.awaited_control) (is_reply s.awaited_control p) (ends_is s.awaited_control p) up))
 
-pub shared_carried : (header : Header) (outside : Outside) (history : List Event) → IsPaidFor header outside history → AllServed header history → SharedAreCarried header history
+shared_carried : (header : Header) (outside : Outside) (history : List Event) → IsPaidFor header outside history → AllServed header history → SharedAreCarried header history
 shared_carried header outside history known served =
     record {
       asked = λ h o p shared is. asked_on header h o p history (part_of header outside h o p history known shared) is;
       unlocking = λ h o p shared here is. unlocking_on header h o p history (part_of header outside h o p history known shared) here is;
       standing = λ o p shared some. let host = served o p shared some in let a = awaited_on header host.0 o p history (part_of header outside host.0 o p history known shared) host.1 in (host.0, a.0, a.1);
     }
+
+pub shared_are_carried : (header : Header) (outside : Outside) (history : List Event) → EachEvent (HasCause header outside) history → EachEvent (OwnBytes header) history → BeforeSteps (IsPaid header) history → IsPaid header history → AllServed header history → SharedAreCarried header history
+shared_are_carried header outside history causes own steps paid served = shared_carried header outside history (record { causes = causes; steps = steps; paid = paid; licensed = λ o p shared. licensed header outside history causes own o p shared }) served

@@ -1,11 +1,6 @@
 -- Each event that has its cause has one in the part of each shared page.
-use Rattle.std.proofs.Common.{◌≡◌, ℕ, zero, suc, ◌+◌, ◌/◌, ◌%◌, ◌<◌, ◌≤◌, ◌==◌, ◌&&◌, ◌||◌, ◌∙◌, List, [], ◌∷◌, Bool, true, false, Option, Some, None, if◌then◌else◌, refl, ap, sym, subst, replicate, arith, inl, inr}
+use Rattle.std.proofs.Common.{◌≡◌, ℕ, ◌+◌, ◌/◌, ◌%◌, ◌<◌, ◌≤◌, ◌==◌, ◌&&◌, ◌∙◌, List, [], ◌∷◌, Bool, true, false, Option, Some, None, if◌then◌else◌, refl, ap, sym, subst, replicate, arith}
 use Rattle.std.proofs.lemmas.Bool.Decides.{nat_tests}
-use Rattle.std.specs.Prelude.{◌⊎◌, not}
-use Rattle.vm_base.specs.declared.ids.HostId.{HostId}
-use Rattle.vm_base.specs.declared.ids.ObjectId.{ObjectId}
-use Rattle.vm_base.specs.declared.ids.PageNo.{PageNo}
-use Rattle.vm_base.specs.declared.ids.TaskId.{TaskId}
 use Rattle.vm_model.specs.declared.command.Command.{Command}
 use Rattle.vm_model.specs.declared.event.Event.{Event}
 use Rattle.vm_model.specs.declared.event.Event.TheVariants as event
@@ -14,25 +9,24 @@ use Rattle.vm_model.specs.declared.message.Message.{Message}
 use Rattle.vm_model.specs.declared.message.Message.TheVariants as message
 use Rattle.vm_model.specs.declared.script.Header.{Header}
 use Rattle.vm_model.specs.Bytes.{number_at}
-use Rattle.vm_model.specs.Channels.{down_queue, down_words, queue, up_queue}
+use Rattle.vm_model.specs.Channels.{down_queue, down_words, up_queue}
 use Rattle.vm_model.specs.Controls.{is_control, last_control, live_control}
-use Rattle.vm_model.specs.Local.{Local, CanRead, CanWrite}
+use Rattle.vm_model.specs.Local.{CanRead, CanWrite}
 use Rattle.vm_model.specs.Moments.{EachEvent}
-use Rattle.vm_model.specs.PageLicences.{ActsLicensed, Cause, HostMay, ReplyCause}
+use Rattle.vm_model.specs.PageLicences.{ActsLicensed, Cause, ReplyCause}
 use Rattle.vm_model.specs.PagePart.{page_part}
 use Rattle.vm_model.specs.Server.{first}
-use Rattle.vm_model.specs.Side.{Side, kind_of, side}
+use Rattle.vm_model.specs.Side.{Side, side}
 use Rattle.vm_model.specs.TaskPlace.{means_page, task_host}
 use Rattle.vm_model.specs.Tasks.{host_of}
-use Rattle.vm_model.specs.Waiters.{Waiter, readers, waiter_of, waiters}
-use Rattle.vm_model.specs.Waiting.{Access, Copying, Loading, Storing, is_store, next_page, waiting}
-use Rattle.vm_model.specs.Words.{Act, ActEffect, UpWord, act_of, Asking, Begins, BeginsCopy, Copies, Doing, Drops, Ending, EndsCopy, Fails, Loads, Locking, Nothing, Opens, OtherDown, OtherUp, Puts, Returning, SendsUp, SentDown, StepBegins, Stores, Supplying, TakenUp, TakesDown, Unlocking, down_word, in_range, sent_act_effect, times_meant, up_word}
-use Rattle.vm_legal.specs.Accesses.{Waits, names}
+use Rattle.vm_model.specs.Waiters.{readers, waiter_of, waiters}
+use Rattle.vm_model.specs.Waiting.{Access, Copying, Loading, is_store, next_page, waiting}
+use Rattle.vm_model.specs.Words.{Act, ActEffect, UpWord, act_of, Asking, Begins, Copies, Doing, Drops, Ending, EndsCopy, Fails, Loads, Locking, Nothing, Opens, OtherDown, OtherUp, Puts, Returning, SendsUp, SentDown, StepBegins, Stores, Supplying, TakenUp, TakesDown, Unlocking, down_word, in_range, sent_act_effect, up_word}
 use Rattle.vm_legal.specs.Bytes.{AnswersOwn, OwnBytes, PutsOwn}
 use Rattle.vm_legal.specs.Licences as L
 use Rattle.vm_legal.specs.Licences.{HasCause, LockRequest, MaySendUp, ReturnCause, ServerSends, gives_back, is_answered_over, lock_taken}
 use Rattle.vm_legal.specs.Outside.{Outside, is_shared, kind_of as kind_of_object}
-use Rattle.vm_legal.specs.Steps.{Asked, completes, error_taken, since}
+use Rattle.vm_legal.specs.Steps.{completes, since}
 use Rattle.vm_legal.specs.Walks.{page_on}
 use Rattle.vm_coherence.specs.Locals.{SideIsLocal}
 use Rattle.vm_coherence.proofs.Channels.{page_queue}
@@ -40,11 +34,12 @@ use Rattle.vm_coherence.proofs.Descent.{page_control, page_descent}
 use Rattle.vm_coherence.proofs.Locals.{side_is_local}
 use Rattle.vm_flat.proofs.Locals.{each_founded}
 use Rattle.vm_quiet.proofs.Letters.{never}
-use Rattle.vm_shared.proofs.Kept.{IsShareds, below, lives_of, shareds_of, still_lives, uncopied, unraised, unzeroed}
+use Rattle.vm_shared.proofs.Declared.{shared_declared}
+use Rattle.vm_shared.proofs.Kept.{IsShareds, lives_of, shareds_of, still_lives, uncopied, unraised, unzeroed}
 use Rattle.vm_shared.proofs.Order.{down_in_order, up_in_order}
 use Rattle.vm_shared.proofs.Rows.{asks_row, completes_row, drops_row, ends_row, hears_row, kept_reply, load_row, locked_step, names_store, opens_row, returns_row, store_row, takes_row, unlocks_row}
 use Rattle.vm_shared.proofs.Servers.{IsElsewhere, IsServersLock, IsServersRequest, lock_is, none_fails, shared_sends}
-use Rattle.vm_shared.proofs.Stepped.{Stepped, SteppedAt, step_in, stepped_of}
+use Rattle.vm_shared.proofs.Stepped.{SteppedAt, step_in, stepped_of}
 use Rattle.vm_shared.proofs.Waiters.{asks_reason, loads_waiter, on_host, stores_waiter, unlocks_store}
 
 -- what is known of a shared page and its part at a host
@@ -164,7 +159,7 @@ ends_sent header outside h o p control past caused shared c =
 
 up_sent : (header : Header) (outside : Outside) (doing : Command) (h o p : ℕ) (m : Message) (past : List Event) → EachEvent (HasCause header outside) past → is_shared header o ≡ true → MaySendUp header doing h o m past → Cause header.size h (sent_act_effect p m) (page_part header.size o p past)
 up_sent header outside doing h o p (message.Init control size) past caused shared c = opens_sent header outside h o p control size past caused shared c
-up_sent header outside doing h o p (message.Create control size) past caused shared c = let less = below header o shared in let above = c.temporary in absurd (omega (arith, less, above))
+up_sent header outside doing h o p (message.Create control size) past caused shared c = let less = shared_declared header o shared in let above = c.temporary in absurd (omega (arith, less, above))
 up_sent header outside doing h o p (message.Request control page access) past caused shared c =
     word_row header h o p control (page.0 == p) (Asking control access) past (λ is. at_place header h (SendsUp control (Asking control access)) past page.0 p o is (asks_sent header outside h o page.0 control access past caused shared c))
 up_sent header outside doing h o p (message.Unlock control page access) past caused shared c =
@@ -203,7 +198,7 @@ down_sent header h o p control m past c = absurd c
 drop_clean : (header : Header) (outside : Outside) (doing : Command) (h o p : ℕ) (past : List Event) → EachEvent (HasCause header outside) past → is_shared header o ≡ true → L.DropCause header doing h o p (page_on header h o p past) past → (page_on header h o p past).dirty ≡ false
 drop_clean header outside doing h o p past caused shared (L.DropCause.Reclaimed clean plain reclaims) = clean
 drop_clean header outside doing h o p past caused shared (L.DropCause.Ended clean plain declared unheld) = clean
-drop_clean header outside doing h o p past caused shared (L.DropCause.Unreached temporary unreached order) = let less = below header o shared in absurd (omega (arith, less, temporary))
+drop_clean header outside doing h o p past caused shared (L.DropCause.Unreached temporary unreached order) = let less = shared_declared header o shared in absurd (omega (arith, less, temporary))
 drop_clean header outside doing h o p past caused shared (L.DropCause.Flushed returns locked none) =
     let r : LockRequest = record { host = h; object = o; control = locked.control; page = locked.first; count = locked.count; returns = returns; flush = true; lock = locked.lock; reply = locked.reply } in
     let one : returns ≡ 1 = kind locked.reply (servers_lock header outside past caused r locked.taken shared) in

@@ -1,5 +1,5 @@
 -- Which pages the places of declared objects are: those of their own regions, in no step.
-use Rattle.std.proofs.Common.{ℕ, zero, suc, ◌≡◌, ◌+◌, ◌<◌, ◌≤◌, List, [], ◌∷◌, Bool, true, false, Option, Some, None, if◌then◌else◌, refl, sym, subst, ◌∙◌, arith, ⊎_elim}
+use Rattle.std.proofs.Common.{ℕ, zero, suc, ◌≡◌, ◌+◌, ◌<◌, ◌≤◌, List, [], ◌∷◌, Bool, true, false, Option, Some, if◌then◌else◌, refl, sym, subst, ◌∙◌, arith, ⊎_elim}
 use Rattle.std.proofs.lemmas.Bool.{cases_lt}
 use Rattle.std.specs.Prelude.{◌==◌}
 use Rattle.vm_model.specs.declared.event.Event.{Event}
@@ -8,11 +8,11 @@ use Rattle.vm_model.specs.declared.script.Header.{Header}
 use Rattle.vm_model.specs.Moments.{EachEvent}
 use Rattle.vm_model.specs.Named.{named}
 use Rattle.vm_model.specs.Regions.{backing_of, next_region, region_of}
-use Rattle.vm_legal.specs.Accesses.{HasPlace}
+use Rattle.vm_legal.specs.Accesses.{Comes, HasPlace}
 use Rattle.vm_legal.specs.Flat.{made_over}
 use Rattle.vm_legal.specs.Licences.{HasCause}
 use Rattle.vm_legal.specs.Outside.{Outside, is_shared}
-use Rattle.vm_legal.specs.Walks.{IsTop, Leads}
+use Rattle.vm_legal.specs.Walks.{IsTop, Leads, Walks, sight}
 use Rattle.vm_legal.proofs.Unshared.{temporary_unshared}
 use Rattle.vm_flat.proofs.Numbers.{NumberedAt}
 use Rattle.vm_shared.proofs.Numbering.{ComesOwn, IsOwn, leads_later, numbering, top_own}
@@ -56,3 +56,25 @@ place_own header past r q o p numbered small made has =
     let top_small : has.top < named header = subst (λ (k : ℕ). k < named header) (sym below.own.region) small in
     let own = top_own header past r q has.top has.top_page numbered top_small made has.is_top in
     record { own = record { region = own.region ∙ below.own.region; page = own.page ∙ below.own.page }; steps = below.steps }
+
+-- the walk of a page of a declared region ends where it begins
+pub comes_from_declared : (header : Header) (past : List Event) (host r q o p : ℕ) → NumberedAt header past → r < named header → (comes : Comes header host r q o p past) → IsOwn r q o p
+comes_from_declared header past host r q o p numbered small comes =
+    let top = declared_top_own header past r q comes.top comes.top_page numbered small comes.is_top in
+    let own = by comes.steps (subst (λ (k : ℕ). k < named header) top.region small) comes.walks in
+    record { region = top.region ∙ own.region; page = top.page ∙ own.page }
+  where
+    by : (n : ℕ) → comes.top < named header → Walks (λ k j. sight header host k j past) (λ k. backing_of header k past) n comes.top comes.top_page o p → IsOwn comes.top comes.top_page o p
+    by zero less walk = record { region = walk.0; page = walk.1 }
+    by (suc n) less walk = let above = numbered.upper comes.top walk.1 in absurd (omega (arith, above, less))
+
+-- so is what has a place in the chain of a page of a declared region
+pub place_from_declared : (header : Header) (past : List Event) (r q o p : ℕ) → NumberedAt header past → r < named header → (has : HasPlace header r q o p past) → IsOwn r q o p
+place_from_declared header past r q o p numbered small has =
+    let top = declared_top_own header past r q has.top has.top_page numbered small has.is_top in
+    let own = by has.steps (subst (λ (k : ℕ). k < named header) top.region small) has.leads in
+    record { region = top.region ∙ own.region; page = top.page ∙ own.page }
+  where
+    by : (n : ℕ) → has.top < named header → Leads (λ k. backing_of header k past) n has.top has.top_page o p → IsOwn has.top has.top_page o p
+    by zero less leads = record { region = leads.0; page = leads.1 }
+    by (suc n) less leads = let above = numbered.upper has.top leads.0 in absurd (omega (arith, above, less))

@@ -1,22 +1,18 @@
 -- What a host has of a shared page: its lock is none or one that prohibits writing, and it is never precious.
-use Rattle.std.proofs.Common.{◌≡◌, ℕ, zero, suc, ◌+◌, ◌<◌, ◌≤◌, ◌==◌, ◌&&◌, ◌||◌, ◌∙◌, List, [], ◌∷◌, Bool, true, false, Option, Some, None, if◌then◌else◌, refl, ap, sym, subst, arith, inl, inr}
+use Rattle.std.proofs.Common.{◌≡◌, ℕ, ◌≤◌, ◌==◌, ◌&&◌, ◌||◌, ◌∙◌, List, [], ◌∷◌, Bool, true, false, Option, Some, None, if◌then◌else◌, refl, sym, subst, arith, inl, inr}
 use Rattle.std.proofs.lemmas.Bool.Decides.{nat_tests}
-use Rattle.std.specs.Prelude.{◌⊎◌, nat_lt}
+use Rattle.std.specs.Prelude.{◌⊎◌}
 use Rattle.vm_base.specs.Pages.{little_endian_bytes}
-use Rattle.vm_base.specs.declared.ids.HostId.{HostId}
-use Rattle.vm_base.specs.declared.ids.ObjectId.{ObjectId}
 use Rattle.vm_model.specs.declared.event.Event.{Event}
 use Rattle.vm_model.specs.declared.event.Event.TheVariants as event
 use Rattle.vm_model.specs.declared.message.Channel.TheVariants.{Up, Down}
 use Rattle.vm_model.specs.declared.message.Message.{Message}
 use Rattle.vm_model.specs.declared.message.Message.TheVariants as message
 use Rattle.vm_model.specs.declared.script.Header.{Header}
-use Rattle.vm_model.specs.Channels.{queue}
 use Rattle.vm_model.specs.Controls.{is_control, live_control}
 use Rattle.vm_model.specs.Local.{Asks, Begins, Drops, Elsewhere, Ends, Local, LocalEffect, Raises, Returns, Stores, TakesError, TakesLock, TakesNothing, TakesPage, Unlocks, Zeroes, effect, is_on, local, local_after, sent_effect, taken_effect}
 use Rattle.vm_model.specs.Moments.{EachEvent}
 use Rattle.vm_model.specs.Named.{named}
-use Rattle.vm_model.specs.Server.{first}
 use Rattle.vm_model.specs.Tasks.{host_of}
 use Rattle.vm_model.specs.Words.{in_range}
 use Rattle.vm_legal.proofs.Unshared.{temporary_unshared}
@@ -24,8 +20,8 @@ use Rattle.vm_legal.specs.Licences.{Bottoms, CopiesPage, Fills, HasCause, LockRe
 use Rattle.vm_legal.specs.Outside.{Outside, is_shared}
 use Rattle.vm_legal.specs.Walks.{page_on}
 use Rattle.vm_quiet.proofs.Letters.{never}
-use Rattle.vm_quiet.proofs.Sane.{left, right, there_two}
-use Rattle.vm_shared.proofs.Numbering.{Numbering, numbering}
+use Rattle.vm_quiet.proofs.Sane.{right, there_two}
+use Rattle.vm_shared.proofs.Numbering.{numbering}
 use Rattle.vm_shared.proofs.Servers.{IsElsewhere, IsLock, IsServers, IsServersLock, none_lacks, taken_servers}
 
 pub record IsShareds (page : Local) : Type 0 where
@@ -121,14 +117,6 @@ none_if false e is = tt
 
 apart : (header : Header) (o : ℕ) → is_shared header o ≡ true → named header ≤ o → ⊥
 apart header o shared above = never (sym (temporary_unshared header o above) ∙ shared)
-
--- a shared object is declared
-pub below : (header : Header) (o : ℕ) → is_shared header o ≡ true → o < named header
-below header o shared = by (nat_lt o (named header)) refl
-  where
-    by : (b : Bool) → nat_lt o (named header) ≡ b → o < named header
-    by true is = grind (arith, nat_tests)
-    by false is = absurd (apart header o shared (grind (arith, nat_tests)))
 
 pub unzeroed : (header : Header) (outside : Outside) (host o p : ℕ) (past : List Event) → EachEvent (HasCause header outside) past → is_shared header o ≡ true → Fills header host o p past ⊎ Bottoms header host o p past → ⊥
 unzeroed header outside host o p past caused shared (inl c) =

@@ -19,12 +19,14 @@ use Rattle.vm_model.specs.Server.{NoRequest, NoUpgrade, first, line}
 use Rattle.vm_model.specs.Side.{Side, rest, side, side_after}
 use Rattle.vm_model.specs.Waiters.{Waiter, readers, waiters}
 use Rattle.vm_model.specs.Words.{Act, ActEffect, Asking, Unlocking, Returning, Doing, Ending, OtherUp, UpWord, SendsUp, TakenUp, in_range, to_others, up_word}
+use Rattle.vm_legal.specs.Bytes.{OwnBytes}
 use Rattle.vm_legal.specs.Debts.{IsPaid}
 use Rattle.vm_legal.specs.Licences.{HasCause, LockRequest, MaySendUp, lock_taken}
 use Rattle.vm_legal.specs.Outside.{Outside, is_shared}
 use Rattle.vm_coherence.proofs.Channels.{page_queue}
 use Rattle.vm_coherence.proofs.Protocol.{completed_awaited, ended_awaited, ended_unasked, one_request, one_unlock}
 use Rattle.vm_quiet.proofs.Letters.{never}
+use Rattle.vm_shared.proofs.Causes.{licensed as part_licensed}
 use Rattle.vm_shared.proofs.Order.{up_in_order}
 use Rattle.vm_shared.proofs.Servers.{IsServersLock, IsServersRequest, lock_is}
 use Rattle.vm_shared.proofs.Steps.{steps_done}
@@ -167,10 +169,13 @@ one_of header outside (e ∷ past) causes h o shared = one_of header outside pas
 
 -- what is promised
 
-pub request_alone : (header : Header) (outside : Outside) (h o control access : ℕ) (page : PageNo) (past : List Event) → EachEvent (HasCause header outside) past → ActsLicensed header.size (page_part header.size o page.0 past)
+pub request_alone : (header : Header) (outside : Outside) (h o control access : ℕ) (page : PageNo) (past : List Event) → EachEvent (HasCause header outside) past → EachEvent (OwnBytes header) past → is_shared header o ≡ true
     → first (queue (up_port h o) past) ≡ Some (message.Request control page access) → NoRequest h (line (page_part header.size o page.0 past)) × ((access ≡ 1) ⊎ (access ≡ 3))
-request_alone header outside h o control access page past causes licensed head = by (page.0 == page.0) (itself page.0) (taken_word header outside h o page.0 (message.Request control page access) past causes head)
+request_alone header outside h o control access page past causes own shared head = by (page.0 == page.0) (itself page.0) (taken_word header outside h o page.0 (message.Request control page access) past causes head)
   where
+    licensed : ActsLicensed header.size (page_part header.size o page.0 past)
+    licensed = part_licensed header outside past causes own o page.0 shared
+
     by : (b : Bool) → b ≡ true → (((if b then Asking control access else OtherUp) ≡ OtherUp → ⊥) → first (side h (page_part header.size o page.0 past)).up ≡ Some (if b then Asking control access else OtherUp))
         → NoRequest h (line (page_part header.size o page.0 past)) × ((access ≡ 1) ⊎ (access ≡ 3))
     by true is word =
@@ -178,10 +183,13 @@ request_alone header outside h o control access page past causes licensed head =
         (one_request header.size h control access (page_part header.size o page.0 past) licensed w, numbered_first (side h (page_part header.size o page.0 past)).up (Asking control access) w (numbered header.size (page_part header.size o page.0 past) licensed h))
     by false is word = never is
 
-pub unlock_alone : (header : Header) (outside : Outside) (h o control access : ℕ) (page : PageNo) (past : List Event) → EachEvent (HasCause header outside) past → BeforeSteps (IsPaid header) past → is_shared header o ≡ true → ActsLicensed header.size (page_part header.size o page.0 past)
+pub unlock_alone : (header : Header) (outside : Outside) (h o control access : ℕ) (page : PageNo) (past : List Event) → EachEvent (HasCause header outside) past → EachEvent (OwnBytes header) past → BeforeSteps (IsPaid header) past → is_shared header o ≡ true
     → first (queue (up_port h o) past) ≡ Some (message.Unlock control page access) → NoUpgrade h (line (page_part header.size o page.0 past)) × (access ≡ 3)
-unlock_alone header outside h o control access page past causes steps shared licensed head = by (page.0 == page.0) (itself page.0) (taken_word header outside h o page.0 (message.Unlock control page access) past causes head)
+unlock_alone header outside h o control access page past causes own steps shared head = by (page.0 == page.0) (itself page.0) (taken_word header outside h o page.0 (message.Unlock control page access) past causes head)
   where
+    licensed : ActsLicensed header.size (page_part header.size o page.0 past)
+    licensed = part_licensed header outside past causes own o page.0 shared
+
     by : (b : Bool) → b ≡ true → (((if b then Unlocking access else OtherUp) ≡ OtherUp → ⊥) → first (side h (page_part header.size o page.0 past)).up ≡ Some (if b then Unlocking access else OtherUp))
         → NoUpgrade h (line (page_part header.size o page.0 past)) × (access ≡ 3)
     by true is word =
@@ -189,10 +197,13 @@ unlock_alone header outside h o control access page past causes steps shared lic
         (one_unlock header.size h access (page_part header.size o page.0 past) licensed (steps_done header outside o page.0 past shared causes steps) w, numbered_first (side h (page_part header.size o page.0 past)).up (Unlocking access) w (numbered header.size (page_part header.size o page.0 past) licensed h))
     by false is word = never is
 
-pub completed_mine : (header : Header) (outside : Outside) (h o control count : ℕ) (page : PageNo) (past : List Event) → EachEvent (HasCause header outside) past → BeforeSteps (IsPaid header) past → is_shared header o ≡ true → ActsLicensed header.size (page_part header.size o page.0 past)
+pub completed_mine : (header : Header) (outside : Outside) (h o control count : ℕ) (page : PageNo) (past : List Event) → EachEvent (HasCause header outside) past → EachEvent (OwnBytes header) past → BeforeSteps (IsPaid header) past → is_shared header o ≡ true
     → first (queue (up_port h o) past) ≡ Some (message.Completed control page count) → (count ≡ 1) × ((side h (page_part header.size o page.0 past)).awaited_control ≡ control)
-completed_mine header outside h o control count page past causes steps shared licensed head = (one, by (in_range page.0 page.0 count) (inside page.0 count one) (taken_word header outside h o page.0 (message.Completed control page count) past causes head))
+completed_mine header outside h o control count page past causes own steps shared head = (one, by (in_range page.0 page.0 count) (inside page.0 count one) (taken_word header outside h o page.0 (message.Completed control page count) past causes head))
   where
+    licensed : ActsLicensed header.size (page_part header.size o page.0 past)
+    licensed = part_licensed header outside past causes own o page.0 shared
+
     one : count ≡ 1
     one = one_first (queue (up_port h o) past) (message.Completed control page count) head (one_of header outside past causes h o shared)
 
@@ -204,8 +215,11 @@ completed_mine header outside h o control count page past causes steps shared li
     by true is word = completed_awaited header.size h control count (page_part header.size o page.0 past) licensed (steps_done header outside o page.0 past shared causes steps) (word (λ e. cc))
     by false is word = never is
 
-pub ended_mine : (header : Header) (outside : Outside) (h o control p : ℕ) (past : List Event) → EachEvent (HasCause header outside) past → BeforeSteps (IsPaid header) past → is_shared header o ≡ true → ActsLicensed header.size (page_part header.size o p past)
+pub ended_mine : (header : Header) (outside : Outside) (h o control p : ℕ) (past : List Event) → EachEvent (HasCause header outside) past → EachEvent (OwnBytes header) past → BeforeSteps (IsPaid header) past → is_shared header o ≡ true
     → first (queue (up_port h o) past) ≡ Some (message.Terminate control) → NoRequest h (line (page_part header.size o p past)) × (0 < (side h (page_part header.size o p past)).awaits → (side h (page_part header.size o p past)).awaited_control ≡ control)
-ended_mine header outside h o control p past causes steps shared licensed head =
+ended_mine header outside h o control p past causes own steps shared head =
     let w : first (side h (page_part header.size o p past)).up ≡ Some (Ending control) = taken_word header outside h o p (message.Terminate control) past causes head (λ e. let bad : Ending control ≡ OtherUp = e in cc) in
     (ended_unasked header.size h control (page_part header.size o p past) licensed w, ended_awaited header.size h control (page_part header.size o p past) licensed (steps_done header outside o p past shared causes steps) w)
+  where
+    licensed : ActsLicensed header.size (page_part header.size o p past)
+    licensed = part_licensed header outside past causes own o p shared

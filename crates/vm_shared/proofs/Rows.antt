@@ -1,25 +1,24 @@
 -- What a host does of a shared page, over plain facts of the page and of the page's part.
-use Rattle.std.proofs.Common.{◌≡◌, ℕ, zero, suc, ◌+◌, ◌<◌, ◌≤◌, ◌%◌, ◌==◌, ◌&&◌, ◌||◌, ◌∙◌, List, [], ◌∷◌, Bool, true, false, Option, Some, None, if◌then◌else◌, refl, ap, sym, subst, arith, inl, inr}
+use Rattle.std.proofs.Common.{◌≡◌, ℕ, zero, suc, ◌+◌, ◌<◌, ◌%◌, ◌&&◌, ◌||◌, ◌∙◌, List, [], ◌∷◌, Bool, true, false, Option, Some, None, if◌then◌else◌, refl, ap, sym, subst, arith, inl, inr}
 use Rattle.std.proofs.lemmas.Bool.Decides.{nat_tests}
-use Rattle.std.specs.Prelude.{◌⊎◌, not, nat_lt, slice_range}
+use Rattle.std.specs.Prelude.{not, nat_lt, slice_range}
 use Rattle.vm_base.specs.Pages.{little_endian}
 use Rattle.vm_model.specs.declared.message.Message.{Message}
-use Rattle.vm_model.specs.declared.message.Message.TheVariants as message
 use Rattle.vm_model.specs.Bytes.{number_at}
 use Rattle.vm_model.specs.Channels.{down_words, up_words, with_down, with_word}
 use Rattle.vm_model.specs.Controls.{is_control}
 use Rattle.vm_model.specs.Local.{CanRead, CanWrite, Local}
-use Rattle.vm_model.specs.PageLicences.{HostMay, MayLoad, MaySend, MayStore, has_reason}
+use Rattle.vm_model.specs.PageLicences.{HostMay, MayLoad, MayStore, has_reason}
 use Rattle.vm_model.specs.Server.{first}
-use Rattle.vm_model.specs.Side.{Side, can_read, can_write, has_alone, kind_of, right_of}
+use Rattle.vm_model.specs.Side.{Side, has_alone, kind_of, right_of}
 use Rattle.vm_model.specs.Waiters.{Waiter, any_store}
-use Rattle.vm_model.specs.Words.{UpWord, Asking, Unlocking, Returning, Doing, Ending, OtherUp, DownWord, Supplying, Locking, Lacking, Failing, Readying, OtherDown, Opens, SendsUp, TakenUp, TakesDown, Drops, down_word, in_range, up_word}
+use Rattle.vm_model.specs.Words.{UpWord, Asking, Unlocking, Returning, Doing, Ending, OtherUp, DownWord, Supplying, Locking, Lacking, Failing, Readying, OtherDown, Opens, SendsUp, TakenUp, TakesDown, Drops, down_word, up_word}
 use Rattle.vm_legal.specs.Accesses.{names}
 use Rattle.vm_legal.specs.Licences.{IsDoneAt, LockRequest, gives_back, is_answered_over}
-use Rattle.vm_coherence.specs.Locals.{SideIsLocal, right_now}
+use Rattle.vm_coherence.specs.Locals.{SideIsLocal}
 use Rattle.vm_coherence.proofs.Locals.{can_read_is, can_write_is}
 use Rattle.vm_quiet.proofs.Letters.{never}
-use Rattle.vm_shared.proofs.Kept.{IsShareds, still_lives}
+use Rattle.vm_shared.proofs.Kept.{IsShareds}
 use Rattle.vm_shared.proofs.Servers.{IsLock, IsServersLock}
 use Rattle.vm_shared.proofs.Stepped.{Stepped, step_in}
 

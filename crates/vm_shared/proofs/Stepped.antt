@@ -1,7 +1,7 @@
 -- A shared page's part knows which control is ready, and the lock with a reply that the step has still to do.
-use Rattle.std.proofs.Common.{◌≡◌, ℕ, zero, suc, ◌+◌, ◌/◌, ◌%◌, ◌<◌, ◌≤◌, ◌==◌, ◌&&◌, ◌||◌, ◌∙◌, List, [], ◌∷◌, Bool, true, false, Option, Some, None, if◌then◌else◌, refl, ap, sym, subst, replicate, arith}
+use Rattle.std.proofs.Common.{◌≡◌, ℕ, ◌/◌, ◌%◌, ◌<◌, ◌≤◌, ◌==◌, ◌&&◌, ◌||◌, ◌∙◌, List, [], ◌∷◌, Bool, true, false, Option, Some, None, if◌then◌else◌, refl, ap, sym, subst, replicate, arith}
 use Rattle.std.proofs.lemmas.Bool.Decides.{nat_tests}
-use Rattle.std.specs.Prelude.{not, nat_lt}
+use Rattle.std.specs.Prelude.{not}
 use Rattle.vm_base.specs.declared.ids.HostId.{HostId}
 use Rattle.vm_base.specs.declared.ids.ObjectId.{ObjectId}
 use Rattle.vm_model.specs.declared.command.Command.{Command}
@@ -18,7 +18,7 @@ use Rattle.vm_model.specs.Named.{named}
 use Rattle.vm_model.specs.PagePart.{page_part}
 use Rattle.vm_model.specs.Side.{Side, is_open_to, kind_of, side, side_after, side_taken_down}
 use Rattle.vm_model.specs.TaskPlace.{means_page, task_host}
-use Rattle.vm_model.specs.Words.{UpWord, Asking, Unlocking, Returning, Doing, Ending, OtherUp, DownWord, Supplying, Locking, Lacking, Failing, Readying, OtherDown, ActEffect, Opens, SendsUp, TakenUp, SentDown, TakesDown, Puts, Drops, Begins, Loads, Stores, Fails, BeginsCopy, Copies, EndsCopy, StepBegins, Nothing, control_of, down_word, in_range, sent_act_effect, times_meant, to_others, up_word}
+use Rattle.vm_model.specs.Words.{UpWord, Asking, Unlocking, Returning, Doing, Ending, OtherUp, DownWord, Supplying, Locking, Lacking, Failing, Readying, OtherDown, ActEffect, Opens, SendsUp, TakenUp, SentDown, TakesDown, Puts, Drops, Begins, Loads, Stores, Fails, BeginsCopy, Copies, EndsCopy, StepBegins, Nothing, down_word, in_range, sent_act_effect, times_meant, to_others, up_word}
 use Rattle.vm_legal.specs.Accesses.{is_ready}
 use Rattle.vm_legal.specs.Licences.{Completes, HasCause, LockRequest, MaySendUp, is_answered_over, lock_taken}
 use Rattle.vm_legal.specs.Outside.{Outside, is_shared}
@@ -28,8 +28,8 @@ use Rattle.vm_coherence.proofs.Locals.{side_is_local}
 use Rattle.vm_flat.proofs.Locals.{each_founded}
 use Rattle.vm_quiet.proofs.Letters.{never}
 use Rattle.vm_quiet.proofs.Sane.{there_two}
-use Rattle.vm_shared.proofs.Kept.{below}
-use Rattle.vm_shared.proofs.Speakers.{Numbers, last_grows, numbers_of}
+use Rattle.vm_shared.proofs.Declared.{shared_declared}
+use Rattle.vm_shared.proofs.Speakers.{last_grows, numbers_of}
 
 -- the step that a page's part is in: 0 none, else by the kind of the lock with a reply over the page that isn't done yet, and whose control lives
 abbrev pub step_in : ℕ → ℕ → ℕ → Option LockRequest → Bool → Option ℕ → ℕ
@@ -387,7 +387,7 @@ sent : (header : Header) (why : Command) (host : HostId) (object : ObjectId) (m 
 sent header why host object (message.Init control size) past h o p s shared c up was =
     sent_init header host object control size past h o p s (λ is. there_two (λ g k. live_control g k past ≡ None) host.0 object.0 h o is c.none) (λ is. there_two (λ g k. last_control g k past < control) host.0 object.0 h o is (omega (arith, c.number))) up was
 sent header why host object (message.Create control size) past h o p s shared c up was =
-    let alone : (host.0 == h && object.0 == o) ≡ true → ⊥ = λ is. let less = below header o shared in let over = c.temporary in apart host.0 object.0 h o is less over in
+    let alone : (host.0 == h && object.0 == o) ≡ true → ⊥ = λ is. let less = shared_declared header o shared in let over = c.temporary in apart host.0 object.0 h o is less over in
     sent_init header host object control size past h o p s (λ is. absurd (alone is)) (λ is. absurd (alone is)) up was
   where
     apart : (a b h o : ℕ) → (a == h && b == o) ≡ true → o < named header → named header ≤ b → ⊥

@@ -1,7 +1,7 @@
 -- No lock of a shared page is under way behind a step that paid.
-use Rattle.std.proofs.Common.{ℕ, ◌≡◌, ◌∙◌, List, [], ◌∷◌, Bool, true, false, refl, sym, ap, subst, arith, Option, Some, None, if◌then◌else◌, replicate}
+use Rattle.std.proofs.Common.{ℕ, ◌≡◌, ◌∙◌, List, [], ◌∷◌, Bool, true, false, refl, subst, arith, Option, Some, None, if◌then◌else◌, replicate}
 use Rattle.std.proofs.lemmas.Bool.Decides.{nat_tests}
-use Rattle.std.specs.Prelude.{◌==◌, ◌&&◌, ◌||◌, ◌/◌, ◌%◌, not}
+use Rattle.std.specs.Prelude.{◌==◌, ◌&&◌, ◌%◌, not}
 use Rattle.vm_model.specs.declared.event.Event.{Event}
 use Rattle.vm_model.specs.declared.event.Event.TheVariants as event
 use Rattle.vm_model.specs.declared.message.Channel.TheVariants.{Up, Down}
@@ -13,7 +13,7 @@ use Rattle.vm_model.specs.Moments.{BeforeSteps, EachEvent}
 use Rattle.vm_model.specs.PagePart.{page_part}
 use Rattle.vm_model.specs.Side.{kind_of, side}
 use Rattle.vm_model.specs.TaskPlace.{means_page, task_host}
-use Rattle.vm_model.specs.Words.{ActEffect, Begins, BeginsCopy, Copies, Drops, EndsCopy, Fails, Loads, Nothing, Puts, SendsUp, SentDown, StepBegins, Stores, TakenUp, TakesDown, act_of, down_word, sent_act_effect}
+use Rattle.vm_model.specs.Words.{ActEffect, Begins, Copies, Drops, EndsCopy, Fails, Loads, Nothing, Puts, SendsUp, SentDown, StepBegins, Stores, TakenUp, TakesDown, act_of, down_word, sent_act_effect}
 use Rattle.vm_legal.specs.Debts.{IsPaid}
 use Rattle.vm_legal.specs.Licences.{HasCause, LockRequest, is_answered_over, lock_taken}
 use Rattle.vm_legal.specs.Outside.{Outside, is_shared}

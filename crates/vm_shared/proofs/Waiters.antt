@@ -1,5 +1,5 @@
 -- Whoever waits for a page of shared memory is noted in the page's part: a load or a store among its waiters, a slow copy among its readers.
-use Rattle.std.proofs.Common.{ℕ, zero, suc, ◌≡◌, ◌≢◌, ◌+◌, ◌-◌, ◌*◌, ◌/◌, ◌%◌, ◌<◌, ◌≤◌, List, [], ◌∷◌, ◌++◌, filter, replicate, Bool, true, false, Option, Some, None, if◌then◌else◌, refl, sym, ap, subst, ◌∙◌, arith, not}
+use Rattle.std.proofs.Common.{ℕ, zero, suc, ◌≡◌, ◌+◌, ◌-◌, ◌*◌, ◌/◌, ◌%◌, ◌<◌, ◌≤◌, List, [], ◌∷◌, ◌++◌, filter, replicate, Bool, true, false, Option, Some, None, if◌then◌else◌, refl, sym, ap, subst, ◌∙◌, arith, not}
 use Rattle.std.proofs.lemmas.Bool.Decides.{nat_tests}
 use Rattle.std.specs.Prelude.{◌==◌, ◌&&◌, ◌||◌}
 use Rattle.vm_base.specs.declared.entry.Entry.{Entry}
@@ -22,7 +22,7 @@ use Rattle.vm_model.specs.TaskPlace.{has_page, means_page, task_host}
 use Rattle.vm_model.specs.Tasks.{entries_of, host_of}
 use Rattle.vm_model.specs.Waiters.{Waiter, any_load, any_reader, any_store, readers, readers_after, waiter_of, waiters, waiters_after, without_once, without_task}
 use Rattle.vm_model.specs.Waiting.{Access, Copying, Loading, Storing, address_of, is_store, next_page, waiting}
-use Rattle.vm_model.specs.Words.{Act, ActEffect, Begins, BeginsCopy, Copies, Drops, EndsCopy, Fails, Loads, Nothing, Opens, Puts, SendsUp, SentDown, StepBegins, Stores, TakenUp, TakesDown, act_if, act_of, effect_on, sent_act_effect, times_meant, to_others, up_word, down_word}
+use Rattle.vm_model.specs.Words.{Act, ActEffect, Begins, BeginsCopy, Copies, Drops, EndsCopy, Fails, Loads, Nothing, Puts, SentDown, StepBegins, Stores, TakenUp, TakesDown, act_if, act_of, effect_on, sent_act_effect, times_meant, to_others, up_word, down_word}
 use Rattle.vm_legal.specs.Accesses.{At, Waits, page_of}
 use Rattle.vm_legal.specs.Licences as L
 use Rattle.vm_legal.specs.Licences.{HasCause}
@@ -45,7 +45,7 @@ waiter_for size task (Copying address bytes to) = record { task = task; store = 
 -- the events of a task
 
 -- the event is of the task, and may change what it waits for
-abbrev is_of : ℕ → Event → Bool
+abbrev pub is_of : ℕ → Event → Bool
 is_of task (event.TaskMade made host) = made.0 == task
 is_of task (event.TaskEnded gone) = gone.0 == task
 is_of task (event.Entered owner address bytes region offset prot inherit) = owner.0 == task
@@ -63,13 +63,13 @@ is_of task (event.Failed owner object page) = owner.0 == task
 is_of task other = false
 
 -- what is known of a task as it waits
-record IsSame (size task : ℕ) (past now : List Event) : Type 0 where
-  host : host_of task now ≡ host_of task past
-  entries : entries_of size task now ≡ entries_of size task past
-  waits : waiting task now ≡ waiting task past
-  next : next_page task now ≡ next_page task past
+pub record IsSame (size task : ℕ) (past now : List Event) : Type 0 where
+  pub host : host_of task now ≡ host_of task past
+  pub entries : entries_of size task now ≡ entries_of size task past
+  pub waits : waiting task now ≡ waiting task past
+  pub next : next_page task now ≡ next_page task past
 
-same : (size task : ℕ) (e : Event) (past : List Event) → is_of task e ≡ false → IsSame size task past (e ∷ past)
+pub same : (size task : ℕ) (e : Event) (past : List Event) → is_of task e ≡ false → IsSame size task past (e ∷ past)
 same size task (event.TaskMade made host) past is = record { host = rw is refl; entries = rw is refl; waits = rw is refl; next = refl }
 same size task (event.TaskEnded gone) past is = record { host = rw is refl; entries = rw is refl; waits = rw is refl; next = refl }
 same size task (event.Entered owner address bytes region offset prot inherit) past is = record { host = refl; entries = rw is refl; waits = refl; next = refl }
@@ -89,7 +89,7 @@ same size task other past is = record { host = refl; entries = refl; waits = ref
 -- the effects of others' events
 
 -- the effect is of another task, or of none
-abbrev Spares : ℕ → ActEffect → Type 0
+abbrev pub Spares : ℕ → ActEffect → Type 0
 Spares task (Begins other store at size value) = (other == task) ≡ false
 Spares task (Loads other value) = (other == task) ≡ false
 Spares task (Stores other at size value) = (other == task) ≡ false
@@ -105,7 +105,7 @@ spares_others task (TakesDown control word) = tt
 spares_others task StepBegins = tt
 spares_others task e = tt
 
-spares_on : (task h : ℕ) (a : Act) → Spares task a.effect → Spares task (effect_on h a)
+pub spares_on : (task h : ℕ) (a : Act) → Spares task a.effect → Spares task (effect_on h a)
 spares_on task h a is = by (a.host == h)
   where
     by : (b : Bool) → Spares task (if b then a.effect else to_others a.effect)
@@ -122,7 +122,7 @@ spares_sent task p (message.Create control size) = tt
 spares_sent task p m = tt
 
 -- an event that isn't of the task spares it
-spares : (task size o p : ℕ) (hosts : ℕ → ℕ) (means : ℕ → ℕ → Bool) (held : ℕ → ℕ → ℕ → List ℕ) (e : Event) → is_of task e ≡ false → Spares task (act_of size o p hosts means held e).effect
+pub spares : (task size o p : ℕ) (hosts : ℕ → ℕ) (means : ℕ → ℕ → Bool) (held : ℕ → ℕ → ℕ → List ℕ) (e : Event) → is_of task e ≡ false → Spares task (act_of size o p hosts means held e).effect
 spares task size o p hosts means held (event.Sent (Up host object) m) is = spares_if task (object.0 == o) (sent_act_effect p m) Nothing (spares_sent task p m) tt
 spares task size o p hosts means held (event.Sent (Down host object control) m) is = spares_if task (object.0 == o) (SentDown control (down_word p m)) Nothing tt tt
 spares task size o p hosts means held (event.Taken (Up host object) m) is = spares_if task (object.0 == o) (TakenUp (up_word p m)) StepBegins tt tt
@@ -144,16 +144,16 @@ spares task size o p hosts means held other is = tt
 
 -- the waiters of others
 
-else_same : {A : Type 0} (b : Bool) (x y : A) → b ≡ false → (if b then x else y) ≡ y
+pub else_same : {A : Type 0} (b : Bool) (x y : A) → b ≡ false → (if b then x else y) ≡ y
 else_same b x y is = rw is refl
 
-then_same : {A : Type 0} (b : Bool) (x y : A) → b ≡ true → (if b then x else y) ≡ x
+pub then_same : {A : Type 0} (b : Bool) (x y : A) → b ≡ true → (if b then x else y) ≡ x
 then_same b x y is = rw is refl
 
-number_is : (a b : ℕ) → (a == b) ≡ true → a ≡ b
+pub number_is : (a b : ℕ) → (a == b) ≡ true → a ≡ b
 number_is a b is = grind (arith, nat_tests)
 
-itself : (n : ℕ) → (n == n) ≡ true
+pub itself : (n : ℕ) → (n == n) ≡ true
 itself n = grind (arith, nat_tests)
 
 -- without another task's accesses the task's is the same
@@ -168,7 +168,7 @@ left_there task other (w ∷ ws) apart = by (w.task == other) refl (left_there t
         later ∙ sym (else_same (w.task == task) (Some w) (waiter_of task ws) none)
     by false is later = ap (λ x. if w.task == task then Some w else x) later
 
-waiter_stays : (task : ℕ) (e : ActEffect) (ws : List Waiter) → Spares task e → waiter_of task (waiters_after e ws) ≡ waiter_of task ws
+pub waiter_stays : (task : ℕ) (e : ActEffect) (ws : List Waiter) → Spares task e → waiter_of task (waiters_after e ws) ≡ waiter_of task ws
 waiter_stays task (Begins other store at size value) ws is = else_same (other == task) (Some (record { task = other; store = store; at = at; size = size; value = value })) (waiter_of task ws) is
 waiter_stays task (Loads other value) ws is = left_there task other ws is
 waiter_stays task (Stores other at size value) ws is = left_there task other ws is
@@ -185,7 +185,7 @@ begins_there size h on task owner store m at bytes value ws mine here means =
 
 -- the task's own events
 
-none_waits : {A : Type 0} (task : ℕ) (access : Access) (past : List Event) → waiting task past ≡ None → waiting task past ≡ Some access → A
+pub none_waits : {A : Type 0} (task : ℕ) (access : Access) (past : List Event) → waiting task past ≡ None → waiting task past ≡ Some access → A
 none_waits task access past none some = let bad : None ≡ Some access = sym none ∙ some in absurd (cc)
 
 -- a task that waits does nothing else
@@ -211,13 +211,13 @@ on_host task h (event.TaskEnded gone ∷ past) lives = by (gone.0 == task) lives
 on_host task h (e ∷ past) lives = on_host task h past lives
 
 -- the task of a slow copy's page waits with that copy
-copies_plain : {A : Type 0} (task : ℕ) (access : Access) (address bytes to : ℕ) (past : List Event) → IsPlainAccess access → waiting task past ≡ Some (Copying address bytes to) → waiting task past ≡ Some access → A
+pub copies_plain : {A : Type 0} (task : ℕ) (access : Access) (address bytes to : ℕ) (past : List Event) → IsPlainAccess access → waiting task past ≡ Some (Copying address bytes to) → waiting task past ≡ Some access → A
 copies_plain task (Loading a b) address bytes to past plain copy some = let bad : Some (Copying address bytes to) ≡ Some (Loading a b) = sym copy ∙ some in absurd (cc)
 copies_plain task (Storing a b v) address bytes to past plain copy some = let bad : Some (Copying address bytes to) ≡ Some (Storing a b v) = sym copy ∙ some in absurd (cc)
 copies_plain task (Copying a b t) address bytes to past plain copy some = absurd plain
 
 -- the address of a load or a store
-abbrev at_address : Access → ℕ
+abbrev pub at_address : Access → ℕ
 at_address access = address_of 0 0 access
 
 -- what stands in the part for a load or a store of the page
@@ -274,16 +274,16 @@ own_there header outside o p h task access other past cause is plain waits lives
 pub is_there : (header : Header) (outside : Outside) (o p : ℕ) (past : List Event) → EachEvent (HasCause header outside) past → (h task : ℕ) (access : Access) → IsPlainAccess access → waiting task past ≡ Some access → host_of task past ≡ Some h
     → means_page header.size o p task (at_address access) past ≡ true → IsThere header.size o p h task access past
 is_there header outside o p [] caused h task access plain waits lives means = absurd (cc)
-is_there header outside o p (e ∷ past) caused h task access plain waits lives means = by (is_of task e) refl
+is_there header outside o p (e ∷ past) caused h task access plain waits lives means = by (is_there header outside o p past caused.1 h task access plain) (is_of task e) refl
   where
     act : Act
     act = act_of header.size o p (λ t. task_host t past) (λ t address. means_page header.size o p t address past) (λ host object page. (side host (page_part header.size object page past)).bytes) e
 
-    by : (b : Bool) → is_of task e ≡ b → IsThere header.size o p h task access (e ∷ past)
-    by true is = own_there header outside o p h task access e past caused.0 is plain waits lives means
-    by false is =
+    by : (waiting task past ≡ Some access → host_of task past ≡ Some h → means_page header.size o p task (at_address access) past ≡ true → IsThere header.size o p h task access past) → (b : Bool) → is_of task e ≡ b → IsThere header.size o p h task access (e ∷ past)
+    by before true is = own_there header outside o p h task access e past caused.0 is plain waits lives means
+    by before false is =
         let s = same header.size task e past is in
-        let was = is_there header outside o p past caused.1 h task access plain (sym s.waits ∙ waits) (sym s.host ∙ lives) (ap (λ rows. has_page header.size o p (at_address access) (entry_at (at_address access) rows)) (sym s.entries) ∙ means) in
+        let was = before (sym s.waits ∙ waits) (sym s.host ∙ lives) (ap (λ rows. has_page header.size o p (at_address access) (entry_at (at_address access) rows)) (sym s.entries) ∙ means) in
         let spared = spares_on task h act (spares task header.size o p (λ t. task_host t past) (λ t address. means_page header.size o p t address past) (λ host object page. (side host (page_part header.size object page past)).bytes) e is) in
         waiter_stays task (effect_on h act) (waiters h (page_part header.size o p past)) spared ∙ was
 
@@ -371,7 +371,7 @@ shrinks size means address pages next left now reads is noted enough = by (pages
     by (suc n) some noted =
         let fewer : pages - (next + 1) ≡ n = omega (arith, some) in
         let further : address + (next + 1) * size ≡ address + next * size + size = grind arith in
-        let same : (if reads then 1 else 0) ≡ (if means (address + next * size) then 1 else 0) = ap (λ b. if b then 1 else 0) is in
+        let same : ◌≡◌ {A = ℕ} (if reads then 1 else 0) (if means (address + next * size) then 1 else 0) = ap (λ b. if b then 1 else 0) is in
         rw (fewer, further) (omega (arith, noted, enough, same))
 
 copied_count : (task owner h on : ℕ) (first reads : Bool) (bytes : List ℕ) (rs : List ℕ) → (on == h) ≡ true → first ≡ false
@@ -383,9 +383,13 @@ copied_count task owner h on first reads bytes rs here none = rw (here, none) (b
     by false = omega arith
 
 -- where a slow copy begins
-copy_from : Option Access → ℕ
+abbrev copy_from : Option Access → ℕ
 copy_from (Some (Copying address bytes to)) = address
 copy_from other = 0
+
+abbrev copy_size : Option Access → ℕ
+copy_size (Some (Copying address bytes to)) = bytes
+copy_size other = 0
 
 -- the page that a slow copy reads is what its address means
 reads_meant : (header : Header) (o p task index object page target address bytes to : ℕ) (past : List Event) → Numbering header past → (c : L.CopiesPage header task index object page target past) → waiting task past ≡ Some (Copying address bytes to)
@@ -417,11 +421,7 @@ copied_noted header o p h task address bytes to owner index object page target p
 -- a slow copy that begins
 copy_of : (b : Bool) (address bytes to own_address own_bytes own_to : ℕ) (was : Option Access) → b ≡ true → (if b then Some (Copying own_address own_bytes own_to) else was) ≡ Some (Copying address bytes to) → (own_address ≡ address) × (own_bytes ≡ bytes)
 copy_of b address bytes to own_address own_bytes own_to was is some =
-    let one : Some (Copying own_address own_bytes own_to) ≡ Some (Copying address bytes to) = sym (then_same b (Some (Copying own_address own_bytes own_to)) was is) ∙ some in (ap copy_from one, ap copy_bytes one)
-  where
-    copy_bytes : Option Access → ℕ
-    copy_bytes (Some (Copying a b t)) = b
-    copy_bytes other = 0
+    let one : Some (Copying own_address own_bytes own_to) ≡ Some (Copying address bytes to) = sym (then_same b (Some (Copying own_address own_bytes own_to)) was is) ∙ some in (ap copy_from one, ap copy_size one)
 
 begun_plain : {A : Type 0} (b : Bool) (address bytes to : ℕ) (new : Access) (was : Option Access) → IsPlainAccess new → b ≡ true → (if b then Some new else was) ≡ Some (Copying address bytes to) → A
 begun_plain b address bytes to new was plain is some = absurd (subst IsPlainAccess (sym (begun_with b new (Copying address bytes to) was is some)) plain)
@@ -456,16 +456,16 @@ own_noted header outside o p h task address bytes to other past k small cause is
 are_noted : (header : Header) (outside : Outside) (o p : ℕ) (past : List Event) → EachEvent (HasCause header outside) past → o < named header → (h task address bytes to : ℕ) → waiting task past ≡ Some (Copying address bytes to) → host_of task past ≡ Some h
     → AreNotedIn header.size o p h task address bytes past
 are_noted header outside o p [] caused small h task address bytes to waits lives = absurd (cc)
-are_noted header outside o p (e ∷ past) caused small h task address bytes to waits lives = by (is_of task e) refl
+are_noted header outside o p (e ∷ past) caused small h task address bytes to waits lives = by (are_noted header outside o p past caused.1 small h task address bytes to) (is_of task e) refl
   where
     act : Act
     act = act_of header.size o p (λ t. task_host t past) (λ t address. means_page header.size o p t address past) (λ host object page. (side host (page_part header.size object page past)).bytes) e
 
-    by : (b : Bool) → is_of task e ≡ b → AreNotedIn header.size o p h task address bytes (e ∷ past)
-    by true is = own_noted header outside o p h task address bytes to e past (numbering header outside past caused.1) small caused.0 is waits lives (are_noted header outside o p past caused.1 small h task address bytes to)
-    by false is =
+    by : (waiting task past ≡ Some (Copying address bytes to) → host_of task past ≡ Some h → AreNotedIn header.size o p h task address bytes past) → (b : Bool) → is_of task e ≡ b → AreNotedIn header.size o p h task address bytes (e ∷ past)
+    by before true is = own_noted header outside o p h task address bytes to e past (numbering header outside past caused.1) small caused.0 is waits lives before
+    by before false is =
         let s = same header.size task e past is in
-        let was = are_noted header outside o p past caused.1 small h task address bytes to (sym s.waits ∙ waits) (sym s.host ∙ lives) in
+        let was = before (sym s.waits ∙ waits) (sym s.host ∙ lives) in
         let spared = spares_on task h act (spares task header.size o p (λ t. task_host t past) (λ t address. means_page header.size o p t address past) (λ host object page. (side host (page_part header.size object page past)).bytes) e is) in
         let count = reader_stays task (effect_on h act) (readers h (page_part header.size o p past)) spared in
         subst (λ (n : ℕ). AreNoted header.size o p address bytes (entries_of header.size task (e ∷ past)) (next_page task (e ∷ past)) n) (sym count)
@@ -486,7 +486,7 @@ first_noted size o p address bytes next count rows noted left means = by (bytes 
   where
     by : (n : ℕ) → bytes / size - next ≡ n → times_meant size (λ at. has_page size o p at (entry_at at rows)) (address + next * size) n ≤ count → 0 < count
     by zero none noted = absurd (omega (arith, none, left))
-    by (suc n) some noted = let one : (if has_page size o p (address + next * size) (entry_at (address + next * size) rows) then 1 else 0) ≡ 1 = ap (λ b. if b then 1 else 0) means in omega (arith, noted, one)
+    by (suc n) some noted = let one : ◌≡◌ {A = ℕ} (if has_page size o p (address + next * size) (entry_at (address + next * size) rows) then 1 else 0) 1 = ap (λ b. if b then 1 else 0) means in omega (arith, noted, one)
 
 -- Whoever waits for page p of object o is in the page's part: a load or a store with what it wants of the page, and a slow copy that has a page left to read.
 pub record WaitersAgree (header : Header) (o p : ℕ) (past : List Event) : Type 0 where
@@ -556,6 +556,10 @@ asks_reason header outside host control o p wanted past caused shared c left =
     subst (λ (h : ℕ). has_reason wanted (waiters h (page_part header.size o p past)) (readers h (page_part header.size o p past)) ≡ true) c.on_host
     (subst (λ (n : ℕ). has_reason n (waiters c.waits.at.host (page_part header.size o p past)) (readers c.waits.at.host (page_part header.size o p past)) ≡ true) (sym number) (by c.task c.access c.waits agree own.own.region own.own.page left))
   where
+    either : (a : Bool) → ((a || true) || false) ≡ true
+    either true = refl
+    either false = refl
+
     by : (task : ℕ) (access : Access) (waits : Waits header task access past) → WaitersAgree header o p past → waits.at.entry.region.0 ≡ o → page_of header task access past waits.at.entry ≡ p
         → ((address bytes to : ℕ) → access ≡ Copying address bytes to → next_page task past < bytes / header.size)
         → has_reason (if is_store access then 3 else 1) (waiters waits.at.host (page_part header.size o p past)) (readers waits.at.host (page_part header.size o p past)) ≡ true
@@ -565,10 +569,6 @@ asks_reason header outside host control o p wanted past caused shared c left =
         let some = store_among task (waiters waits.at.host (page_part header.size o p past)) (waiter_for header.size task (Storing address bytes value)) (agree.there task (Storing address bytes value) tt waits region page) refl in rw some refl
     by task (Copying address bytes to) waits agree region page left =
         let some = agree.reads task address bytes to waits region page (left address bytes to refl) in rw some (either (any_load (waiters waits.at.host (page_part header.size o p past))))
-
-    either : (a : Bool) → ((a || true) || false) ≡ true
-    either true = refl
-    either false = refl
 
 -- whoever wants to write a page that is here is a store among the waiters, and asks for writing
 pub unlocks_store : (header : Header) (outside : Outside) (host control o p wanted : ℕ) (past : List Event) → EachEvent (HasCause header outside) past → is_shared header o ≡ true → (c : L.Unlocks header host control o p wanted past) → is_store c.access ≡ true

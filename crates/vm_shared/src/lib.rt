@@ -19,16 +19,20 @@ ghost use Rattle.vm_model.specs.Moments.{EachEvent, BeforeSteps};
 ghost use Rattle.vm_model.specs.PageLicences.{ActsLicensed};
 ghost use Rattle.vm_model.specs.PagePart.{page_part};
 ghost use Rattle.vm_model.specs.Server.{current, NoRequest, NoUpgrade, first, line};
-ghost use Rattle.vm_legal.specs.Bytes.{OwnBytes};
+ghost use Rattle.vm_legal.specs.Bytes.{OwnBytes, CopiesCurrent, LoadsCurrent};
+ghost use Rattle.vm_legal.specs.Flat.{flat_page};
 ghost use Rattle.vm_legal.specs.Licences.{HasCause};
 ghost use Rattle.vm_legal.specs.Outside.{Outside, is_shared};
 ghost use Rattle.vm_legal.specs.Walks.{page_on};
+ghost use Rattle.vm_shared.specs.Kinds.{NoneIsTemporary};
+ghost use Rattle.vm_shared.specs.Run as run;
 ghost use Rattle.vm_model.specs.Side.{side};
 ghost use Rattle.vm_legal.specs.Debts.{IsPaid};
-ghost use Rattle.vm_legal.specs.Prompt.{AllServed};
+ghost use Rattle.vm_legal.specs.Prompt.{AllServed, Prompt};
 ghost use Rattle.vm_legal.specs.Undelivered.{undelivered};
-ghost use Rattle.vm_quiet.specs.Quiet.{SharedAreAnswered};
+ghost use Rattle.vm_quiet.specs.Quiet.{SharedAreAnswered, AllSupplied, NobodyWaitsInVain};
 ghost use Rattle.vm_shared.specs.Carried.{SharedAreCarried};
+ghost use Rattle.vm_shared.specs.Served as served;
 
 /// Each event of a shared page has its cause in the page's part, so the law of one shared page is about
 /// every history whose events have their causes, and whose loads and stores are of what their own hosts
@@ -69,10 +73,12 @@ pub fn steps_are_done()
 
 /// Where nothing is undelivered and each step has paid what it owes, the server of shared memory has answered
 /// everybody, if of each page for which somebody stands in line some host is awaited: no page of a shared
-/// object is asked, and no unlock of one is outstanding.
-#[tactic(auto, using(crate::proofs::Answered::all_answered))]
+/// object is asked, and no unlock of one is outstanding. So whoever still waits, where no declared object is
+/// wild, waits on a host that is short of frames.
+#[tactic(auto, using(crate::proofs::Answered::shared_are_answered, crate::proofs::Answered::nobody_waits))]
 pub fn nobody_waits_for_the_server()
-    ensures answered { (header : Header) (outside : Outside) (history : List Event) → EachEvent (HasCause header outside) history → ((o p : ℕ) → is_shared header o ≡ true → ActsLicensed header.size (page_part header.size o p history)) → BeforeSteps (IsPaid header) history → IsPaid header history → AllServed header history → undelivered history ≡ [] → SharedAreAnswered header history }
+    ensures answered { (header : Header) (outside : Outside) (history : List Event) → EachEvent (HasCause header outside) history → EachEvent (OwnBytes header) history → BeforeSteps (IsPaid header) history → IsPaid header history → AllServed header history → undelivered history ≡ [] → SharedAreAnswered header history }
+    ensures waits { (header : Header) (outside : Outside) (history : List Event) → AllSupplied header → EachEvent (HasCause header outside) history → EachEvent (OwnBytes header) history → BeforeSteps (IsPaid header) history → IsPaid header history → AllServed header history → Prompt header history → undelivered history ≡ [] → NobodyWaitsInVain header history }
 {}
 
 /// What the server of shared memory is promised of the message that it takes, before it looks at it. The host
@@ -82,17 +88,49 @@ pub fn nobody_waits_for_the_server()
 ///
 /// That a return is a whole page, and that the host is one of the header's, doesn't follow from causes.
 pub fn takings_keep_the_protocol()
-    ensures request { (header : Header) (outside : Outside) (h o control access : ℕ) (page : PageNo) (past : List Event) → EachEvent (HasCause header outside) past → ActsLicensed header.size (page_part header.size o page.0 past) → first (queue (up_port h o) past) ≡ Some (message.Request control page access) → NoRequest h (line (page_part header.size o page.0 past)) × ((access ≡ 1) ⊎ (access ≡ 3)) }
-    ensures unlock { (header : Header) (outside : Outside) (h o control access : ℕ) (page : PageNo) (past : List Event) → EachEvent (HasCause header outside) past → BeforeSteps (IsPaid header) past → is_shared header o ≡ true → ActsLicensed header.size (page_part header.size o page.0 past) → first (queue (up_port h o) past) ≡ Some (message.Unlock control page access) → NoUpgrade h (line (page_part header.size o page.0 past)) × (access ≡ 3) }
-    ensures completed { (header : Header) (outside : Outside) (h o control count : ℕ) (page : PageNo) (past : List Event) → EachEvent (HasCause header outside) past → BeforeSteps (IsPaid header) past → is_shared header o ≡ true → ActsLicensed header.size (page_part header.size o page.0 past) → first (queue (up_port h o) past) ≡ Some (message.Completed control page count) → (count ≡ 1) × ((side h (page_part header.size o page.0 past)).awaited_control ≡ control) }
-    ensures ended { (header : Header) (outside : Outside) (h o control p : ℕ) (past : List Event) → EachEvent (HasCause header outside) past → BeforeSteps (IsPaid header) past → is_shared header o ≡ true → ActsLicensed header.size (page_part header.size o p past) → first (queue (up_port h o) past) ≡ Some (message.Terminate control) → NoRequest h (line (page_part header.size o p past)) × (0 < (side h (page_part header.size o p past)).awaits → (side h (page_part header.size o p past)).awaited_control ≡ control) }
+    ensures request { (header : Header) (outside : Outside) (h o control access : ℕ) (page : PageNo) (past : List Event) → EachEvent (HasCause header outside) past → EachEvent (OwnBytes header) past → is_shared header o ≡ true → first (queue (up_port h o) past) ≡ Some (message.Request control page access) → NoRequest h (line (page_part header.size o page.0 past)) × ((access ≡ 1) ⊎ (access ≡ 3)) }
+    ensures unlock { (header : Header) (outside : Outside) (h o control access : ℕ) (page : PageNo) (past : List Event) → EachEvent (HasCause header outside) past → EachEvent (OwnBytes header) past → BeforeSteps (IsPaid header) past → is_shared header o ≡ true → first (queue (up_port h o) past) ≡ Some (message.Unlock control page access) → NoUpgrade h (line (page_part header.size o page.0 past)) × (access ≡ 3) }
+    ensures completed { (header : Header) (outside : Outside) (h o control count : ℕ) (page : PageNo) (past : List Event) → EachEvent (HasCause header outside) past → EachEvent (OwnBytes header) past → BeforeSteps (IsPaid header) past → is_shared header o ≡ true → first (queue (up_port h o) past) ≡ Some (message.Completed control page count) → (count ≡ 1) × ((side h (page_part header.size o page.0 past)).awaited_control ≡ control) }
+    ensures ended { (header : Header) (outside : Outside) (h o control p : ℕ) (past : List Event) → EachEvent (HasCause header outside) past → EachEvent (OwnBytes header) past → BeforeSteps (IsPaid header) past → is_shared header o ≡ true → first (queue (up_port h o) past) ≡ Some (message.Terminate control) → NoRequest h (line (page_part header.size o p past)) × (0 < (side h (page_part header.size o p past)).awaits → (side h (page_part header.size o p past)).awaited_control ≡ control) }
 {}
 
 /// Where each step has paid, what is asked of the server of shared memory is on its way: of each page that is
 /// asked, and of each unlock that is outstanding, the message to the server or its answer is undelivered, or its
 /// host stands in the server's line; and if of each page for which somebody stands in line some host is awaited,
 /// a message of that page is undelivered then too.
-#[tactic(auto, using(crate::proofs::Carried::shared_carried))]
+#[tactic(auto, using(crate::proofs::Carried::shared_are_carried))]
 pub fn what_the_server_is_asked_is_on_its_way()
-    ensures carried { (header : Header) (outside : Outside) (history : List Event) → EachEvent (HasCause header outside) history → ((o p : ℕ) → is_shared header o ≡ true → ActsLicensed header.size (page_part header.size o p history)) → BeforeSteps (IsPaid header) history → IsPaid header history → AllServed header history → SharedAreCarried header history }
+    ensures carried { (header : Header) (outside : Outside) (history : List Event) → EachEvent (HasCause header outside) history → EachEvent (OwnBytes header) history → BeforeSteps (IsPaid header) history → IsPaid header history → AllServed header history → SharedAreCarried header history }
+{}
+
+/// A worked history that meets all of that: two hosts map one shared page, host 0 reads it, host 1 wants to
+/// write it, and host 0 gives it up. It ends with nothing undelivered.
+#[tactic(auto, using(crate::proofs::ServedRun::served_causes, crate::proofs::ServedRun::served_own, crate::proofs::ServedRun::served_delivered, crate::proofs::ServedRun::served_supplied))]
+pub fn served_run()
+    ensures supplied { AllSupplied served.header }
+    ensures causes { EachEvent (HasCause served.header served.outside) served.history }
+    ensures own { EachEvent (OwnBytes served.header) served.history }
+    ensures delivered { undelivered served.history ≡ [] }
+{}
+
+/// A worked history that meets the premises: two hosts map one shared page and read it, host 0 wants to
+/// write, and its unlock crosses what the others do. Host 1 ends its control while it is awaited, maps
+/// the page anew and reads what host 0 stored. At last the page is copied on host 0, page by page.
+#[tactic(auto, using(crate::proofs::Run::causes, crate::proofs::Run::own_bytes))]
+pub fn shared_run()
+    ensures shared { is_shared run.header 0 ≡ true }
+    ensures causes { EachEvent (HasCause run.header run.outside) run.history }
+    ensures own_bytes { EachEvent (OwnBytes run.header) run.history }
+{}
+
+/// The flat map speaks of shared memory too: its page is what the stores of the page's part leave,
+/// whatever page it is. So a slow copy from a shared page takes the flat map's bytes, and a load of
+/// shared memory answers them; the law of the flat map supposes both.
+///
+/// No declared object is temporary: of one that were, nothing would say what its pager answers.
+#[tactic(auto, using(crate::proofs::Flat::current_is_flat, crate::proofs::Currents::copies_current, crate::proofs::Currents::loads_current))]
+pub fn copies_and_loads_are_current()
+    ensures flat { (header : Header) (outside : Outside) (history : List Event) → EachEvent (HasCause header outside) history → (o p : ℕ) → is_shared header o ≡ true → flat_page header outside o p history ≡ current header.size (page_part header.size o p history) }
+    ensures copies { (header : Header) (outside : Outside) (history : List Event) → NoneIsTemporary header → EachEvent (HasCause header outside) history → EachEvent (OwnBytes header) history → EachEvent (CopiesCurrent header outside) history }
+    ensures loads { (header : Header) (outside : Outside) (history : List Event) → EachEvent (HasCause header outside) history → EachEvent (OwnBytes header) history → EachEvent (LoadsCurrent header outside) history }
 {}

@@ -9,6 +9,7 @@ pub mod Empty
 pub mod Endings
 pub mod Filed
 pub mod Filing
+pub mod Flattened
 pub mod Following
 pub mod Growth
 pub mod Hearing

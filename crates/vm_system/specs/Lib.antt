@@ -1,4 +1,5 @@
 pub mod Channels
+pub mod Flat
 pub mod Keeping
 pub mod Lawful
 pub mod Making

@@ -104,9 +104,9 @@ kept_none header files areas h none host below =
     by None is some = absurd (let bad : false ≡ true = ap is_some (sym is) ∙ some in cc)
     by (Some was) is some = (was, is, λ o p s bytes slotted. absurd (cc))
 
-carried_none : (header : Header) (areas : List ℕ → Told) → FilesCarry header areas areas []
+pub carried_none : (header : Header) (areas : List ℕ → Told) → FilesCarry header areas areas []
 carried_none header areas = record {
-  kept = λ object was file told. (was, told, λ host may. record { page = λ p fine. refl; least = omega arith });
+  kept = λ object was file told. (was, told, λ host may. record { page = λ p fine. refl; least = omega arith; beyond = λ n none. refl });
   others = λ name was other told. told;
 }
 

@@ -39,7 +39,7 @@ failed_legal History run outside h before after failed = record {
 }
 failed_legal Summary run outside h before after failed = failed.0
 
-ends_legal : (report : Report) (run : Script) (outside : Outside) (h : List Event) (before after : Option (List ℕ)) (s : Status) → EndsAs report run outside h before after s → s ≢ status.NoMemory → LegalSoFar run outside h
+pub ends_legal : (report : Report) (run : Script) (outside : Outside) (h : List Event) (before after : Option (List ℕ)) (s : Status) → EndsAs report run outside h before after s → s ≢ status.NoMemory → LegalSoFar run outside h
 ends_legal report run outside h before after status.Done ends uncut = whole_so_far run outside h ends.0
 ends_legal report run outside h before after status.EventLimit ends uncut = full_so_far run outside h ends.0
 ends_legal report run outside h before after (status.NotBuilt line) ends uncut = part_so_far run outside _ _ h ends.0.part

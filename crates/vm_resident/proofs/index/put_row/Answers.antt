@@ -1,0 +1,10 @@
+use Rattle.std.proofs.Common.{Result, Ok, Err}
+use Rattle.std.specs.Prelude.{IsOk, OnOk}
+use Rattle.vm_resident.proofs.index.put_row.Goals as goal
+
+on_ok : {A E : Type 0} (result : Result A E) (P : Type 0) → OnOk result P → IsOk result → P
+on_ok (Ok done) P told ok = told
+on_ok (Err stop) P told ok = absurd (cc)
+
+pub returns-clause-rows : goal.returns-clause-rows
+returns-clause-rows c = λ o p. (on_ok c.insert.result _ c.insert.ensures.updates (c.insert.ensures.succeeds c.requires)).0 (record { object = record { 0 = o }; page = record { 0 = p } })
