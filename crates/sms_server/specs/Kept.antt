@@ -16,20 +16,31 @@ abbrev pub ByKey : ℕ → ℕ → List PageRow → Type 0
 ByKey object page [] = Unit {0}
 ByKey object page (row ∷ rows) = IsFrom object page row.key × ByKey row.key.object.0 (suc row.key.page.0) rows
 
+-- how many rows with such a mark come first
+abbrev pub leading : (PageRow → Bool) → List PageRow → ℕ
+leading test [] = 0
+leading test (row ∷ rows) = if test row then suc (leading test rows) else 0
+
+abbrev pub is_row_before : ℕ → ℕ → PageRow → Bool
+is_row_before object page row = is_before row.key object page
+
+abbrev pub is_below : ℕ → PageRow → Bool
+is_below object row = nat_lt row.key.object.0 object
+
+abbrev pub is_up_to : ℕ → PageRow → Bool
+is_up_to object row = nat_le row.key.object.0 object
+
 -- how many pages come in front of one
 abbrev pub rows_before : ℕ → ℕ → List PageRow → ℕ
-rows_before object page [] = 0
-rows_before object page (row ∷ rows) = if is_before row.key object page then suc (rows_before object page rows) else 0
+rows_before object page rows = leading (is_row_before object page) rows
 
 -- how many pages of objects below one come first
 abbrev pub objects_below : ℕ → List PageRow → ℕ
-objects_below object [] = 0
-objects_below object (row ∷ rows) = if nat_lt row.key.object.0 object then suc (objects_below object rows) else 0
+objects_below object rows = leading (is_below object) rows
 
 -- how many pages of objects up to one come first
 abbrev pub objects_up_to : ℕ → List PageRow → ℕ
-objects_up_to object [] = 0
-objects_up_to object (row ∷ rows) = if nat_le row.key.object.0 object then suc (objects_up_to object rows) else 0
+objects_up_to object rows = leading (is_up_to object) rows
 
 -- whether a page stands at a place
 abbrev pub is_page_at : ℕ → ℕ → Option PageRow → Bool

@@ -55,12 +55,12 @@ pub fn find_end(rows: &[PageRow], object: ObjectId) -> usize
 pub fn prepare_rows(rows: &mut [PageRow]) -> Result<u32, NoMemory>
     ensures same { RowsAreSame rows.old rows.new }
     ensures prepared { OnOk result (AllPrepared rows.new) }
-    ensures most { IfOk result (λ most. most ≡ all_replies rows.new) }
+    ensures most { IfOk result (λ most. most ≡ all_replies rows.old) }
     ensures succeeds { AllPrepared rows.old → all_replies rows.old < 2 ^ 32 → IsOk result }
 {
     let mut most: u32 = 0;
     for i in 0..rows.len() {
-        let more = rows[i].directory.reserve()?;
+        let more = rows[i].reserve()?;
         let Some(sum) = most.checked_add(more) else {
             return Err(NoMemory);
         };

@@ -220,7 +220,7 @@ impl Server {
             self.name_page(key)?;
         }
         let i = find(&self.rows, key);
-        let most = self.rows[i].directory.reserve()?;
+        let most = self.rows[i].reserve()?;
         self.events.reserve(most)?;
         Ok(i)
     }

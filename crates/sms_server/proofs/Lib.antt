@@ -1,0 +1,5 @@
+pub mod Keyed
+pub mod Replying
+pub mod Looping
+pub mod Quiet
+pub mod Acting
