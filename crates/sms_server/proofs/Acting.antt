@@ -196,7 +196,7 @@ free_down p q control (Flush host) apart = let out : in_range q p 1 ≡ false = 
 free_down p q control (CleanLock host) apart = let out : in_range q p 1 ≡ false = grind (arith, nat_tests) in rw out refl
 free_down p q control (Unlock host) apart = let out : in_range q p 1 ≡ false = grind (arith, nat_tests) in rw out refl
 
-free_if : (b : Bool) (h : ℕ) (e : ActEffect) → (b ≡ true → is_free e ≡ true) → is_free (act_if b h e).effect ≡ true
+pub free_if : (b : Bool) (h : ℕ) (e : ActEffect) → (b ≡ true → is_free e ≡ true) → is_free (act_if b h e).effect ≡ true
 free_if true h e free = free refl
 free_if false h e free = refl
 

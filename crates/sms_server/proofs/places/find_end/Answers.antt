@@ -7,7 +7,6 @@ use Rattle.sms_server.specs.Kept.{is_up_to}
 pub returns-clause-value : goal.returns-clause-value
 returns-clause-value c =
     let rows = c.args.rows.now in
-    
     let parted = partitioned (is_up_to c.args.object.0) (up_to_first c.args.object.0) 0 0 rows c.requires in
     let point = IsPartitionPoint-from_clause (is_up_to c.args.object.0) rows c.partition_point.result c.partition_point.ensures.partitioned parted (λ a r q k. search rules) in
     leading_is (is_up_to c.args.object.0) c.partition_point.result rows c.partition_point.ensures.bound point.0 point.1
