@@ -1,13 +1,14 @@
 -- Pages by rising key: where one stands, and which are not there.
-use Rattle.std.proofs.Common.{ℕ, zero, suc, ◌≡◌, ◌<◌, ◌≤◌, ◌==◌, Bool, true, false, List, [], ◌∷◌, length, get_or, Option, Some, None, refl, sym, ◌∙◌, ap, subst, ⊎_elim, arith, nat_le, nat_lt}
+use Rattle.std.proofs.Common.{ℕ, zero, suc, ◌≡◌, ◌<◌, ◌≤◌, ◌+◌, ◌==◌, Bool, true, false, List, [], ◌∷◌, length, get_or, Option, Some, None, refl, sym, ◌∙◌, ap, subst, ⊎_elim, arith, nat_le, nat_lt}
 use Rattle.std.proofs.lemmas.Bool.{cases_Bool, false≢true}
 use Rattle.std.proofs.lemmas.Bool.Decides.{nat_tests}
+use Rattle.std.proofs.lemmas.Option.{get_or_from_slice_get, slice_get_within}
 use Rattle.std.specs.List.Sorted.{IsPartitionedBy}
 use Rattle.std.specs.Prelude.{slice_get, if◌then◌else◌}
 use Rattle.vm_base.specs.Keys.{IsFrom, is_before, is_page}
 use Rattle.vm_base.proofs.Keys.{Ahead, Behind, IsAhead, Same, apart, before_is, before_read, cases_key, from_ahead, later}
 use Rattle.vm_base.specs.declared.ids.PageKey.{PageKey}
-use Rattle.sms_server.specs.Kept.{ByKey, is_below, is_row_before, is_up_to, leading, rows_before}
+use Rattle.sms_server.specs.Kept.{ByKey, IsObjectBelow, IsObjectFrom, is_row_before, leading, rows_before}
 use Rattle.sms_server.specs.Table.{row_among}
 use Rattle.sms_server.specs.declared.page_row.PageRow.{PageRow}
 
@@ -71,8 +72,41 @@ before_first o p x y from before =
       inside = λ le. let m = from.inside (omega (arith, h.place.above)) in let n = h.place.inside (omega (arith, from.above)) in omega arith;
     })
 
+abbrev pub is_below : ℕ → PageRow → Bool
+is_below o row = nat_lt row.key.object.0 o
+
+abbrev pub is_up_to : ℕ → PageRow → Bool
+is_up_to o row = nat_le row.key.object.0 o
+
 pub below_first : (o : ℕ) → IsOfFirst (is_below o)
 below_first o x y from below = let low = from.above in grind (arith, nat_tests)
 
 pub up_to_first : (o : ℕ) → IsOfFirst (is_up_to o)
 up_to_first o x y from below = let low = from.above in grind (arith, nat_tests)
+
+-- what is known of the row at a place
+on_row : (P : Option PageRow → Type 0) (rows : List PageRow) (k : ℕ) → P None → ((x : PageRow) → k < length rows → get_or rows k x ≡ x → P (Some x)) → P (slice_get rows k)
+on_row P rows k none some = by (slice_get rows k) refl
+  where
+    by : (r : Option PageRow) → slice_get rows k ≡ r → P r
+    by None is = none
+    by (Some x) is = some x (slice_get_within rows k x is) (get_or_from_slice_get rows k x x is)
+
+-- the marks on both sides of the place where they end
+pub below_marked : (test : PageRow → Bool) (n : ℕ) (rows : List PageRow) (i k : ℕ) → ((x : PageRow) → test x ≡ true → x.key.object.0 < n) → ((k : ℕ) (d : PageRow) → 0 ≤ k → k < i → test (get_or rows k d) ≡ true) → k < i → IsObjectBelow n (slice_get rows k)
+below_marked test n rows i k low marked less = on_row (IsObjectBelow n) rows k tt (λ x within is. low x (ap test (sym is) ∙ marked k x (omega arith) less))
+
+pub from_marked : (test : PageRow → Bool) (n : ℕ) (rows : List PageRow) (i k : ℕ) → ((x : PageRow) → test x ≡ false → n ≤ x.key.object.0) → ((k : ℕ) (d : PageRow) → i ≤ k → k < length rows → test (get_or rows k d) ≡ false) → i ≤ k → IsObjectFrom n (slice_get rows k)
+from_marked test n rows i k high marked le = on_row (IsObjectFrom n) rows k tt (λ x within is. high x (ap test (sym is) ∙ marked k x le within))
+
+pub below_read : (o : ℕ) (x : PageRow) → is_below o x ≡ true → x.key.object.0 < o
+below_read o x is = grind (arith, nat_tests)
+
+pub not_below_read : (o : ℕ) (x : PageRow) → is_below o x ≡ false → o ≤ x.key.object.0
+not_below_read o x is = grind (arith, nat_tests)
+
+pub up_to_read : (o : ℕ) (x : PageRow) → is_up_to o x ≡ true → x.key.object.0 < o + 1
+up_to_read o x is = grind (arith, nat_tests)
+
+pub not_up_to_read : (o : ℕ) (x : PageRow) → is_up_to o x ≡ false → o + 1 ≤ x.key.object.0
+not_up_to_read o x is = grind (arith, nat_tests)

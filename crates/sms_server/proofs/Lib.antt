@@ -6,3 +6,4 @@ pub mod Acting
 pub mod Serving
 pub mod Whole
 pub mod Paying
+pub mod Naming

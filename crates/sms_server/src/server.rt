@@ -7,7 +7,7 @@ ghost use Rattle.sms_server.specs.Table.{ArePrepared, IsPrepared, IsSameTable, m
 
 use crate::PageRow;
 use crate::page_row::HOSTS;
-use crate::places::{end_rows, find, find_end, find_first, prepare_rows, stands_at};
+use crate::places::{end_rows, find, prepare_rows, stands_at};
 use crate::telling::{ready, sent};
 use sms_pages::PageDirectory;
 use std::alloc::Global;
@@ -163,10 +163,8 @@ impl Server {
         ensures succeeds { IsPrepared object.0 self.old → IsOk result }
     {
         let _most = self.prepare_object(object)?;
-        let from = find_first(&self.rows, object);
-        let to = find_end(&self.rows, object);
         let mut events = mem::replace(&mut self.events, Listing::new(self.alloc));
-        end_rows(&mut self.rows[from..to], host, message, &mut events)?;
+        end_rows(&mut self.rows, object, host, message, &mut events)?;
         Ok(events)
     }
 
@@ -237,9 +235,7 @@ impl Server {
         ensures succeeds { ArePrepared object.0 self.old.rows → most_events object.0 self.old < 2 ^ 32
             → most_events object.0 self.old ≤ self.old.room → IsOk result }
     {
-        let from = find_first(&self.rows, object);
-        let to = find_end(&self.rows, object);
-        let most = prepare_rows(&mut self.rows[from..to])?;
+        let most = prepare_rows(&mut self.rows, object)?;
         let Some(most) = most.checked_add(MOST_OF_NEW) else {
             return Err(NoMemory);
         };
