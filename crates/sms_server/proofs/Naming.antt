@@ -73,7 +73,7 @@ new_page size new o p before now is_new heard absent is =
     rw at (record { holds = refl; awaits = refl; line = refl; bytes = refl }, (λ h. refl)))
     (cases_Bool (is_page new.key o p))
 
-count_zeros : (n : ℕ) → length (replicate n 0) ≡ n
+count_zeros : (n : ℕ) → length {A = ℕ} (replicate n 0) ≡ n
 count_zeros zero = refl
 count_zeros (suc n) = let rest = count_zeros n in omega (arith, rest)
 
@@ -134,7 +134,8 @@ row_same o p [] (y ∷ ys) same = absurd (same 0)
 row_same o p (x ∷ xs) [] same = absurd (same 0)
 row_same o p (x ∷ xs) (y ∷ ys) same =
     let first = same 0 in
-    rw first.0 (by (is_page x.key o p) (row_same o p xs ys (λ k. same (suc k))))
+    let test : is_page y.key o p ≡ is_page x.key o p = ap (λ (key : PageKey). is_page key o p) first.0 in
+    rw test (by (is_page x.key o p) (row_same o p xs ys (λ k. same (suc k))))
   where
     by : (b : Bool) → IsSameRow (row_among o p xs) (row_among o p ys) → IsSameRow (if b then Some x else row_among o p xs) (if b then Some y else row_among o p ys)
     by true rest = same 0
