@@ -11,7 +11,7 @@ use Rattle.vm_base.specs.Keys.{IsFrom, is_page}
 use Rattle.vm_base.specs.declared.ids.PageKey.{PageKey}
 use Rattle.sms_server.proofs.Keyed.{low_bound, none_among, row_found, row_if}
 use Rattle.sms_server.proofs.Looping.{each_set, get_set_same, same_row_itself}
-use Rattle.sms_server.specs.Kept.{AreWhole, ByKey, IsSameRow, RowsAreSame, is_page_at, rows_before}
+use Rattle.sms_server.specs.Kept.{AreWhole, ByKey, HasMemory, IsSameRow, RowsAreSame, is_page_at, rows_before}
 use Rattle.sms_server.specs.Table.{ArePrepared, IsPrepared, IsPreparedOf, IsSamePage, IsSameTable, ServerTable, directory_at, directory_in, heard_at, heard_in, most_events, replies_among, row_among}
 use Rattle.sms_server.specs.declared.page_row.PageRow.{PageRow}
 
@@ -55,7 +55,6 @@ pub record Named (size : ℕ) (rows left : List PageRow) (key : PageKey) : Type 
   pub by_key : ByKey 0 0 left
   pub whole : AreWhole size left
   pub same : (old new : ServerTable) → old.size ≡ size → old.rows ≡ rows → new.size ≡ size → new.rows ≡ left → IsSameTable old new
-  pub has : IsSome (row_among key.object.0 key.page.0 left)
 
 new_page : (size : ℕ) (new : PageRow) (o p : ℕ) (before now : Option PageRow) → IsNewDirectory size new.directory → new.heard ≡ replicate 8 0 → (is_page new.key o p ≡ true → before ≡ None) → now ≡ (if is_page new.key o p then Some new else before)
     → IsSame (directory_in size before) (directory_in size now) × ((h : ℕ) → heard_in now h ≡ heard_in before h)
@@ -97,8 +96,70 @@ named size i rows left new by_key whole absent place is is_new heard =
             let page = new_page size new o p (row_among o p rows) (row_among o p now.rows) is_new heard (absent_at o p) (ap (row_among o p) four ∙ row_inserted o p new rows) in
             same_page_of size old now o p rows one two three page;
       };
-      has = rw (row_inserted new.key.object.0 new.key.page.0 new rows, itself new.key) refl;
     })
+
+-- and the page has that row
+pub named_row : (i : ℕ) (rows left : List PageRow) (new : PageRow) → i ≡ rows_before new.key.object.0 new.key.page.0 rows → left ≡ insert rows i new → row_among new.key.object.0 new.key.page.0 left ≡ Some new
+named_row i rows left new place is = rw (is, place) (rw (row_inserted new.key.object.0 new.key.page.0 new rows, itself new.key) refl)
+
+-- the row of a page, at its place
+pub record Found (rows : List PageRow) (key : PageKey) (i : ℕ) : Type 0 where
+  pub row : PageRow
+  pub at : slice_get rows i ≡ Some row
+  pub among : row_among key.object.0 key.page.0 rows ≡ Some row
+  pub key_same : row.key ≡ key
+
+found_if : (rows : List PageRow) (key : PageKey) (i : ℕ) (stood : Option PageRow) → slice_get rows i ≡ stood → row_among key.object.0 key.page.0 rows ≡ row_if key.object.0 key.page.0 stood → IsSome (row_among key.object.0 key.page.0 rows) → Found rows key i
+found_if rows key i None at is some = absurd (false≢true (rw is at some))
+found_if rows key i (Some x) at is some =
+    ⊎_elim
+    (λ (here : is_page x.key key.object.0 key.page.0 ≡ true).
+    let read = page_read x.key key.object.0 key.page.0 here in
+    record { row = x; at = at; among = rw here at is; key_same = sym (key_is x.key key.object.0 key.page.0 read.object read.page) })
+    (λ (apart : is_page x.key key.object.0 key.page.0 ≡ false). let none : row_among key.object.0 key.page.0 rows ≡ None = rw apart at is in absurd (false≢true (rw none at some)))
+    (cases_Bool (is_page x.key key.object.0 key.page.0))
+
+pub found : (rows : List PageRow) (key : PageKey) (i : ℕ) → ByKey 0 0 rows → i ≡ rows_before key.object.0 key.page.0 rows → IsSome (row_among key.object.0 key.page.0 rows) → Found rows key i
+found rows key i by_key place some = found_if rows key i (slice_get rows i) refl (row_found 0 0 key.object.0 key.page.0 rows by_key ∙ ap (λ (n : ℕ). row_if key.object.0 key.page.0 (slice_get rows n)) (sym place)) some
+
+-- whether the page stands at its place says whether it has a row
+pub stood : (rows : List PageRow) (key : PageKey) (i : ℕ) → ByKey 0 0 rows → i ≡ rows_before key.object.0 key.page.0 rows → is_page_at key.object.0 key.page.0 (slice_get rows i) ≡ true → IsSome (row_among key.object.0 key.page.0 rows)
+stood rows key i by_key place here = rw (row_found 0 0 key.object.0 key.page.0 rows by_key) (by (slice_get rows (rows_before key.object.0 key.page.0 rows)) (rw place at here))
+  where
+    by : (r : Option PageRow) → is_page_at key.object.0 key.page.0 r ≡ true → IsSome (row_if key.object.0 key.page.0 r)
+    by None here = absurd (false≢true here)
+    by (Some x) here = rw here refl
+
+pub not_stood : (rows : List PageRow) (key : PageKey) (i : ℕ) → ByKey 0 0 rows → i ≡ rows_before key.object.0 key.page.0 rows → is_page_at key.object.0 key.page.0 (slice_get rows i) ≡ false → row_among key.object.0 key.page.0 rows ≡ None
+not_stood rows key i by_key place apart = row_found 0 0 key.object.0 key.page.0 rows by_key ∙ by (slice_get rows (rows_before key.object.0 key.page.0 rows)) (rw place at apart)
+  where
+    by : (r : Option PageRow) → is_page_at key.object.0 key.page.0 r ≡ false → row_if key.object.0 key.page.0 r ≡ None
+    by None apart = refl
+    by (Some x) apart = rw apart refl
+
+-- the replies of one page are among those of its object
+pub one_of : (o : ℕ) (rows : List PageRow) (i : ℕ) (x : PageRow) → slice_get rows i ≡ Some x → x.key.object.0 ≡ o → most_replies x.directory ≤ replies_among o rows
+one_of o [] i x is own = absurd (none-some x is)
+one_of o (y ∷ ys) zero x is own =
+    let same : y ≡ x = same_Some y x is in
+    let of : (x.key.object.0 == o) ≡ true = grind (arith, nat_tests) in
+    rw (same, of) (omega arith)
+one_of o (y ∷ ys) (suc i) x is own = let rest = one_of o ys i x is own in omega (arith, rest)
+
+pub same_table_itself : (table : ServerTable) → IsSameTable table table
+same_table_itself table = record { size = refl; pages = λ o p. record { directory = record { holds = refl; awaits = refl; line = refl; bytes = refl }; heard = λ h. refl } }
+
+pub same_table_then : (a b c : ServerTable) → IsSameTable a b → IsSameTable b c → IsSameTable a c
+same_table_then a b c one two = record {
+  size = two.size ∙ one.size;
+  pages = λ o p.
+      let first = one.pages o p in
+      let second = two.pages o p in
+      record {
+        directory = record { holds = second.directory.holds ∙ first.directory.holds; awaits = second.directory.awaits ∙ first.directory.awaits; line = second.directory.line ∙ first.directory.line; bytes = second.directory.bytes ∙ first.directory.bytes };
+        heard = λ h. second.heard h ∙ first.heard h;
+      };
+}
 
 -- rows that are as they were but for the memory at hand
 
@@ -156,3 +217,27 @@ table_same old new rows one two same = record {
 pub rows_set : (rows : List PageRow) (i : ℕ) (x y : PageRow) → slice_get rows i ≡ Some x → IsSameRow (Some x) (Some y) → RowsAreSame rows (set rows i y)
 rows_set rows i x y is same =
     each_set (λ k r. IsSameRow (slice_get rows k) r) rows i y (slice_get_within rows i x is) (subst (λ (r : Option PageRow). IsSameRow r (Some y)) (sym is) same) (λ k other. same_row_itself (slice_get rows k))
+
+-- a page that is named has its memory where its object has
+pub has_memory : (table : ServerTable) (rows : List PageRow) (key : PageKey) (i : ℕ) → table.rows ≡ rows → ByKey 0 0 rows → i ≡ rows_before key.object.0 key.page.0 rows → IsSome (row_among key.object.0 key.page.0 rows) → IsPrepared key.object.0 table
+    → HasMemory table.room (row_among key.object.0 key.page.0 rows)
+has_memory table rows key i seen by_key place some prepared =
+    let f = found rows key i by_key place some in
+    let own : f.row.key.object.0 ≡ key.object.0 = ap (λ (k : PageKey). k.object.0) f.key_same in
+    let one = one_of key.object.0 rows i f.row f.at own in
+    let all = ap (replies_among key.object.0) seen in
+    let ready : IsPreparedOf key.object.0 (Some f.row) = subst (IsPreparedOf key.object.0) (ap (λ (l : List PageRow). slice_get l i) seen ∙ f.at) (prepared.pages i) in
+    subst (HasMemory table.room) (sym f.among) (ready own, omega (arith, prepared.events, one, all))
+
+-- the row at the place of a page
+pub record StandsAt (rows : List PageRow) (key : PageKey) (i : ℕ) (x : PageRow) : Type 0 where
+  pub within : i < length rows
+  pub is : slice_get rows i ≡ Some x
+  pub among : row_among key.object.0 key.page.0 rows ≡ Some x
+  pub key_same : x.key ≡ key
+
+pub found_now : (rows : List PageRow) (key : PageKey) (i : ℕ) (x : PageRow) → ByKey 0 0 rows → i ≡ rows_before key.object.0 key.page.0 rows → IsSome (row_among key.object.0 key.page.0 rows) → x ≡ get_or rows i x → StandsAt rows key i x
+found_now rows key i x by_key place some read =
+    let f = found rows key i by_key place some in
+    let same : x ≡ f.row = read ∙ get_or_from_slice_get rows i f.row x f.at in
+    record { within = slice_get_within rows i f.row f.at; is = f.at ∙ ap Some (sym same); among = f.among ∙ ap Some (sym same); key_same = ap (λ (z : PageRow). z.key) same ∙ f.key_same }

@@ -84,6 +84,11 @@ events_among h m object [] = []
 events_among h m object (row ∷ rows) =
     if row.key.object.0 == object then events_among h m object rows ++ row_events h m row else events_among h m object rows
 
+-- a page has a row, with the memory of its next call, and there is room for the events of its answer
+abbrev pub HasMemory : ℕ → Option PageRow → Type 0
+HasMemory room None = ⊥
+HasMemory room (Some row) = (row.directory.prepared ≡ true) × (most_replies row.directory ≤ room)
+
 -- a page stands at an index, with the memory of its next call and of the events of its answer
 pub record IsPreparedAt (key : PageKey) (i : ℕ) (table : ServerTable) : Type 0 where
   pub row : PageRow

@@ -2,7 +2,7 @@
 ghost use Rattle.std.specs.Prelude.{◌≡◌, ◌≤◌, ◌<◌, ◌^◌, [], ◌∷◌, true, false, IsOk, IsSome, None, OnOk, OnErr, IfOk, length};
 ghost use Rattle.vm_base.specs.Limits.{most_hosts};
 ghost use Rattle.sms_server.specs.Answers.{AreServerWords, IsAbout, IsEnd, IsOfOnePage, IsToServer, ReturnsWhole, ServerAnswer, sent_to};
-ghost use Rattle.sms_server.specs.Kept.{IsPreparedAt};
+ghost use Rattle.sms_server.specs.Kept.{HasMemory, IsPreparedAt};
 ghost use Rattle.sms_server.specs.Table.{ArePrepared, IsPrepared, IsSameTable, most_events, row_among};
 
 use crate::PageRow;
@@ -190,7 +190,7 @@ impl Server {
     fn name_page(&mut self, key: PageKey) -> Result<(), NoMemory>
         requires { row_among key.object.0 key.page.0 self.old.rows ≡ None }
         ensures same { IsSameTable self.old self.new }
-        ensures named { OnOk result (IsSome (row_among key.object.0 key.page.0 self.new.rows)) }
+        ensures named { OnOk result (HasMemory 9 (row_among key.object.0 key.page.0 self.new.rows)) }
         ensures room { self.new.room ≡ self.old.room }
         ensures succeeds { self.old.spare ≡ true → IsOk result }
     {
@@ -208,15 +208,28 @@ impl Server {
         Ok(())
     }
 
+    // Makes the row of a page, if there is none.
+    fn find_or_name(&mut self, key: PageKey) -> Result<(), NoMemory>
+        ensures same { IsSameTable self.old self.new }
+        ensures named { OnOk result (IsSome (row_among key.object.0 key.page.0 self.new.rows)) }
+        ensures memory { OnOk result (IsPrepared key.object.0 self.old
+            → HasMemory self.new.room (row_among key.object.0 key.page.0 self.new.rows)) }
+        ensures succeeds { IsPrepared key.object.0 self.old → IsOk result }
+    {
+        let i = find(&self.rows, key);
+        if stands_at(&self.rows, i, key) {
+            return Ok(());
+        }
+        self.name_page(key)
+    }
+
     // The index of a page's row, which is made where there is none, with the memory of an answer.
     fn prepare_page(&mut self, key: PageKey) -> Result<usize, NoMemory>
         ensures same { IsSameTable self.old self.new }
         ensures at { IfOk result (λ i. IsPreparedAt key i self.new) }
         ensures succeeds { IsPrepared key.object.0 self.old → IsOk result }
     {
-        if !stands_at(&self.rows, find(&self.rows, key), key) {
-            self.name_page(key)?;
-        }
+        self.find_or_name(key)?;
         let i = find(&self.rows, key);
         let most = self.rows[i].reserve()?;
         self.events.reserve(most)?;
