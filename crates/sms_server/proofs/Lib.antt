@@ -7,3 +7,5 @@ pub mod Serving
 pub mod Whole
 pub mod Paying
 pub mod Naming
+pub mod Words
+pub mod Answering
