@@ -17,7 +17,8 @@ use Rattle.vm_model.specs.Words.{UpWord, Asking, Unlocking, Returning, Doing, En
 use Rattle.vm_model.specs.declared.event.Event.{Event}
 use Rattle.vm_model.specs.declared.message.Message.{Message}
 use Rattle.vm_model.specs.declared.message.Message.TheVariants as message
-use Rattle.sms_server.specs.Answers.{AnswerEvents, AnswersInTurn, DirectoryAfter, IsAbout, IsOfOnePage, PageAfter, RisesFrom, RowAfter, ServerAnswer, heard_by, heard_row, page_events, page_no, replies_to, reply_event, reply_events, reply_host, row_events, stretches}
+use Rattle.sms_server.proofs.Words.{both_words, row_whole, row_words}
+use Rattle.sms_server.specs.Answers.{AnswerEvents, AnswersInTurn, DirectoryAfter, IsAbout, IsEnd, IsOfOnePage, PageAfter, ReturnsWhole, RisesFrom, RowAfter, ServerAnswer, AreServerWords, heard_by, is_among, heard_row, page_events, page_no, replies_to, reply_event, reply_events, reply_host, row_events, stretches}
 use Rattle.sms_server.specs.Kept.{AreWhole, ByKey, IsRowAfter, RowsAfter, events_among}
 use Rattle.sms_server.specs.Table.{IsSamePage, IsSameTable, ServerTable, directory_at, directory_in, heard_at, heard_in, most_events, new_directory, replies_among, row_among}
 use Rattle.sms_server.specs.declared.page_row.PageRow.{PageRow}
@@ -282,3 +283,216 @@ most_of_page table o p = by (row_among o p table.rows) refl
     by : (r : Option PageRow) → row_among o p table.rows ≡ r → most_replies (directory_at table o p) ≤ most_events o table
     by None is = rw is (omega arith)
     by (Some x) is = let one = one_among o p table.rows x is in rw is (omega (arith, one))
+
+pub most_of_row : (old table : ServerTable) (rows : List PageRow) (i : ℕ) (x : PageRow) → IsSameTable old table → table.rows ≡ rows → ByKey 0 0 rows → slice_get rows i ≡ Some x → most_replies x.directory ≤ most_events x.key.object.0 old
+most_of_row old table rows i x same seen by_key is =
+    let among : row_among x.key.object.0 x.key.page.0 table.rows ≡ Some x = ap (row_among x.key.object.0 x.key.page.0) seen ∙ among_at 0 0 i x rows by_key is in
+    let here : directory_at table x.key.object.0 x.key.page.0 ≡ x.directory = ap (directory_in table.size) among in
+    let page = same.pages x.key.object.0 x.key.page.0 in
+    let lines = ap length page.directory.line in
+    let now = ap most_replies here in
+    let most = most_of_page old x.key.object.0 x.key.page.0 in
+    omega (arith, lines, now, most)
+
+-- the end of a control, for all pages of its object
+
+abbrev pub pages_among : ℕ → List PageRow → List ℕ
+pages_among o [] = []
+pages_among o (row ∷ rows) = if row.key.object.0 == o then row.key.page.0 ∷ pages_among o rows else pages_among o rows
+
+rises : (o ob pg n : ℕ) (rows : List PageRow) → ByKey ob pg rows → ((key : PageKey) → IsFrom ob pg key → key.object.0 ≡ o → n ≤ key.page.0) → RisesFrom n (pages_among o rows)
+rises o ob pg n [] by_key low = tt
+rises o ob pg n (x ∷ xs) by_key low =
+    ⊎_elim
+    (λ (own : (x.key.object.0 == o) ≡ true).
+    let e : x.key.object.0 ≡ o = grind (arith, nat_tests, own) in
+    rw own (low x.key by_key.0 e, rises o x.key.object.0 (suc x.key.page.0) (suc x.key.page.0) xs by_key.1 (λ key from same. from.inside (omega arith))))
+    (λ (other : (x.key.object.0 == o) ≡ false). rw other (rises o x.key.object.0 (suc x.key.page.0) n xs by_key.1 (λ key from same. low key (later ob pg x.key key by_key.0 from) same)))
+    (cases_Bool (x.key.object.0 == o))
+
+unnamed : (o q : ℕ) (rows : List PageRow) → is_among q (pages_among o rows) ≡ false → row_among o q rows ≡ None
+unnamed o q [] none = refl
+unnamed o q (x ∷ xs) none =
+    ⊎_elim
+    (λ (own : (x.key.object.0 == o) ≡ true).
+    let both : (if x.key.page.0 == q then true else is_among q (pages_among o xs)) ≡ false = rw own at none in
+    let first : (x.key.page.0 == q) ≡ false = not_first (x.key.page.0 == q) (is_among q (pages_among o xs)) both in
+    let rest : is_among q (pages_among o xs) ≡ false = rw first at both in
+    let apart : is_page x.key o q ≡ false = grind (arith, nat_tests, first) in
+    rw apart (unnamed o q xs rest))
+    (λ (other : (x.key.object.0 == o) ≡ false).
+    let apart : is_page x.key o q ≡ false = grind (arith, nat_tests, other) in
+    rw apart (unnamed o q xs (rw other at none)))
+    (cases_Bool (x.key.object.0 == o))
+  where
+    not_first : (b c : Bool) → (if b then true else c) ≡ false → b ≡ false
+    not_first true c is = absurd (false≢true (sym is))
+    not_first false c is = refl
+
+-- the events of some of the rows are stretches of the table's pages
+events_are : (table : ServerTable) (h : ℕ) (object : ObjectId) (m : Message) (rows : List PageRow) → ((k : ℕ) (x : PageRow) → slice_get rows k ≡ Some x → x.key.object.0 ≡ object.0 → (row_among object.0 x.key.page.0 table.rows ≡ Some x) × (h < length x.heard))
+    → events_among h m object.0 rows ≡ stretches table h object m (pages_among object.0 rows)
+events_are table h object m [] each = refl
+events_are table h object m (x ∷ xs) each =
+    let rest = events_are table h object m xs (λ k. each (suc k)) in
+    ⊎_elim
+    (λ (own : (x.key.object.0 == object.0) ≡ true).
+    let e : x.key.object.0 ≡ object.0 = grind (arith, nat_tests, own) in
+    let known = each 0 x refl e in
+    let first = row_events_are table h object m x known.0 (same_id x.key.object object e) known.1 in
+    rw (own, first, rest) refl)
+    (λ (other : (x.key.object.0 == object.0) ≡ false). rw (other, rest) refl)
+    (cases_Bool (x.key.object.0 == object.0))
+  where
+    same_id : (a b : ObjectId) → a.0 ≡ b.0 → a ≡ b
+    same_id a b e = ap (λ (n : ℕ). record { 0 = n }) e
+
+after_key : (h : ℕ) (m : Message) (o : ℕ) (x y : PageRow) → IsRowAfter h m o (Some x) (Some y) → y.key ≡ x.key
+after_key h m o x y after = elim (ℕ_discrete x.key.object.0 o) [
+  | yes e ↦ let a = after.0 e in a.key
+  | no e ↦ ap (λ (z : PageRow). z.key) (after.1 e)
+]
+
+row_after : (h : ℕ) (m : Message) (o p : ℕ) (old new : List PageRow) → RowsAfter h m o old new → IsRowAfter h m o (row_among o p old) (row_among o p new)
+row_after h m o p [] [] after = tt
+row_after h m o p [] (y ∷ ys) after = absurd (after 0)
+row_after h m o p (x ∷ xs) [] after = absurd (after 0)
+row_after h m o p (x ∷ xs) (y ∷ ys) after =
+    let test : is_page y.key o p ≡ is_page x.key o p = ap (λ (key : PageKey). is_page key o p) (after_key h m o x y (after 0)) in
+    rw test (by (is_page x.key o p) (row_after h m o p xs ys (λ k. after (suc k))))
+  where
+    by : (b : Bool) → IsRowAfter h m o (row_among o p xs) (row_among o p ys) → IsRowAfter h m o (if b then Some x else row_among o p xs) (if b then Some y else row_among o p ys)
+    by true rest = after 0
+    by false rest = rest
+
+row_elsewhere : (h : ℕ) (m : Message) (o q p : ℕ) (old new : List PageRow) → RowsAfter h m o old new → q ≢ o → row_among q p new ≡ row_among q p old
+row_elsewhere h m o q p [] [] after other = refl
+row_elsewhere h m o q p [] (y ∷ ys) after other = absurd (after 0)
+row_elsewhere h m o q p (x ∷ xs) [] after other = absurd (after 0)
+row_elsewhere h m o q p (x ∷ xs) (y ∷ ys) after other =
+    let rest = row_elsewhere h m o q p xs ys (λ k. after (suc k)) other in
+    let test : is_page y.key q p ≡ is_page x.key q p = ap (λ (key : PageKey). is_page key q p) (after_key h m o x y (after 0)) in
+    ⊎_elim
+    (λ (here : is_page x.key q p ≡ true).
+    let read = page_read x.key q p here in
+    let same = (after 0).1 (λ e. other (sym read.object ∙ e)) in
+    rw (test, here) (ap Some same))
+    (λ (apart : is_page x.key q p ≡ false). rw (test, apart) rest)
+    (cases_Bool (is_page x.key q p))
+
+pub by_key_after : (h : ℕ) (m : Message) (o ob pg : ℕ) (old new : List PageRow) → RowsAfter h m o old new → ByKey ob pg old → ByKey ob pg new
+by_key_after h m o ob pg [] [] after by_key = tt
+by_key_after h m o ob pg [] (y ∷ ys) after by_key = absurd (after 0)
+by_key_after h m o ob pg (x ∷ xs) [] after by_key = absurd (after 0)
+by_key_after h m o ob pg (x ∷ xs) (y ∷ ys) after by_key =
+    let rest = by_key_after h m o x.key.object.0 (suc x.key.page.0) xs ys (λ k. after (suc k)) by_key.1 in
+    subst (λ (key : PageKey). IsFrom ob pg key × ByKey key.object.0 (suc key.page.0) ys) (sym (after_key h m o x y (after 0))) (by_key.0, rest)
+
+row_after_whole : (size h : ℕ) (m : Message) (o : ℕ) (x y : PageRow) → IsRowAfter h m o (Some x) (Some y) → ReturnsWhole size m → length x.directory.bytes ≡ size → length x.heard ≡ 8 → (length y.directory.bytes ≡ size) × (length y.heard ≡ 8)
+row_after_whole size h m o x y after whole long eight = elim (ℕ_discrete x.key.object.0 o) [
+  | yes e ↦ row_whole size h m x y (after.0 e) whole long eight
+  | no e ↦ subst (λ (z : PageRow). (length z.directory.bytes ≡ size) × (length z.heard ≡ 8)) (sym (after.1 e)) (long, eight)
+]
+
+pub whole_after : (size h : ℕ) (m : Message) (o : ℕ) (old new : List PageRow) → RowsAfter h m o old new → ReturnsWhole size m → AreWhole size old → AreWhole size new
+whole_after size h m o [] [] after returns whole = tt
+whole_after size h m o [] (y ∷ ys) after returns whole = absurd (after 0)
+whole_after size h m o (x ∷ xs) [] after returns whole = absurd (after 0)
+whole_after size h m o (x ∷ xs) (y ∷ ys) after returns whole =
+    let first = row_after_whole size h m o x y (after 0) returns whole.0 whole.1 in
+    (first.0, first.1, whole_after size h m o xs ys (λ k. after (suc k)) returns whole.2)
+
+among_known : (size o p : ℕ) (rows : List PageRow) (x : PageRow) → AreWhole size rows → row_among o p rows ≡ Some x → (x.key.object.0 ≡ o) × (length x.heard ≡ 8)
+among_known size o p [] x whole is = absurd (none-some x is)
+among_known size o p (y ∷ ys) x whole is =
+    ⊎_elim
+    (λ (here : is_page y.key o p ≡ true).
+    let e : y ≡ x = same_Some y x (rw here at is) in
+    let read = page_read y.key o p here in
+    subst (λ (z : PageRow). (z.key.object.0 ≡ o) × (length z.heard ≡ 8)) e (read.object, whole.1))
+    (λ (apart : is_page y.key o p ≡ false). among_known size o p ys x whole.2 (rw apart at is))
+    (cases_Bool (is_page y.key o p))
+
+-- a new page that a host's end comes to
+set_zeros : (n h : ℕ) → slice_set {A = ℕ} (replicate n 0) h 0 ≡ replicate n 0
+set_zeros zero zero = refl
+set_zeros zero (suc h) = refl
+set_zeros (suc n) zero = refl
+set_zeros (suc n) (suc h) = ap (λ (xs : List ℕ). 0 ∷ xs) (set_zeros n h)
+
+new_ended : (h control size : ℕ) → DirectoryAfter h (Ending control) (new_directory size) (new_directory size)
+new_ended h control size = record { exact = rw (set_zeros 8 h) refl; bytes = refl }
+
+pub end_words : (size h : ℕ) (object : ObjectId) (m : Message) (rows : List PageRow) → ReturnsWhole size m → AreWhole size rows → AreServerWords size object (events_among h m object.0 rows)
+end_words size h object m [] returns whole = tt
+end_words size h object m (x ∷ xs) returns whole =
+    let rest = end_words size h object m xs returns whole.2 in
+    ⊎_elim
+    (λ (own : (x.key.object.0 == object.0) ≡ true).
+    let e : x.key.object.0 ≡ object.0 = grind (arith, nat_tests, own) in
+    let words = subst (λ (o : ObjectId). AreServerWords size o (row_events h m x)) (ap (λ (n : ℕ). let id : ObjectId = record { 0 = n } in id) e) (row_words size h m x returns whole.0) in
+    rw own (both_words size object (events_among h m object.0 xs) (row_events h m x) rest words))
+    (λ (other : (x.key.object.0 == object.0) ≡ false). rw other rest)
+    (cases_Bool (x.key.object.0 == object.0))
+
+pub end_answer : (h : ℕ) (object : ObjectId) (control : ℕ) (rows left : List PageRow) (old table now : ServerTable) (events : List Event) → IsSameTable old table → table.rows ≡ rows → now.size ≡ table.size → now.rows ≡ left → ByKey 0 0 rows → AreWhole table.size rows → h < 8
+    → RowsAfter h (message.Terminate control) object.0 rows left → events ≡ events_among h (message.Terminate control) object.0 rows → ServerAnswer h object (message.Terminate control) old now events
+end_answer h object control rows left old table now events same seen sized left_is by_key whole low after told = record {
+  size = sized ∙ same.size;
+  pages = λ p. page_after_same h object.0 m p old table now (same.pages object.0 p) (own p);
+  others = λ o p other. then_same o p (page_itself o p table now sized (ap (row_among o p) left_is ∙ (row_elsewhere h m object.0 o p rows left after other ∙ ap (row_among o p) (sym seen))));
+  told = record {
+    pages = pages_among object.0 rows;
+    rising = rises object.0 0 0 0 rows by_key (λ key from e. omega arith);
+    silent = λ p none. sym (page_events_same old table h object m p (same.pages object.0 p)) ∙ silent p (ap (row_among object.0 p) seen ∙ unnamed object.0 p rows none);
+    are = told ∙ (events_are table h object m rows each ∙ stretches_same old table h object m (pages_among object.0 rows) same);
+  };
+} where
+  m : Message
+  m = message.Terminate control
+
+  silent : (p : ℕ) → row_among object.0 p table.rows ≡ None → page_events table h object (message.Terminate control) p ≡ []
+  silent p none = rw none refl
+
+  each : (k : ℕ) (x : PageRow) → slice_get rows k ≡ Some x → x.key.object.0 ≡ object.0 → (row_among object.0 x.key.page.0 table.rows ≡ Some x) × (h < length x.heard)
+  each k x is e =
+      let long = whole_at table.size k x rows whole is in
+      let eight = long.1 in (
+        ap (row_among object.0 x.key.page.0) seen ∙ subst (λ (o : ℕ). row_among o x.key.page.0 rows ≡ Some x) e (among_at 0 0 k x rows by_key is),
+        omega (arith, eight),
+      )
+
+  then_same : (o p : ℕ) → IsSamePage o p table now → IsSamePage o p old now
+  then_same o p second =
+      let first = same.pages o p in
+      record {
+        directory = record { holds = second.directory.holds ∙ first.directory.holds; awaits = second.directory.awaits ∙ first.directory.awaits; line = second.directory.line ∙ first.directory.line; bytes = second.directory.bytes ∙ first.directory.bytes };
+        heard = λ g. second.heard g ∙ first.heard g;
+      }
+
+  by : (p : ℕ) (was is : Option PageRow) → row_among object.0 p rows ≡ was → row_among object.0 p left ≡ is → IsRowAfter h (message.Terminate control) object.0 was is → PageAfter h object.0 (message.Terminate control) p table now
+  by p None None was is a = record {
+    directory =
+        let one : directory_at table object.0 p ≡ new_directory table.size = ap (directory_in table.size) (ap (row_among object.0 p) seen ∙ was) in
+        let two : directory_at now object.0 p ≡ new_directory table.size = ap (λ (n : ℕ). directory_in n (row_among object.0 p now.rows)) sized ∙ ap (directory_in table.size) (ap (row_among object.0 p) left_is ∙ is) in
+        subst (λ (d : Directory). DirectoryAfter h (Ending control) d (directory_at now object.0 p)) (sym one) (subst (DirectoryAfter h (Ending control) (new_directory table.size)) (sym two) (new_ended h control table.size));
+    heard = λ g. rw (ap (row_among object.0 p) seen ∙ was, ap (row_among object.0 p) left_is ∙ is) refl;
+  }
+  by p None (Some y) was is a = absurd a
+  by p (Some x) None was is a = absurd a
+  by p (Some x) (Some y) was is a =
+      let known = among_known table.size object.0 p rows x whole was in
+      let done = a.0 known.0 in
+      own_page_after h object.0 p (message.Terminate control) table now x y (ap (row_among object.0 p) seen ∙ was) (ap (row_among object.0 p) left_is ∙ is) done.directory done.heard (let eight = known.1 in omega (arith, eight, low))
+
+  own : (p : ℕ) → PageAfter h object.0 (message.Terminate control) p table now
+  own p = by p (row_among object.0 p rows) (row_among object.0 p left) refl refl (row_after h (message.Terminate control) object.0 p rows left after)
+
+pub end_answer_of : (h : ℕ) (object : ObjectId) (m : Message) (rows left : List PageRow) (old table now : ServerTable) (events : List Event) → IsEnd m → IsSameTable old table → table.rows ≡ rows → now.size ≡ table.size → now.rows ≡ left → ByKey 0 0 rows → AreWhole table.size rows → h < 8
+    → RowsAfter h m object.0 rows left → events ≡ events_among h m object.0 rows → ServerAnswer h object m old now events
+end_answer_of h object (message.Terminate control) rows left old table now events end same seen sized left_is by_key whole low after told = end_answer h object control rows left old table now events same seen sized left_is by_key whole low after told
+end_answer_of h object m rows left old table now events end same seen sized left_is by_key whole low after told = absurd end
+
+pub end_returns : (size : ℕ) (m : Message) → IsEnd m → ReturnsWhole size m
+end_returns size (message.Terminate control) end = tt
+end_returns size m end = absurd end

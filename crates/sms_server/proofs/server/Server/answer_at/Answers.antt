@@ -7,10 +7,10 @@ use Rattle.vm_base.specs.Listing.{Listed}
 use Rattle.vm_base.specs.declared.ids.ObjectId.{ObjectId}
 use Rattle.vm_base.specs.declared.ids.PageKey.{PageKey}
 use Rattle.vm_model.specs.declared.event.Event.{Event}
-use Rattle.sms_server.proofs.Answering.{by_key_set, most_of_page, one_answer, whole_at, whole_set}
+use Rattle.sms_server.proofs.Answering.{by_key_set, most_of_row, one_answer, whole_at, whole_set}
 use Rattle.sms_server.proofs.Words.{row_whole, row_words}
 use Rattle.sms_server.specs.Answers.{AreServerWords, ReturnsWhole, row_events}
-use Rattle.sms_server.specs.Table.{ServerTable}
+use Rattle.sms_server.specs.Table.{ServerTable, most_events}
 use Rattle.sms_server.specs.declared.page_row.PageRow.{PageRow}
 use Rattle.sms_server.proofs.server.Server.answer_at.Goals as goal
 
@@ -152,4 +152,6 @@ returns-clause-few c =
     let key_is : x.key ≡ record { object = c.args.object; page = c.args.page } = ap (λ (z : PageRow). z.key) (sym same) ∙ at.key_is in
     let few = c.answer.ensures.few in
     let none = ap (λ (l : Listed Event). length l.items) c.replace-events.ensures.value ∙ ap length c.self.invariant.none in
-    ?
+    let most = most_of_row c.args.self.now table rows i x c.prepare_page.ensures.same seen c.self.invariant.by_key is in
+    let own = ap (λ (k : PageKey). k.object.0) key_is in
+    subst (λ (o : ℕ). length c.answer.new.events.items ≤ most_events o c.args.self.now) own (omega (arith, few, none, most))
