@@ -1,21 +1,18 @@
 -- What events are to a page of a shared object.
-use Rattle.std.proofs.Common.{◌≡◌, ◌≢◌, ◌<◌, ◌+◌, ◌==◌, ◌&&◌, ℕ, List, [], ◌∷◌, ◌++◌, refl, ap, subst, sym, ◌∙◌, Bool, true, false, if◌then◌else◌, arith, append_assoc, ⊎_elim}
+use Rattle.std.proofs.Common.{◌≡◌, ◌==◌, ◌&&◌, ℕ, List, [], ◌∷◌, ◌++◌, refl, ap, subst, sym, ◌∙◌, Bool, true, false, if◌then◌else◌, arith, append_assoc, ⊎_elim}
 use Rattle.std.proofs.lemmas.Bool.{cases_Bool, false≢true}
 use Rattle.std.proofs.lemmas.Bool.Decides.{nat_tests}
-use Rattle.sms_pages.specs.Directory.{Directory}
-use Rattle.sms_pages.specs.Stands.{Hears, StandsFor, lock_number, reply_act, reply_acts, taking_act}
+use Rattle.sms_pages.specs.Stands.{reply_act, reply_acts, taking_act}
 use Rattle.sms_pages.specs.declared.reply.Reply.{Reply}
 use Rattle.sms_pages.specs.declared.reply.Reply.TheVariants.{Supply, Flush, CleanLock, Unlock}
 use Rattle.vm_base.specs.declared.ids.ObjectId.{ObjectId}
-use Rattle.vm_base.specs.declared.ids.PageNo.{PageNo}
 use Rattle.vm_legal.proofs.Answering.{itself}
 use Rattle.vm_legal.specs.Outside.{is_shared}
-use Rattle.vm_model.specs.Coherence.{SomebodyIsAwaited}
 use Rattle.vm_model.specs.PageLicences.{ActsLicensed}
 use Rattle.vm_model.specs.PagePart.{page_part}
 use Rattle.vm_model.specs.Side.{side}
 use Rattle.vm_model.specs.TaskPlace.{means_page, task_host}
-use Rattle.vm_model.specs.Words.{DownWord, Supplying, Locking, Lacking, Failing, Readying, OtherDown, ActEffect, Opens, SendsUp, TakenUp, SentDown, TakesDown, Puts, Drops, Begins, Loads, Stores, Fails, BeginsCopy, Copies, EndsCopy, StepBegins, Nothing, Act, act_if, act_of, down_word, in_range, sent_act_effect, up_word}
+use Rattle.vm_model.specs.Words.{Supplying, Locking, Lacking, Failing, Readying, OtherDown, ActEffect, Opens, SendsUp, TakenUp, SentDown, TakesDown, Puts, Drops, Begins, Loads, Stores, Fails, BeginsCopy, Copies, EndsCopy, StepBegins, Nothing, Act, act_if, act_of, down_word, in_range, sent_act_effect, up_word}
 use Rattle.vm_model.specs.declared.event.Event.{Event}
 use Rattle.vm_model.specs.declared.event.Event.TheVariants as event
 use Rattle.vm_model.specs.declared.message.Channel.TheVariants.{Up, Down}
@@ -23,7 +20,7 @@ use Rattle.vm_model.specs.declared.message.Message.{Message}
 use Rattle.vm_model.specs.declared.message.Message.TheVariants as message
 use Rattle.vm_model.specs.declared.script.Header.{Header}
 use Rattle.sms_server.proofs.Quiet.{hears_quiet, is_word, served_quiet, stands_quiet}
-use Rattle.sms_server.specs.Answers.{page_no, reply_event, reply_events, reply_host, reply_message}
+use Rattle.sms_server.specs.Answers.{page_no, reply_events, reply_host, reply_message}
 use Rattle.sms_server.specs.Stands.{AllServed, IsOther, ServerStands, taking}
 use Rattle.sms_server.specs.Table.{ServerTable, directory_at, heard_at}
 

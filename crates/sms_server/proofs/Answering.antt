@@ -1,12 +1,12 @@
 -- What a page's answer is to the table.
-use Rattle.std.proofs.Common.{ℕ, zero, suc, ◌≡◌, ◌≢◌, ◌<◌, ◌≤◌, ◌+◌, ◌==◌, ◌&&◌, Bool, true, false, if◌then◌else◌, List, [], ◌∷◌, ◌++◌, length, replicate, set, Option, Some, None, refl, sym, ◌∙◌, ap, subst, ⊎_elim, arith}
+use Rattle.std.proofs.Common.{ℕ, zero, suc, ◌≡◌, ◌≢◌, ◌<◌, ◌≤◌, ◌+◌, ◌==◌, Bool, true, false, if◌then◌else◌, List, [], ◌∷◌, ◌++◌, length, replicate, set, Option, Some, None, refl, sym, ◌∙◌, ap, subst, ⊎_elim, arith}
 use Rattle.std.proofs.lemmas.Bool.{cases_Bool, false≢true}
 use Rattle.std.proofs.lemmas.Bool.Decides.{nat_tests}
 use Rattle.std.proofs.lemmas.List.{get_or-set_other, get_or-set_same}
 use Rattle.std.proofs.lemmas.Option.{none-some, same_Some}
 use Rattle.std.specs.Prelude.{slice_get, slice_index, slice_set}
 use native.Mathlib.Decide.{ℕ_discrete}
-use Rattle.sms_pages.specs.Directory.{Directory, IsSame, IsServedDirectory, most_replies}
+use Rattle.sms_pages.specs.Directory.{Directory, IsSame, most_replies}
 use Rattle.sms_pages.specs.declared.reply.Reply.{Reply}
 use Rattle.vm_base.proofs.Keys.{behind_apart, itself, later, page_read, swap_tests}
 use Rattle.vm_base.specs.Keys.{IsFrom, is_page}
@@ -18,9 +18,9 @@ use Rattle.vm_model.specs.declared.event.Event.{Event}
 use Rattle.vm_model.specs.declared.message.Message.{Message}
 use Rattle.vm_model.specs.declared.message.Message.TheVariants as message
 use Rattle.sms_server.proofs.Words.{both_words, row_whole, row_words}
-use Rattle.sms_server.specs.Answers.{AnswerEvents, AnswersInTurn, DirectoryAfter, IsAbout, IsEnd, IsOfOnePage, PageAfter, ReturnsWhole, RisesFrom, RowAfter, ServerAnswer, AreServerWords, heard_by, is_among, heard_row, page_events, page_no, replies_to, reply_event, reply_events, reply_host, row_events, stretches}
+use Rattle.sms_server.specs.Answers.{AnswerEvents, DirectoryAfter, IsAbout, IsEnd, IsOfOnePage, PageAfter, ReturnsWhole, RisesFrom, RowAfter, ServerAnswer, AreServerWords, heard_by, is_among, heard_row, page_events, page_no, replies_to, reply_events, row_events, stretches}
 use Rattle.sms_server.specs.Kept.{AreWhole, ByKey, IsRowAfter, RowsAfter, events_among}
-use Rattle.sms_server.specs.Table.{IsSamePage, IsSameTable, ServerTable, directory_at, directory_in, heard_at, heard_in, most_events, new_directory, replies_among, row_among}
+use Rattle.sms_server.specs.Table.{IsSamePage, IsSameTable, ServerTable, directory_at, directory_in, heard_at, most_events, new_directory, replies_among, row_among}
 use Rattle.sms_server.specs.declared.page_row.PageRow.{PageRow}
 
 -- a table that is the same but for the memory at hand answers the same
@@ -158,9 +158,9 @@ among_at object page zero x (y ∷ ys) by_key is = let e = same_Some y x is in r
 among_at object page (suc i) x (y ∷ ys) by_key is =
     let low = from_at y.key.object.0 (suc y.key.page.0) i x ys by_key.1 is in
     let apart : is_page y.key x.key.object.0 x.key.page.0 ≡ false = ⊎_elim
-      (λ (here : is_page y.key x.key.object.0 x.key.page.0 ≡ true). absurd (false≢true (sym (behind_apart y.key x.key x.key.object.0 x.key.page.0 low here) ∙ itself x.key)))
-      (λ (no_page : is_page y.key x.key.object.0 x.key.page.0 ≡ false). no_page)
-      (cases_Bool (is_page y.key x.key.object.0 x.key.page.0)) in
+    (λ (here : is_page y.key x.key.object.0 x.key.page.0 ≡ true). absurd (false≢true (sym (behind_apart y.key x.key x.key.object.0 x.key.page.0 low here) ∙ itself x.key)))
+    (λ (no_page : is_page y.key x.key.object.0 x.key.page.0 ≡ false). no_page)
+    (cases_Bool (is_page y.key x.key.object.0 x.key.page.0)) in
     rw apart (among_at y.key.object.0 (suc y.key.page.0) i x ys by_key.1 is)
 
 pub row_set : (object page i o p : ℕ) (x new : PageRow) (rows : List PageRow) → ByKey object page rows → slice_get rows i ≡ Some x → x.key ≡ new.key → row_among o p (set rows i new) ≡ (if is_page new.key o p then Some new else row_among o p rows)

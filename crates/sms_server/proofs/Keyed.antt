@@ -1,13 +1,11 @@
 -- Pages by rising key: where one stands, and which are not there.
-use Rattle.std.proofs.Common.{ℕ, zero, suc, ◌≡◌, ◌<◌, ◌≤◌, ◌+◌, ◌==◌, Bool, true, false, List, [], ◌∷◌, length, get_or, Option, Some, None, refl, sym, ◌∙◌, ap, subst, ⊎_elim, arith, nat_le, nat_lt}
-use Rattle.std.proofs.lemmas.Bool.{cases_Bool, false≢true}
+use Rattle.std.proofs.Common.{ℕ, zero, suc, ◌≡◌, ◌<◌, ◌≤◌, ◌+◌, Bool, true, false, List, [], ◌∷◌, length, get_or, Option, Some, None, refl, sym, ◌∙◌, ap, arith, nat_le, nat_lt}
 use Rattle.std.proofs.lemmas.Bool.Decides.{nat_tests}
 use Rattle.std.proofs.lemmas.Option.{get_or_from_slice_get, slice_get_within}
 use Rattle.std.specs.List.Sorted.{IsPartitionedBy}
 use Rattle.std.specs.Prelude.{slice_get, if◌then◌else◌}
-use Rattle.vm_base.specs.Keys.{IsFrom, is_before, is_page}
+use Rattle.vm_base.specs.Keys.{IsFrom, is_page}
 use Rattle.vm_base.proofs.Keys.{Ahead, Behind, IsAhead, Same, apart, before_is, before_read, cases_key, from_ahead, later}
-use Rattle.vm_base.specs.declared.ids.PageKey.{PageKey}
 use Rattle.sms_server.specs.Kept.{ByKey, IsObjectBelow, IsObjectFrom, is_row_before, leading, rows_before}
 use Rattle.sms_server.specs.Table.{row_among}
 use Rattle.sms_server.specs.declared.page_row.PageRow.{PageRow}

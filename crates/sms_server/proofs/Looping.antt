@@ -180,7 +180,7 @@ pub preparing_end : (o : ℕ) (old rows : List PageRow) (i most : ℕ) → Prepa
 preparing_end o old rows i most p high =
     let none = no_replies o i old (λ k le. high_elsewhere o (slice_get old k) (high k le)) in (
       (λ k. ⊎_elim (λ (low : k < i). p.prepared k low)
-      (λ (le : i ≤ k). subst (IsPreparedOf o) (sym (p.left k le)) (elsewhere_prepared o (slice_get old k) (high_elsewhere o (slice_get old k) (high k le)))) (cases_lt k i)),
+          (λ (le : i ≤ k). subst (IsPreparedOf o) (sym (p.left k le)) (elsewhere_prepared o (slice_get old k) (high_elsewhere o (slice_get old k) (high k le)))) (cases_lt k i)),
       omega (arith, p.counted, none),
     )
 

@@ -1,18 +1,18 @@
 -- What an edit of the pages leaves of the table.
-use Rattle.std.proofs.Common.{ℕ, zero, suc, ◌≡◌, ◌≢◌, ◌<◌, ◌≤◌, ◌+◌, ◌==◌, ◌&&◌, Bool, true, false, if◌then◌else◌, List, [], ◌∷◌, ◌++◌, length, length-set, get_or, set, replicate, Option, Some, None, refl, sym, ◌∙◌, ap, subst, ⊎_elim, arith}
+use Rattle.std.proofs.Common.{ℕ, zero, suc, ◌≡◌, ◌<◌, ◌≤◌, ◌+◌, ◌==◌, Bool, true, false, if◌then◌else◌, List, [], ◌∷◌, length, get_or, set, replicate, Option, Some, None, refl, sym, ◌∙◌, ap, subst, ⊎_elim, arith}
 use Rattle.std.proofs.lemmas.Bool.{cases_Bool, false≢true}
 use Rattle.std.proofs.lemmas.Bool.Decides.{nat_tests}
 use Rattle.std.proofs.lemmas.Option.{get_or_from_slice_get, none-some, same_Some, slice_get_within}
 use Rattle.std.specs.List.{insert}
 use Rattle.std.specs.Prelude.{IsSome, slice_get, slice_index}
-use Rattle.sms_pages.specs.Directory.{Directory, IsNewDirectory, IsSame, most_replies}
-use Rattle.vm_base.proofs.Keys.{Ahead, Behind, Same, behind_apart, cases_key, itself, key_is, later, other_page, page_read, swap_tests}
+use Rattle.sms_pages.specs.Directory.{IsNewDirectory, IsSame, most_replies}
+use Rattle.vm_base.proofs.Keys.{Ahead, Behind, Same, cases_key, itself, key_is, other_page, page_read, swap_tests}
 use Rattle.vm_base.specs.Keys.{IsFrom, is_page}
 use Rattle.vm_base.specs.declared.ids.PageKey.{PageKey}
-use Rattle.sms_server.proofs.Keyed.{low_bound, none_among, row_found, row_if}
-use Rattle.sms_server.proofs.Looping.{each_set, get_set_same, same_row_itself}
+use Rattle.sms_server.proofs.Keyed.{row_found, row_if}
+use Rattle.sms_server.proofs.Looping.{each_set, same_row_itself}
 use Rattle.sms_server.specs.Kept.{AreWhole, ByKey, HasMemory, IsSameRow, RowsAreSame, is_page_at, rows_before}
-use Rattle.sms_server.specs.Table.{ArePrepared, IsPrepared, IsPreparedOf, IsSamePage, IsSameTable, ServerTable, directory_at, directory_in, heard_at, heard_in, most_events, replies_among, row_among}
+use Rattle.sms_server.specs.Table.{IsPrepared, IsPreparedOf, IsSamePage, IsSameTable, ServerTable, directory_in, heard_in, replies_among, row_among}
 use Rattle.sms_server.specs.declared.page_row.PageRow.{PageRow}
 
 -- a page that is named

@@ -1,10 +1,9 @@
 -- What a step owes in which the server took a message is paid.
-use Rattle.std.proofs.Common.{◌≡◌, ◌≤◌, ◌<◌, ◌==◌, ◌&&◌, ◌||◌, nat_lt, not, ℕ, List, [], ◌∷◌, ◌++◌, refl, ap, subst, sym, ◌∙◌, Bool, true, false, Option, Some, None, if◌then◌else◌, arith, append_assoc, ⊎_elim}
-use Rattle.std.proofs.lemmas.Bool.{cases_Bool, false≢true}
+use Rattle.std.proofs.Common.{◌≡◌, nat_lt, ℕ, List, [], ◌∷◌, ◌++◌, refl, ap, subst, sym, ◌∙◌, Bool, true, false, Option, Some, None, arith, append_assoc}
+use Rattle.std.proofs.lemmas.Bool.{false≢true}
 use Rattle.std.proofs.lemmas.Bool.Decides.{nat_tests}
 use Rattle.std.proofs.lemmas.Option.{none-some}
 use Rattle.sms_pages.specs.declared.reply.Reply.{Reply}
-use Rattle.sms_pages.specs.declared.reply.Reply.TheVariants.{Supply, Flush, CleanLock, Unlock}
 use Rattle.vm_base.specs.declared.ids.ObjectId.{ObjectId}
 use Rattle.vm_base.specs.declared.ids.ObjectKind.{ObjectKind}
 use Rattle.vm_base.specs.declared.ids.ObjectKind.TheVariants.{Temp, File, Shared, Wild}
@@ -26,7 +25,7 @@ use Rattle.vm_model.specs.declared.script.Declared.{Declared}
 use Rattle.vm_model.specs.declared.script.Header.{Header}
 use Rattle.sms_server.proofs.Serving.{created_replies}
 use Rattle.sms_server.proofs.Whole.{turns}
-use Rattle.sms_server.specs.Answers.{AnswerEvents, AnswersInTurn, heard_by, page_events, page_no, replies_to, reply_events, sent_to, stretches}
+use Rattle.sms_server.specs.Answers.{AnswersInTurn, heard_by, page_events, page_no, replies_to, reply_events, sent_to, stretches}
 use Rattle.sms_server.specs.Stands.{IsCreate, ServerServes, taking}
 use Rattle.sms_server.specs.Table.{ServerTable, directory_at, heard_at}
 

@@ -1,11 +1,9 @@
 -- Acts of a page that are not the server's leave what its directory notes.
-use Rattle.std.proofs.Common.{◌≡◌, ◌≢◌, ◌<◌, ◌==◌, ℕ, List, [], ◌∷◌, ◌++◌, refl, ap, subst, sym, ◌∙◌, Bool, true, false, if◌then◌else◌, arith}
-use Rattle.std.specs.Prelude.{slice_index}
+use Rattle.std.proofs.Common.{◌≡◌, ◌<◌, ◌==◌, ℕ, List, ◌∷◌, refl, ap, subst, sym, ◌∙◌, Bool, true, false, if◌then◌else◌}
 use Rattle.std.proofs.lemmas.Bool.{false≢true}
-use Rattle.std.proofs.lemmas.Bool.Decides.{nat_tests}
 use Rattle.sms_pages.proofs.Facts.{counted_same}
 use Rattle.sms_pages.specs.Directory.{Directory}
-use Rattle.sms_pages.specs.Stands.{DirectoryStands, Hears, StandsFor, count_wanting}
+use Rattle.sms_pages.specs.Stands.{Hears, StandsFor}
 use Rattle.vm_model.specs.Coherence.{SomebodyIsAwaited}
 use Rattle.vm_model.specs.Server.{Wanting, joined, kept, kept_after, line, trimmed_line}
 use Rattle.vm_model.specs.Side.{Side, is_open_to, side, side_after, side_taken_down}

@@ -1,12 +1,12 @@
 -- Each page takes a message and answers in its turn.
-use Rattle.std.proofs.Common.{◌≡◌, ◌≢◌, ◌⊎◌, ◌<◌, ◌≤◌, ◌==◌, ℕ, suc, List, [], ◌∷◌, ◌++◌, inl, inr, refl, ap, subst, sym, ◌∙◌, Bool, true, false, None, if◌then◌else◌, arith, append_assoc, ⊎_elim}
+use Rattle.std.proofs.Common.{◌≡◌, ◌⊎◌, ◌<◌, ◌≤◌, ◌==◌, ℕ, suc, List, [], ◌∷◌, ◌++◌, inl, inr, refl, subst, sym, Bool, true, false, None, if◌then◌else◌, arith, append_assoc, ⊎_elim}
 use Rattle.std.proofs.lemmas.Bool.{cases_Bool, false≢true}
 use Rattle.std.proofs.lemmas.Bool.Decides.{nat_tests}
 use Rattle.sms_pages.proofs.Facts.{heard_kept}
 use Rattle.sms_pages.proofs.Following.{serving}
 use Rattle.sms_pages.proofs.Taken.{after_return, completed_taken, end_taken, request_taken, unlock_taken}
 use Rattle.sms_pages.specs.Directory.{Directory, IsSame, IsServedDirectory}
-use Rattle.sms_pages.specs.Stands.{DirectoryStands, Hears, RepliesHaveCause, StandsFor, lock_number, reply_act, reply_acts, taking_act}
+use Rattle.sms_pages.specs.Stands.{Hears, StandsFor, lock_number, reply_acts, taking_act}
 use Rattle.sms_pages.specs.declared.reply.Reply.{Reply}
 use Rattle.sms_pages.specs.declared.reply.Reply.TheVariants.{Supply, Flush, CleanLock, Unlock}
 use Rattle.vm_base.specs.declared.ids.ObjectId.{ObjectId}
@@ -18,9 +18,7 @@ use Rattle.vm_legal.specs.Outside.{Outside, is_shared, is_shared_kind, kind_of}
 use Rattle.vm_model.specs.Coherence.{SomebodyIsAwaited}
 use Rattle.vm_model.specs.PageLicences.{ActsLicensed, ReplyCause}
 use Rattle.vm_model.specs.PagePart.{page_part}
-use Rattle.vm_model.specs.Server.{line}
-use Rattle.vm_model.specs.Side.{side, side_after}
-use Rattle.vm_model.specs.Words.{UpWord, Asking, Unlocking, Returning, Doing, Ending, OtherUp, Supplying, Locking, SentDown, TakenUp, Act, ActEffect, to_others, up_word}
+use Rattle.vm_model.specs.Words.{UpWord, Asking, Unlocking, Returning, Doing, Ending, OtherUp, Supplying, Locking, Act, up_word}
 use Rattle.vm_model.specs.declared.command.Command.{Command}
 use Rattle.vm_model.specs.declared.event.Event.{Event}
 use Rattle.vm_model.specs.declared.message.Message.{Message}
@@ -28,8 +26,8 @@ use Rattle.vm_model.specs.declared.message.Message.TheVariants as message
 use Rattle.vm_model.specs.declared.script.Header.{Header}
 use Rattle.sms_server.proofs.Acting.{AreFree, act_in, free_both, free_licensed, free_quiet, own_replies, own_taken, replies_free}
 use Rattle.sms_server.proofs.Quiet.{hears_quiet, served_quiet, stands_quiet}
-use Rattle.sms_server.specs.Answers.{AnswerEvents, AnswersInTurn, DirectoryAfter, PageAfter, RisesFrom, ServerAnswer, changed_by, heard_by, is_among, page_events, page_no, replies_to, reply_event, reply_events, sent_to, stretches}
-use Rattle.sms_server.specs.Stands.{AllServed, MeetsProtocol, ServerServes, ServerStands, taking}
+use Rattle.sms_server.specs.Answers.{DirectoryAfter, RisesFrom, changed_by, heard_by, is_among, page_events, page_no, replies_to, reply_event, reply_events, stretches}
+use Rattle.sms_server.specs.Stands.{MeetsProtocol, ServerServes, taking}
 use Rattle.sms_server.specs.Table.{ServerTable, directory_at, heard_at}
 
 -- a page that took a word and is to answer; `was` says that it was served before

@@ -1,16 +1,14 @@
 -- What an answer leaves of all pages.
-use Rattle.std.proofs.Common.{◌≡◌, ◌≢◌, ◌<◌, ◌≤◌, ◌+◌, ◌==◌, ◌&&◌, ℕ, suc, List, [], ◌∷◌, ◌++◌, refl, ap, subst, sym, ◌∙◌, Bool, true, false, None, if◌then◌else◌, arith, append_assoc, ⊎_elim}
+use Rattle.std.proofs.Common.{◌≡◌, ◌==◌, ℕ, List, [], ◌∷◌, ◌++◌, refl, subst, sym, ◌∙◌, Bool, true, false, if◌then◌else◌, arith, ⊎_elim}
 use Rattle.std.proofs.lemmas.Bool.{cases_Bool, false≢true}
 use Rattle.std.proofs.lemmas.Bool.Decides.{nat_tests}
 use Rattle.sms_pages.specs.Stands.{Hears, StandsFor}
 use Rattle.vm_base.specs.declared.ids.ObjectId.{ObjectId}
-use Rattle.vm_base.specs.declared.ids.PageNo.{PageNo}
-use Rattle.vm_legal.proofs.Answering.{itself}
-use Rattle.vm_legal.specs.Licences.{AllLicensed, created}
+use Rattle.vm_legal.specs.Licences.{AllLicensed}
 use Rattle.vm_legal.specs.Outside.{Outside, Untold, is_shared}
 use Rattle.vm_model.specs.Coherence.{SomebodyIsAwaited}
 use Rattle.vm_model.specs.PagePart.{page_part}
-use Rattle.vm_model.specs.Words.{UpWord, OtherUp, Readying, SentDown, Act, in_range, up_word}
+use Rattle.vm_model.specs.Words.{OtherUp, Readying, SentDown, Act, in_range, up_word}
 use Rattle.vm_model.specs.declared.command.Command.{Command}
 use Rattle.vm_model.specs.declared.command.Command.TheVariants as command
 use Rattle.vm_model.specs.declared.event.Event.{Event}
@@ -20,7 +18,7 @@ use Rattle.vm_model.specs.declared.script.Header.{Header}
 use Rattle.sms_server.proofs.Acting.{AreFree, foreign_taken, free_if, step_act}
 use Rattle.sms_server.proofs.Quiet.{hears_quiet, served_quiet, stands_quiet}
 use Rattle.sms_server.proofs.Serving.{Asked, Done, HasAnswered, InTurn, answered_free, in_turn, one_answers, same_stands, sends, stretches_free, taken}
-use Rattle.sms_server.specs.Answers.{AnswerEvents, AnswersInTurn, IsToServer, RisesFrom, ServerAnswer, is_among, page_events, sent_to, stretches}
+use Rattle.sms_server.specs.Answers.{AnswerEvents, AnswersInTurn, IsToServer, is_among, page_events, sent_to, stretches}
 use Rattle.sms_server.specs.Stands.{AllServed, ServerServes, ServerStands, taking}
 use Rattle.sms_server.specs.Table.{ServerTable, directory_at, heard_at}
 

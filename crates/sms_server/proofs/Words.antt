@@ -1,8 +1,7 @@
 -- What a page sends are words of the server.
-use Rattle.std.proofs.Common.{ℕ, zero, suc, ◌≡◌, ◌⊎◌, ◌<◌, ◌≤◌, ◌+◌, ◌==◌, ◌&&◌, not, Bool, true, false, if◌then◌else◌, List, [], ◌∷◌, ◌++◌, length, length-set, inl, inr, refl, sym, ◌∙◌, ap, subst, arith}
-use Rattle.std.specs.List.{list_all}
+use Rattle.std.proofs.Common.{ℕ, zero, suc, ◌≡◌, ◌⊎◌, ◌==◌, not, Bool, true, false, if◌then◌else◌, List, [], ◌∷◌, ◌++◌, length, length-set, inl, inr, refl, ◌∙◌, ap}
 use Rattle.std.specs.Prelude.{slice_index, slice_set}
-use Rattle.sms_pages.specs.Directory.{Directory, Outcome, any_recalled, grant, granted, is_recalled, leaves, recall, recalled, recalls, served, turn}
+use Rattle.sms_pages.specs.Directory.{Directory, Outcome, grant, granted, is_recalled, recall, recalled, recalls, served, turn}
 use Rattle.sms_pages.specs.Stands.{lock_number}
 use Rattle.sms_pages.specs.declared.holding.Turn.{Turn}
 use Rattle.sms_pages.specs.declared.holding.Turn.TheVariants.{Leaves, Recalls, Waits, Grants}

@@ -1,5 +1,5 @@
 -- How the pages are kept: by rising object, and by rising page of an object.
-use Rattle.std.specs.Prelude.{ℕ, suc, ◌≡◌, ◌≢◌, ◌<◌, ◌≤◌, ◌+◌, ◌==◌, Bool, true, false, List, [], ◌∷◌, ◌++◌, Option, Some, None, if◌then◌else◌, length, nat_lt, nat_le, slice_get}
+use Rattle.std.specs.Prelude.{ℕ, suc, ◌≡◌, ◌≢◌, ◌<◌, ◌≤◌, ◌==◌, Bool, true, false, List, [], ◌∷◌, ◌++◌, Option, Some, None, if◌then◌else◌, length, slice_get}
 use Rattle.sms_pages.specs.Directory.{IsNewDirectory, IsSame, most_replies}
 use Rattle.sms_pages.specs.Directory as pages
 use Rattle.vm_base.specs.Keys.{IsFrom, is_before, is_page}

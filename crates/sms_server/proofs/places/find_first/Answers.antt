@@ -1,4 +1,4 @@
-use Rattle.std.proofs.Common.{◌+◌, rules}
+use Rattle.std.proofs.Common.{rules}
 use Rattle.std.proofs.lemmas.List.Sorted.{IsPartitionPoint-from_clause}
 use Rattle.sms_server.proofs.Keyed.{below_first, below_marked, below_read, from_marked, is_below, not_below_read, partitioned}
 use Rattle.sms_server.proofs.places.find_first.Goals as goal

@@ -1,8 +1,5 @@
-use Rattle.std.proofs.Common.{◌∙◌, ap, length, List, [], ◌∷◌, arith}
+use Rattle.std.proofs.Common.{◌∙◌, arith}
 use Rattle.std.specs.Prelude.{slice_index}
-use Rattle.std.proofs.lemmas.Grind.{common_steps}
-use Rattle.sms_pages.specs.declared.reply.Reply.{Reply}
-use Rattle.vm_model.specs.declared.event.Event.{Event}
 use Rattle.sms_server.proofs.Replying.{one_fewer, one_sent}
 use Rattle.sms_server.proofs.telling.tell.Goals as goal
 

@@ -1,4 +1,4 @@
-use Rattle.std.proofs.Common.{length, ◌++◌, ◌≤◌, ◌+◌, arith}
+use Rattle.std.proofs.Common.{arith}
 use Rattle.sms_server.proofs.page_row.PageRow.answer.Goals as goal
 
 pub returns-clause-few : goal.returns-clause-few

@@ -1,6 +1,5 @@
-use Rattle.std.proofs.Common.{ℕ, ◌≡◌, ◌≤◌, List, Option, Some, None, true, false, refl, sym, ◌∙◌, ap, subst, arith}
-use Rattle.sms_pages.specs.Directory.{most_replies}
-use Rattle.sms_server.proofs.Naming.{found, has_memory, not_stood, stood}
+use Rattle.std.proofs.Common.{◌≡◌, List, true, false, sym, ◌∙◌, ap, subst}
+use Rattle.sms_server.proofs.Naming.{has_memory, not_stood, stood}
 use Rattle.sms_server.specs.Kept.{HasMemory, is_page_at, rows_before}
 use Rattle.sms_server.specs.Table.{ServerTable, row_among}
 use Rattle.sms_server.specs.declared.page_row.PageRow.{PageRow}

@@ -1,4 +1,4 @@
-use Rattle.std.proofs.Common.{ℕ, ◌≡◌, ◌≤◌, ◌&&◌, nat_lt, Bool, true, false, length, arith, Option, Some, None, refl, sym, ◌∙◌, ap, subst, replicate}
+use Rattle.std.proofs.Common.{◌≡◌, ◌≤◌, ◌&&◌, nat_lt, Bool, true, false, length, arith, Option, Some, None, refl, sym, ◌∙◌, ap, subst, replicate}
 use Rattle.sms_pages.specs.Directory.{Directory, IsNewDirectory, most_replies}
 use Rattle.sms_server.proofs.Naming.{named, named_row}
 use Rattle.sms_server.specs.Kept.{HasMemory, IsSpare, is_ready, rows_before}

@@ -1,8 +1,8 @@
-use Rattle.std.proofs.Common.{ℕ, ◌≡◌, ◌≤◌, ◌<◌, ◌+◌, List, Option, Some, None, refl, sym, ◌∙◌, ap, subst, arith}
+use Rattle.std.proofs.Common.{◌≡◌, List, refl, sym, ◌∙◌, ap, subst, arith}
 use Rattle.std.proofs.lemmas.List.{with_items_is}
 use Rattle.sms_server.proofs.Naming.{by_key_same, replies_same, table_same, whole_same}
 use Rattle.sms_server.specs.Kept.{IsKept, RowsAreSame}
-use Rattle.sms_server.specs.Table.{ServerTable, most_events, replies_among}
+use Rattle.sms_server.specs.Table.{ServerTable, replies_among}
 use Rattle.sms_server.specs.declared.page_row.PageRow.{PageRow}
 use Rattle.sms_server.proofs.server.Server.prepare_object.Goals as goal
 
@@ -145,4 +145,3 @@ returns-clause-few c =
     let most = c.in_ok-most.ensures.most in
     let sum = c.in-Some.ensures in
     rw now (omega (arith, sum.0, sum.1, most, was))
-
