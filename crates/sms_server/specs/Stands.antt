@@ -1,5 +1,5 @@
 -- When the server's table stands for a history, and what it is told in its turn.
-use Rattle.std.specs.Prelude.{ℕ, ◌≡◌, ◌<◌, ◌≤◌, Bool, true, false, List, [], ◌∷◌, ◌++◌}
+use Rattle.std.specs.Prelude.{ℕ, ◌≡◌, ◌<◌, true, false, List, [], ◌∷◌}
 use Rattle.sms_pages.specs.Stands.{Hears, StandsFor}
 use Rattle.vm_base.specs.Limits.{most_hosts}
 use Rattle.vm_base.specs.declared.ids.ObjectId.{ObjectId}
