@@ -21,7 +21,8 @@ use Rattle.vm_model.specs.declared.message.Message.TheVariants as message
 use Rattle.vm_model.specs.declared.script.Header.{Header}
 use Rattle.sms_server.proofs.Quiet.{hears_quiet, is_word, served_quiet, stands_quiet}
 use Rattle.sms_server.specs.Answers.{page_no, reply_events, reply_host, reply_message}
-use Rattle.sms_server.specs.Stands.{AllServed, IsOther, ServerStands, taking}
+use Rattle.sms_server.specs.Stands.{IsOther, ServerStands, taking}
+use Rattle.vm_legal.specs.Prompt.{AllServed}
 use Rattle.sms_server.specs.Table.{ServerTable, directory_at, heard_at}
 
 -- what an event is to a page, behind a past

@@ -19,7 +19,8 @@ use Rattle.sms_server.proofs.Acting.{AreFree, foreign_taken, free_if, step_act}
 use Rattle.sms_server.proofs.Quiet.{hears_quiet, served_quiet, stands_quiet}
 use Rattle.sms_server.proofs.Serving.{Asked, Done, HasAnswered, InTurn, answered_free, in_turn, one_answers, same_stands, sends, stretches_free, taken}
 use Rattle.sms_server.specs.Answers.{AnswerEvents, AnswersInTurn, IsToServer, is_among, page_events, sent_to, stretches}
-use Rattle.sms_server.specs.Stands.{AllServed, ServerServes, ServerStands, taking}
+use Rattle.sms_server.specs.Stands.{ServerServes, ServerStands, taking}
+use Rattle.vm_legal.specs.Prompt.{AllServed}
 use Rattle.sms_server.specs.Table.{ServerTable, directory_at, heard_at}
 
 silent : (old : ServerTable) (h : ℕ) (object : ObjectId) (m : Message) (q : ℕ) → up_word q m ≡ OtherUp → page_events old h object m q ≡ []
