@@ -19,3 +19,4 @@ pub mod Currents
 pub mod Run
 pub mod OnlyWaiters
 pub mod ServedRun
+pub mod Declaring

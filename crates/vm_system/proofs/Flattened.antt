@@ -36,7 +36,11 @@ use Rattle.pg_file.specs.Stands.{FileKept, IsStartTold, name_of}
 use Rattle.vm_system.specs.Flat.{FilesAreFlat, HasFlatPages, files_failed}
 use Rattle.vm_system.specs.Keeping.{FilesAreTold, FilesCarry, MayHave}
 use Rattle.vm_system.specs.Steps.{LegalCut}
-use Rattle.vm_system.proofs.Unfilled.{homes}
+use Rattle.vm_abroad.proofs.Home.{homes_next, homes_start}
+
+homes : (header : Header) (outside : Outside) (past : List Event) → EachEvent (HasCause header outside) past → HaveHomes header past
+homes header outside [] causes = homes_start header
+homes header outside (e ∷ past) causes = homes_next header outside e past causes.0 (homes header outside past causes.1)
 
 never_so : {A : Type 0} → true ≡ false → A
 never_so is = absurd (cc)
@@ -56,11 +60,11 @@ or_none false b is also = also
 -- a file's page is lost only where a call of the files has failed
 never_lost : (header : Header) (outside : Outside) (o p : ℕ) (history : List Event) → EachEvent (HasCause header outside) history → is_file header o ≡ true → files_failed history ≡ false → is_lost o p history ≡ false
 never_lost header outside o p [] caused file fine = refl
-never_lost header outside o p (event.Taken (Up at object) (message.Return control page dirty keep bytes) ∷ past) caused file fine = by (object.0 == o && page.0 == p)
+never_lost header outside o p (event.Taken (Up at object) (message.Return control page dirty keep bytes) ∷ past) caused file fine = by (object.0 == o && page.0 == p) (never_lost header outside o p past caused.1 file fine)
   where
-    by : (b : Bool) → (if b then false else is_lost o p past) ≡ false
-    by true = refl
-    by false = never_lost header outside o p past caused.1 file fine
+    by : (b : Bool) → is_lost o p past ≡ false → (if b then false else is_lost o p past) ≡ false
+    by true was = refl
+    by false was = was
 never_lost header outside o p (event.DeviceFailed device.Files how object page ∷ past) caused file fine = never_so fine
 never_lost header outside o p (event.DeviceFailed device.Paging how object page ∷ past) caused file fine =
     or_none (fails_writing o p (event.DeviceFailed device.Paging how object page)) (is_lost o p past)

@@ -1,6 +1,6 @@
 -- What the paging area and the files keep, in terms of the history alone.
-use Rattle.std.proofs.Common.{◌≡◌, ℕ, ◌*◌, ◌<◌, Bool, true, false, List, [], ◌∷◌, Option, Some, None, refl, ap, sym, ◌∙◌, subst, arith, nat_lt}
-use Rattle.std.specs.Prelude.{IsSome, suc, zero, ◌&&◌, ◌||◌, ◌==◌, ◌≢◌, if◌then◌else◌, length, is_some, not, slice_get, unwrap_or}
+use Rattle.std.proofs.Common.{◌≡◌, ℕ, ◌*◌, ◌<◌, Bool, true, false, List, [], ◌∷◌, Option, Some, None, refl, ap, sym, ◌∙◌, subst, arith, nat_lt, inl, inr, ◌≤◌}
+use Rattle.std.specs.Prelude.{IsSome, suc, zero, ◌&&◌, ◌||◌, if◌then◌else◌, length, is_some, not, slice_get, unwrap_or}
 use Rattle.std.specs.List.{All}
 use Rattle.std.proofs.lemmas.List.Elements.{All-nil, All-cons}
 use Rattle.std.proofs.lemmas.Bool.{and_parts}
@@ -74,7 +74,7 @@ kept_pages header host outside areas s pager found kept = record { at = λ pagin
 -- the pager of a host
 pub pager_of : (pagers : List SlotTable) (host : ℕ) → host < length pagers → (pager : SlotTable) × (slice_get pagers host ≡ Some pager)
 pager_of pagers host below = elim (slice_get_cases pagers host).1 [
-  | inl found ↦ (found.0, found.2.0)
+  | inl found ↦ (found.0, found.2)
   | inr none ↦ absurd (let past : length pagers ≤ host = none.0 in omega (arith, below, past))
 ]
 
@@ -83,11 +83,15 @@ area_told : (areas : List ℕ → Told) (hosts host : ℕ) → areas_told areas 
 area_told areas zero host told below = absurd (omega (arith, below))
 area_told areas (suc hosts) host told below =
     let parts = and_parts (areas_told areas hosts) (is_some (areas (area_name hosts))) told in
-    by_number (host == hosts) refl parts
+    by_number (nat_lt host hosts) refl (λ less. area_told areas hosts host parts.0 less)
   where
-    by_number : (b : Bool) → (host == hosts) ≡ b → (areas_told areas hosts ≡ true) × (is_some (areas (area_name hosts)) ≡ true) → is_some (areas (area_name host)) ≡ true
-    by_number true is parts = let same : host ≡ hosts = grind (arith, nat_tests) in subst (λ z. is_some (areas (area_name z)) ≡ true) (sym same) parts.1
-    by_number false is parts = area_told areas hosts host parts.0 (let other : host ≢ hosts = λ same. let bad : false ≡ true = sym is ∙ (grind (arith, nat_tests)) in cc in omega (arith, other, below))
+    by_number : (b : Bool) → nat_lt host hosts ≡ b → (host < hosts → is_some (areas (area_name host)) ≡ true) → is_some (areas (area_name host)) ≡ true
+    by_number true is lower = lower (grind (arith, nat_tests))
+    by_number false is lower =
+        let last : is_some (areas (area_name hosts)) ≡ true = (and_parts (areas_told areas hosts) (is_some (areas (area_name hosts))) told).1 in
+        let above : hosts ≤ host = grind (arith, nat_tests) in
+        let same : hosts ≡ host = omega (arith, above, below) in
+        subst (λ z. is_some (areas (area_name z)) ≡ true) same last
 
 -- the paging areas of the pagers are told, where the outside says so
 pub all_told : (header : Header) (files areas : List ℕ → Told) (pagers : List SlotTable) → AreNumbered header pagers → (outside_of files areas header).paging ≡ true → AllTold areas pagers

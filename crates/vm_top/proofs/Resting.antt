@@ -12,11 +12,9 @@ use Rattle.vm_legal.proofs.Groups.{so_far}
 use Rattle.vm_quiet.specs.Carried.{IsCarried}
 use Rattle.vm_quiet.specs.Quiet.{NobodyWaitsInVain}
 use Rattle.vm_quiet.proofs.Carried.{carried}
-use Rattle.vm_quiet.proofs.Quiet.{supplied}
 use Rattle.vm_shared.specs.Carried.{SharedAreCarried}
-use Rattle.vm_shared.proofs.Answered.{IsStill, all_answered}
-use Rattle.vm_shared.proofs.Carried.{shared_carried}
-use Rattle.vm_shared.proofs.Causes.{licensed}
+use Rattle.vm_shared.proofs.Answered.{nobody_waits}
+use Rattle.vm_shared.proofs.Carried.{shared_are_carried}
 use Rattle.vm_top.specs.declared.top.Status.{Status}
 use Rattle.vm_top.specs.declared.top.Status.TheVariants as status
 use Rattle.vm_top.specs.declared.words.Report.{Report}
@@ -60,9 +58,7 @@ pub waits_for_frames : (report : Report) (run : Script) (outside : Outside) (h :
 waits_for_frames report run outside h before after s runs ends uncut delivered =
     let legal = ends_legal report run outside h before after s ends uncut in
     let causes = causes_of run outside h legal in
-    let still : IsStill run.header outside h = record { causes = causes; steps = legal.holds.paid; paid = legal.rests.paid; delivered = delivered } in
-    let answered = all_answered run.header outside h still (licensed run.header outside h causes legal.holds.own_bytes) legal.rests.served in
-    supplied run.header outside h runs.built.supplied causes legal.holds.paid legal.rests.paid answered legal.rests.prompt delivered
+    nobody_waits run.header outside h runs.built.supplied causes legal.holds.own_bytes legal.holds.paid legal.rests.paid legal.rests.served legal.rests.prompt delivered
 
 pub carries_all : (report : Report) (run : Script) (outside : Outside) (h : List Event) (before after : Option (List ℕ)) (s : Status) → IsRunnable run → EndsAs report run outside h before after s → s ≢ status.NoMemory
     → CarriesAll (Some run) h
@@ -70,7 +66,7 @@ carries_all report run outside h before after s runs ends uncut =
     let legal = ends_legal report run outside h before after s ends uncut in
     let causes = causes_of run outside h legal in (
       carried run.header outside h causes legal.rests.paid legal.holds.paid,
-      shared_carried run.header outside h (record { causes = causes; steps = legal.holds.paid; paid = legal.rests.paid; licensed = licensed run.header outside h causes legal.holds.own_bytes }) legal.rests.served,
+      shared_are_carried run.header outside h causes legal.holds.own_bytes legal.holds.paid legal.rests.paid legal.rests.served,
     )
 
 -- nothing has happened: nobody waits, and nothing is asked
