@@ -19,4 +19,3 @@ pub mod Currents
 pub mod Run
 pub mod OnlyWaiters
 pub mod ServedRun
-pub mod Declaring

@@ -8,7 +8,7 @@ use Rattle.vm_model.specs.declared.command.Command.TheVariants as command
 use Rattle.vm_system.proofs.Agreeing.{IsSpared, carry_spared, content_spared, devices_spared, files_spared, serve_spared, spared_said}
 use Rattle.vm_system.proofs.Cleaning.{IsAsked, asked_fine}
 use Rattle.sms_server.specs.Stands.{IsOther as IsServerOther}
-use Rattle.vm_system.proofs.Awaited.{served_other, server_other}
+use Rattle.sms_server.proofs.Acting.{others_serve as served_other, others_stand as server_other}
 use Rattle.vm_system.proofs.Lawfulness.{lawful_line, lawful_more, others_said, served_more, server_more}
 use Rattle.vm_system.proofs.Letters.{orderly_line}
 use Rattle.vm_system.proofs.Sayings.{can_say, orderly_said}
@@ -203,7 +203,7 @@ pub makes_refused : (header : Header) (outside : Outside) (numbered : Numbered) 
     → Posts new new.history.items → new.history.items ≡ event.Refused why ∷ event.Line numbered.line ∷ old.history.items → Makes header outside numbered old new
 makes_refused header outside numbered why old new stands refused same posts grown =
     makes_told header outside numbered (event.Refused why ∷ []) old.hosts old new stands (told_code header outside numbered.command why numbered.line old stands)
-    (legal_refused header outside numbered why old.history.items refused) same posts grown
+    (legal_refused header outside numbered why old.history.items stands.built.supplied refused) same posts grown
 
 pub told_none : (header : Header) (outside : Outside) (doing : Command) (line : ℕ) (s : State) → SystemStands header outside s → IsTold header outside line [] s.hosts s
 told_none header outside doing line s stands =
@@ -214,7 +214,7 @@ pub makes_lined : (header : Header) (outside : Outside) (line count : ℕ) (old 
     → new.history.items ≡ event.Line line ∷ old.history.items → Makes header outside (record { line = line; command = command.Settle count }) old new
 makes_lined header outside line count old new stands same posts grown =
     makes_told header outside (record { line = line; command = command.Settle count }) [] old.hosts old new stands (told_none header outside (command.Settle count) line old stands)
-    (legal_settle header outside line count old.history.items) same posts grown
+    (legal_settle header outside line count old.history.items stands.built.supplied) same posts grown
 
 -- parts that are as they were are so behind two calls
 pub same_hosts : (old mid new : State) → SameHosts old mid → SameHosts mid new → SameHosts old new

@@ -36,11 +36,7 @@ use Rattle.pg_file.specs.Stands.{FileKept, IsStartTold, name_of}
 use Rattle.vm_system.specs.Flat.{FilesAreFlat, HasFlatPages, files_failed}
 use Rattle.vm_system.specs.Keeping.{FilesAreTold, FilesCarry, MayHave}
 use Rattle.vm_system.specs.Steps.{LegalCut}
-use Rattle.vm_abroad.proofs.Home.{homes_next, homes_start}
-
-homes : (header : Header) (outside : Outside) (past : List Event) → EachEvent (HasCause header outside) past → HaveHomes header past
-homes header outside [] causes = homes_start header
-homes header outside (e ∷ past) causes = homes_next header outside e past causes.0 (homes header outside past causes.1)
+use Rattle.vm_system.proofs.Homes.{homes}
 
 never_so : {A : Type 0} → true ≡ false → A
 never_so is = absurd (cc)

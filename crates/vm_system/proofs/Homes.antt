@@ -1,8 +1,13 @@
 -- Only the pager of the host of an object's region hears of the object.
-use Rattle.vm_system.proofs.Common.{Bool, Event, Header, HostId, IsHome, List, Message, None, ObjectId, Option, Some, Up, ap, arith, false, home_for, home_of, home_stays, if◌then◌else◌, inl, inr, is_heard_elsewhere, is_made, is_shared, named, nat_lt, nat_tests, none-some, object_home, object_stays, refl, same_Some, subst, sym, true, up, ℕ, ◌&&◌, ◌==◌, ◌||◌, ◌∙◌, ◌∷◌, ◌≡◌, ◌≢◌, ◌≤◌, ◌<◌, ◌⊎◌}
+use Rattle.vm_system.proofs.Common.{Bool, Event, Header, HostId, IsHome, List, Message, None, ObjectId, Option, Some, Up, ap, arith, false, home_for, home_of, home_stays, if◌then◌else◌, inl, inr, is_heard_elsewhere, is_made, is_shared, named, nat_lt, nat_tests, none-some, object_home, object_stays, refl, same_Some, subst, sym, true, up, ℕ, ◌&&◌, ◌==◌, ◌||◌, ◌∙◌, ◌∷◌, ◌≡◌, ◌≢◌, ◌≤◌, ◌<◌, ◌⊎◌, EachEvent, HasCause, HaveHomes, Outside, homes_next, homes_start, []}
 use Rattle.std.specs.Prelude.{not}
 use Rattle.vm_model.specs.declared.event.Event.TheVariants as event
 use Rattle.vm_legal.proofs.Unshared.{temporary_unshared}
+
+-- each history whose events have their causes has them
+pub homes : (header : Header) (outside : Outside) (past : List Event) → EachEvent (HasCause header outside) past → HaveHomes header past
+homes header outside [] causes = homes_start header
+homes header outside (e ∷ past) causes = homes_next header outside e past causes.0 (homes header outside past causes.1)
 
 -- a declared object's home is its region's, and a temporary one's that of the region that it was made for
 

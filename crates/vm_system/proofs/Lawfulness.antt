@@ -4,7 +4,7 @@ use Rattle.vm_model.specs.declared.command.Command.TheVariants as command
 use Rattle.vm_model.specs.declared.event.Event.TheVariants as event
 use Rattle.sms_server.specs.Stands.{IsOther as IsServerOther}
 use Rattle.vm_system.proofs.Apart.{IsAbout}
-use Rattle.vm_system.proofs.Awaited.{served_other, server_other}
+use Rattle.sms_server.proofs.Acting.{others_serve as served_other, others_stand as server_other}
 
 -- the history
 

@@ -2,7 +2,6 @@ mod Common
 pub mod Agreeing
 pub mod Answering
 pub mod Apart
-pub mod Awaited
 pub mod Beginning
 pub mod Cleaning
 pub mod Empty
@@ -12,6 +11,7 @@ pub mod Filing
 pub mod Flattened
 pub mod Following
 pub mod Growth
+pub mod Headed
 pub mod Hearing
 pub mod Homes
 pub mod Lawfulness
@@ -25,6 +25,7 @@ pub mod Posting
 pub mod Sayings
 pub mod Sending
 pub mod Settled
+pub mod Sharing
 pub mod Silent
 pub mod Starting
 pub mod Taken

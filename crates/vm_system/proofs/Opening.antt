@@ -1,15 +1,17 @@
 -- A history stays legal with one message more taken.
-use Rattle.vm_system.proofs.Common.{AllLicensed, AllServed, AreSame, BeforeSteps, Channel, ChannelId, Command, EachEvent, EachMoment, EachOf, Event, FollowsSoFar, FramesSuffice, HasCause, HasMore, Header, Holds, IsConsequence, IsGroup, IsPaid, KeepsOpen, LegalOpen, Letter, List, MayBeCut, MayCutOpen, MayTakeFrom, Message, None, Numbered, Outside, OwnBytes, Prompt, Some, State, Step, SystemStands, TakesStep, Took, [], ap, append_assoc, channel_number, channel_of_first, cut_of, each_whole, false, inl, inr, is_some, licensed_both, messages_on, moments_whole, of_both, oldest_channel, queue, queue_is, refl, so_far, steps_whole, subst, sym, takings, takings_more, true, undelivered, ℕ, ◌++◌, ◌∙◌, ◌∷◌, ◌≡◌}
+use Rattle.vm_system.proofs.Common.{AllLicensed, AllServed, AreSame, BeforeSteps, Channel, ChannelId, Command, EachEvent, EachMoment, EachOf, Event, FollowsSoFar, FramesSuffice, HasCause, HasMore, Header, Holds, IsConsequence, IsGroup, IsPaid, KeepsOpen, LegalOpen, Letter, List, MayBeCut, MayCutOpen, MayTakeFrom, Message, None, Numbered, Outside, OwnBytes, Prompt, Some, State, Step, SystemStands, TakesStep, Took, [], ap, append_assoc, channel_number, channel_of_first, cut_of, each_whole, false, inl, inr, is_some, licensed_both, messages_on, moments_whole, of_both, oldest_channel, queue, queue_is, refl, so_far, steps_whole, subst, sym, takings, takings_more, true, undelivered, ℕ, ◌++◌, ◌∙◌, ◌∷◌, ◌≡◌, AllSupplied}
 use Rattle.vm_model.specs.declared.command.Command.TheVariants as command
 use Rattle.vm_model.specs.declared.event.Event.TheVariants as event
 use Rattle.vm_ports.specs.Ports.{oldest as oldest_on}
 use Rattle.vm_ports.specs.declared.letter.Letter.{Letter as Posted}
 use Rattle.vm_system.proofs.Numbers.{is_same}
-use Rattle.vm_system.proofs.Awaited.{one_writer, pages_legal}
+use Rattle.vm_system.proofs.Sharing.{writers as one_writer}
+use Rattle.vm_shared.proofs.Pages.{legal as pages_legal}
 use Rattle.vm_system.proofs.Legal.{flat_of}
 
 -- what holds in front of a taking
 pub record HoldsUpTo (header : Header) (outside : Outside) (past : List Event) : Type 0 where
+  pub supplied : AllSupplied header
   pub own_bytes : EachEvent (OwnBytes header) past
   pub frames : EachMoment (FramesSuffice header) past
   pub prompts : BeforeSteps (Prompt header) past
@@ -33,7 +35,7 @@ holds_taken given new step caused front =
     let own : EachEvent (OwnBytes header) new = rw is (each_whole (OwnBytes header) stretch past step.own_bytes front.own_bytes) in
     record {
       own_bytes = own;
-      flat_bytes = flat_of header outside new caused own;
+      flat_bytes = flat_of header outside new front.supplied caused own;
       frames = rw is (moments_whole (FramesSuffice header) stretch past step.frames front.frames);
       prompt = rw step.is (steps_whole (Prompt header) step.more (event.Taken step.channel step.m ∷ past) step.inner (front.prompt, front.prompts));
       paid = rw step.is (steps_whole (IsPaid header) step.more (event.Taken step.channel step.m ∷ past) step.inner (front.paid, front.payments));
@@ -64,6 +66,7 @@ settled_more header outside count line run old new stretch is follows licensed (
 -- what holds of an open history that has a kernel
 pub up_to_open : (header : Header) (outside : Outside) (run : List Numbered) (s : State) → SystemStands header outside s → LegalOpen header outside run s.history.items → HoldsUpTo header outside s.history.items
 up_to_open header outside run s stands legal = record {
+  supplied = stands.built.supplied;
   own_bytes = legal.holds.own_bytes;
   frames = legal.holds.frames;
   prompts = legal.holds.prompt;

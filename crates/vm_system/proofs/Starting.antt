@@ -6,7 +6,7 @@ use Rattle.pg_file.specs.Stands.{PagerStands as FileStands, new_table}
 use Rattle.pg_slots.specs.Contents.{Kept as Stored}
 use Rattle.vm_model.specs.declared.script.Declared.{Declared}
 use Rattle.sms_server.specs.Stands.{IsNewServer}
-use Rattle.vm_system.proofs.Awaited.{served_start, server_start}
+use Rattle.vm_system.proofs.Sharing.{served_start, server_start}
 use Rattle.vm_system.proofs.Letters.{orderly_none}
 use Rattle.vm_system.proofs.Silent.{paid_start}
 

@@ -6,7 +6,7 @@ use Rattle.vm_model.specs.declared.message.Message.TheVariants as message
 use Rattle.vm_ports.specs.Ports.{queue as queue_on}
 use Rattle.vm_ports.specs.declared.letter.Letter.{Letter as Posted}
 use Rattle.vm_system.proofs.Agreeing.{carry_other, files_other, serve_other}
-use Rattle.vm_system.proofs.Awaited.{served_other, server_other}
+use Rattle.sms_server.proofs.Acting.{others_serve as served_other, others_stand as server_other}
 use Rattle.vm_system.proofs.Lawfulness.{lawful_line}
 use Rattle.vm_system.proofs.Silent.{all_returned, paid_inner}
 use Rattle.vm_system.proofs.Letters.{orderly_line}

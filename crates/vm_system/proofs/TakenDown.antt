@@ -3,7 +3,7 @@ use Rattle.vm_system.proofs.Common.{AllFilesServe, AllInner, AllServe, Bool, Can
 use Rattle.vm_model.specs.declared.event.Device.TheVariants.{Files, Paging}
 use Rattle.vm_model.specs.declared.event.Event.TheVariants as event
 use Rattle.vm_system.proofs.Agreeing.{carry_other, carry_spared, devices_said, files_other, files_spared, serve_other, spared_said}
-use Rattle.vm_system.proofs.Awaited.{served_other, server_other}
+use Rattle.sms_server.proofs.Acting.{others_serve as served_other, others_stand as server_other}
 use Rattle.vm_system.proofs.Lawfulness.{lawful_taken, others_said, served_more}
 use Rattle.vm_system.proofs.Silent.{all_returned}
 use Rattle.vm_system.proofs.Letters.{letter_first, orderly_taken}

@@ -15,7 +15,7 @@ use Rattle.vm_system.proofs.Apart.{apart_of, declared_fit, declared_stand, set_c
 use Rattle.vm_system.proofs.Filed.{IsFiled, filed_of, word_filed}
 use Rattle.vm_system.proofs.Filing.{carry_areas, is_declared, kept_about, may_back, stands_about}
 use Rattle.vm_legal.proofs.Unshared.{file_unshared}
-use Rattle.vm_system.proofs.Awaited.{served_other, server_other}
+use Rattle.sms_server.proofs.Acting.{others_serve as served_other, others_stand as server_other}
 use Rattle.vm_system.proofs.Following.{kept_at}
 use Rattle.vm_system.proofs.Homes.{home_declared}
 use Rattle.vm_system.proofs.Lawfulness.{lawful_more, lawful_taken, others_about, served_more, server_more}

@@ -3,7 +3,7 @@ use Rattle.vm_system.proofs.Common.{Channel, Event, Follows, FollowsSoFar, Frame
 use Rattle.vm_model.specs.declared.command.Command.TheVariants as command
 use Rattle.vm_model.specs.declared.event.Event.TheVariants as event
 use Rattle.vm_system.proofs.Opening.{HoldsUpTo, holds_taken, step_is}
-use Rattle.vm_system.proofs.Awaited.{served_other}
+use Rattle.sms_server.proofs.Acting.{others_serve as served_other}
 use Rattle.vm_system.proofs.Silent.{prompt_line}
 
 some_none : {A : Type 0} → {x : A} → Some x ≡ None → ⊥
@@ -45,6 +45,7 @@ up_to_line : (header : Header) (outside : Outside) (line : ℕ) (run : List Numb
 up_to_line header outside line run s stands legal =
     let items = s.history.items in
     record {
+      supplied = stands.built.supplied;
       own_bytes = (tt, legal.holds.own_bytes);
       frames = (moment_last (FramesSuffice header) items legal.holds.frames, legal.holds.frames);
       prompts = (legal.rests.prompt, legal.holds.prompt);

@@ -16,7 +16,11 @@ use Rattle.sms_server.specs.Answers.{ReturnsWhole}
 use Rattle.sms_server.specs.Table.{IsSameTable}
 use Rattle.vm_system.proofs.Answering.{IsReply, reply_consequences, reply_frames, reply_inner, reply_nobodys, reply_own, reply_spares}
 use Rattle.vm_system.proofs.Apart.{IsAbout, apart_of, declared_fit, declared_stand}
-use Rattle.vm_system.proofs.Awaited.{licensed, served_other, server_causes, server_paid, server_same, server_served, server_stands, takings_meet}
+use Rattle.vm_shared.proofs.Causes.{licensed}
+use Rattle.sms_server.proofs.Acting.{others_serve as served_other}
+use Rattle.sms_server.proofs.Whole.{causes as server_causes, served as server_served, stands as server_stands}
+use Rattle.sms_server.proofs.Paying.{paid as server_paid}
+use Rattle.vm_system.proofs.Sharing.{server_same, protocol_met}
 use Rattle.vm_system.proofs.Filing.{carry_about, files_about}
 use Rattle.vm_system.proofs.Following.{filed_spares, kept_at}
 use Rattle.vm_system.proofs.Hearing.{granted, made_all, upgraded}
@@ -86,7 +90,7 @@ shared_reply given line number host object m s new events may shared head answer
       host = told.0;
       to_server = told.1;
       stands = front.server;
-      protocol = takings_meet header given.outside host.0 object m given.past shared lawful.causes front.lawful.own_bytes lawful.paid;
+      protocol = protocol_met header given.outside host.0 object m given.past shared front.lawful.causes front.lawful.own_bytes front.lawful.paid head;
       licensed = λ page. licensed header given.outside (event.Taken (Up host object) m ∷ given.past) lawful.causes lawful.own_bytes object.0 page shared;
       answered = answered;
     } in

@@ -11,7 +11,7 @@ use Rattle.vm_system.proofs.Apart.{about, apart_of, areas_others, fits_still, ot
 use Rattle.vm_system.proofs.Filing.{carry_about, files_about}
 use Rattle.vm_legal.proofs.Files.{not_file}
 use Rattle.vm_legal.proofs.Unshared.{temporary_unshared}
-use Rattle.vm_system.proofs.Awaited.{served_other, server_other}
+use Rattle.sms_server.proofs.Acting.{others_serve as served_other, others_stand as server_other}
 use Rattle.vm_system.proofs.Lawfulness.{lawful_more, lawful_taken, others_about, served_more, server_more}
 use Rattle.vm_system.proofs.Letters.{elsewhere_first, home_first, letter_first, orderly_taken, unended_first, washed_out}
 use Rattle.vm_system.proofs.Sayings.{can_answer, orderly_answered}

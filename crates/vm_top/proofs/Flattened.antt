@@ -14,7 +14,7 @@ use Rattle.vm_system.specs.Keeping.{FilesCarry}
 use Rattle.vm_system.specs.Steps.{LegalCut}
 use Rattle.vm_system.proofs.Flattened.{flat_files}
 use Rattle.vm_shared.proofs.Currents.{copies_current}
-use Rattle.vm_shared.proofs.Declaring.{none_temporary}
+use Rattle.vm_system.proofs.Sharing.{none_temporary}
 use Rattle.vm_top.specs.declared.top.Status.{Status}
 use Rattle.vm_top.specs.declared.top.Status.TheVariants as status
 use Rattle.vm_top.specs.declared.words.Report.{Report}
@@ -50,7 +50,7 @@ pub files_flat : (report : Report) (run : Script) (files paging now : List â„• â
 files_flat report run files paging now h before after s runs ends carry =
     let legal = ends_cut report run (outside_of files paging run.header) h before after s ends in
     let causes = cut run.header (outside_of files paging run.header) legal.0 h legal.1.follows in
-    flat_files run.header (outside_of files paging run.header) files now legal.0 h legal.1 (copies_current run.header (outside_of files paging run.header) h (none_temporary run.header runs.built.ranged.kinds) causes legal.1.holds.own_bytes)
+    flat_files run.header (outside_of files paging run.header) files now legal.0 h legal.1 (copies_current run.header (outside_of files paging run.header) h (none_temporary run.header runs.built.supplied) causes legal.1.holds.own_bytes)
     (files_told run.header files paging) carry
 
 -- nothing has happened

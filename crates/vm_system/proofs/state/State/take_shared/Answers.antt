@@ -1,5 +1,6 @@
-use Rattle.vm_system.proofs.Common.{Channel, Event, Followed, Going, List, PagerHasAnswered, Up, [], ap, arith, inr, length, on_err_weaker, on_ok_weaker, queue, refl, subst, sym, take, ℕ, ◌++◌, ◌+◌, ◌∙◌, ◌∷◌, ◌≡◌}
+use Rattle.vm_system.proofs.Common.{Channel, Event, Followed, Going, List, PagerHasAnswered, Up, [], ap, arith, inr, length, on_err_weaker, on_ok_weaker, HasRoom, ◌≤◌, queue, refl, subst, sym, take, ℕ, ◌++◌, ◌+◌, ◌∙◌, ◌∷◌, ◌≡◌}
 use Rattle.vm_model.specs.declared.event.Event.TheVariants as event
+use Rattle.sms_server.specs.Table.{most_events}
 use Rattle.vm_system.proofs.Beginning.{same_hosts}
 use Rattle.vm_system.proofs.Following.{both_spares, same_all, same_declared, same_files, same_pagers}
 use Rattle.vm_system.proofs.Taken.{first_told, may_head, may_only, may_port, may_some, may_there}
@@ -123,13 +124,15 @@ commit-requires-clause-can g c =
 
 pub commit-requires-clause-room : goal.commit-requires-clause-room
 commit-requires-clause-room g c =
-    let room = c.in_ok-reserve.ensures.room in
+    let r = c.reserve-2.ensures in
     let most = c.in_ok-most.most in
-    let added = c.checked_add.ensures in
-    let some = c.in-Some.ensures in
     let fits = c.in_ok-most.ensures.most in
     let few = c.in_ok-replies.ensures.few in
-    ?
+    let same : most_events c.args.object.0 c.reserve-2.new.self.server ≡ most_events c.args.object.0 c.reserve.new.self = ap (most_events c.args.object.0) r.hosts.server in
+    let less : length c.in_ok-replies.replies.items ≤ most = omega (arith, few, same, fits) in
+    let room = subst (λ (n : ℕ). HasRoom n c.reserve-2.new.self) c.in-Some.ensures.1 c.in_ok-reserve.ensures.room in
+    let two = c.take_first.ensures.room most (record { history = room.history; channels = room.channels; numbers = room.numbers; letters = room.letters; buffers = room.buffers }) in
+    fewer_room (length c.in_ok-replies.replies.items) most c.take_first.new.self less two
 
 pub follow-requires : goal.follow-requires
 follow-requires g c =
