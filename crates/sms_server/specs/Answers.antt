@@ -1,5 +1,5 @@
 -- What the shared memory server answers to each message, and what it leaves.
-use Rattle.std.specs.Prelude.{ℕ, zero, suc, ◌≡◌, ◌≢◌, ◌≤◌, ◌<◌, ◌⊎◌, ◌==◌, Bool, true, false, List, [], ◌∷◌, ◌++◌, length, slice_index, slice_set, if◌then◌else◌}
+use Rattle.std.specs.Prelude.{ℕ, suc, ◌≡◌, ◌≢◌, ◌≤◌, ◌⊎◌, ◌==◌, Bool, true, false, List, [], ◌∷◌, ◌++◌, length, slice_index, slice_set, if◌then◌else◌}
 use Rattle.sms_pages.specs.Directory.{Directory, IsSame, IsServedDirectory, Outcome, ended, finished, requested, saved, served, unlock_heard}
 use Rattle.sms_pages.specs.Stands.{lock_number}
 use Rattle.sms_pages.specs.declared.reply.Reply.{Reply}

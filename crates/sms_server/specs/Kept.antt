@@ -1,5 +1,5 @@
 -- How the pages are kept: by rising object, and by rising page of an object.
-use Rattle.std.specs.Prelude.{ℕ, suc, ◌≡◌, ◌≤◌, ◌+◌, ◌==◌, Bool, true, false, List, [], ◌∷◌, ◌++◌, Option, Some, None, if◌then◌else◌, length, nat_lt, nat_le, slice_get}
+use Rattle.std.specs.Prelude.{ℕ, suc, ◌≡◌, ◌≢◌, ◌<◌, ◌≤◌, ◌==◌, Bool, true, false, List, [], ◌∷◌, ◌++◌, Option, Some, None, if◌then◌else◌, length, slice_get}
 use Rattle.sms_pages.specs.Directory.{IsNewDirectory, IsSame, most_replies}
 use Rattle.sms_pages.specs.Directory as pages
 use Rattle.vm_base.specs.Keys.{IsFrom, is_before, is_page}
@@ -16,20 +16,17 @@ abbrev pub ByKey : ℕ → ℕ → List PageRow → Type 0
 ByKey object page [] = Unit {0}
 ByKey object page (row ∷ rows) = IsFrom object page row.key × ByKey row.key.object.0 (suc row.key.page.0) rows
 
+-- how many rows with such a mark come first
+abbrev pub leading : (PageRow → Bool) → List PageRow → ℕ
+leading test [] = 0
+leading test (row ∷ rows) = if test row then suc (leading test rows) else 0
+
+abbrev pub is_row_before : ℕ → ℕ → PageRow → Bool
+is_row_before object page row = is_before row.key object page
+
 -- how many pages come in front of one
 abbrev pub rows_before : ℕ → ℕ → List PageRow → ℕ
-rows_before object page [] = 0
-rows_before object page (row ∷ rows) = if is_before row.key object page then suc (rows_before object page rows) else 0
-
--- how many pages of objects below one come first
-abbrev pub objects_below : ℕ → List PageRow → ℕ
-objects_below object [] = 0
-objects_below object (row ∷ rows) = if nat_lt row.key.object.0 object then suc (objects_below object rows) else 0
-
--- how many pages of objects up to one come first
-abbrev pub objects_up_to : ℕ → List PageRow → ℕ
-objects_up_to object [] = 0
-objects_up_to object (row ∷ rows) = if nat_le row.key.object.0 object then suc (objects_up_to object rows) else 0
+rows_before object page rows = leading (is_row_before object page) rows
 
 -- whether a page stands at a place
 abbrev pub is_page_at : ℕ → ℕ → Option PageRow → Bool
@@ -51,17 +48,15 @@ abbrev pub is_ready : Option pages.Directory → Bool
 is_ready None = false
 is_ready (Some directory) = directory.prepared
 
-abbrev pub all_replies : List PageRow → ℕ
-all_replies [] = 0
-all_replies (row ∷ rows) = most_replies row.directory + all_replies rows
+-- the row, if there is one, is of an object below a number
+abbrev pub IsObjectBelow : ℕ → Option PageRow → Type 0
+IsObjectBelow n None = Unit {0}
+IsObjectBelow n (Some row) = row.key.object.0 < n
 
-abbrev pub IsPreparedRow : Option PageRow → Type 0
-IsPreparedRow None = Unit {0}
-IsPreparedRow (Some row) = row.directory.prepared ≡ true
-
--- each page has the memory of its next call at hand
-abbrev pub AllPrepared : List PageRow → Type 0
-AllPrepared rows = (k : ℕ) → IsPreparedRow (slice_get rows k)
+-- the row, if there is one, is of an object from a number on
+abbrev pub IsObjectFrom : ℕ → Option PageRow → Type 0
+IsObjectFrom n None = Unit {0}
+IsObjectFrom n (Some row) = n ≤ row.key.object.0
 
 -- a page is as it was, but for the memory at hand
 abbrev pub IsSameRow : Option PageRow → Option PageRow → Type 0
@@ -72,19 +67,27 @@ IsSameRow old new = ⊥
 abbrev pub RowsAreSame : List PageRow → List PageRow → Type 0
 RowsAreSame old new = (k : ℕ) → IsSameRow (slice_get old k) (slice_get new k)
 
-abbrev pub IsRowAfter : ℕ → Message → Option PageRow → Option PageRow → Type 0
-IsRowAfter h m None None = Unit {0}
-IsRowAfter h m (Some old) (Some new) = RowAfter h m old new
-IsRowAfter h m old new = ⊥
+-- a page of the object took the message, and each other is as it was
+abbrev pub IsRowAfter : ℕ → Message → ℕ → Option PageRow → Option PageRow → Type 0
+IsRowAfter h m object None None = Unit {0}
+IsRowAfter h m object (Some old) (Some new) =
+    (old.key.object.0 ≡ object → RowAfter h m old new) × (old.key.object.0 ≢ object → new ≡ old)
+IsRowAfter h m object old new = ⊥
 
--- each page took the message
-abbrev pub RowsAfter : ℕ → Message → List PageRow → List PageRow → Type 0
-RowsAfter h m old new = (k : ℕ) → IsRowAfter h m (slice_get old k) (slice_get new k)
+-- each page of the object took the message
+abbrev pub RowsAfter : ℕ → Message → ℕ → List PageRow → List PageRow → Type 0
+RowsAfter h m object old new = (k : ℕ) → IsRowAfter h m object (slice_get old k) (slice_get new k)
 
--- the events of all pages, those of the first page first
-abbrev pub rows_events : ℕ → Message → List PageRow → List Event
-rows_events h m [] = []
-rows_events h m (row ∷ rows) = rows_events h m rows ++ row_events h m row
+-- the events of the object's pages, those of the first page first
+abbrev pub events_among : ℕ → Message → ℕ → List PageRow → List Event
+events_among h m object [] = []
+events_among h m object (row ∷ rows) =
+    if row.key.object.0 == object then events_among h m object rows ++ row_events h m row else events_among h m object rows
+
+-- a page has a row, with the memory of its next call, and there is room for the events of its answer
+abbrev pub HasMemory : ℕ → Option PageRow → Type 0
+HasMemory room None = ⊥
+HasMemory room (Some row) = (row.directory.prepared ≡ true) × (most_replies row.directory ≤ room)
 
 -- a page stands at an index, with the memory of its next call and of the events of its answer
 pub record IsPreparedAt (key : PageKey) (i : ℕ) (table : ServerTable) : Type 0 where

@@ -1,11 +1,10 @@
 -- When the server's table stands for a history, and what it is told in its turn.
-use Rattle.std.specs.Prelude.{ℕ, ◌≡◌, ◌<◌, ◌≤◌, Bool, true, false, List, [], ◌∷◌, ◌++◌}
+use Rattle.std.specs.Prelude.{ℕ, ◌≡◌, ◌<◌, true, false, List, [], ◌∷◌}
 use Rattle.sms_pages.specs.Stands.{Hears, StandsFor}
 use Rattle.vm_base.specs.Limits.{most_hosts}
 use Rattle.vm_base.specs.declared.ids.ObjectId.{ObjectId}
 use Rattle.vm_legal.specs.Licences.{up}
 use Rattle.vm_legal.specs.Outside.{is_shared}
-use Rattle.vm_model.specs.Coherence.{SomebodyIsAwaited}
 use Rattle.vm_model.specs.PageLicences.{ActsLicensed}
 use Rattle.vm_model.specs.PagePart.{page_part}
 use Rattle.vm_model.specs.Server.{NoRequest, NoUpgrade, line}
@@ -60,11 +59,6 @@ pub record ServerServes (header : Header) (h : ℕ) (past : List Event) (object 
   pub protocol : (p : ℕ) → MeetsProtocol h (up_word p m) (page_part header.size object.0 p past)
   pub licensed : (p : ℕ) → ActsLicensed header.size (page_part header.size object.0 p (taking h object m past))
   pub answered : ServerAnswer h object m old new events
-
--- where somebody wants a shared page, some host is awaited for it
-abbrev pub AllServed : Header → List Event → Type 0
-AllServed header past =
-    (o p : ℕ) → is_shared header o ≡ true → SomebodyIsAwaited (page_part header.size o p past)
 
 -- a first control, which no kernel makes of a shared object
 abbrev pub IsCreate : Message → Type 0

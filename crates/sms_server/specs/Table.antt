@@ -1,5 +1,5 @@
 -- The pages of shared objects, as contracts see them.
-use Rattle.std.specs.Prelude.{ℕ, ◌≡◌, ◌+◌, ◌≤◌, ◌<◌, ◌^◌, ◌==◌, Bool, true, false, List, [], ◌∷◌, Option, Some, None, if◌then◌else◌, replicate, slice_index}
+use Rattle.std.specs.Prelude.{ℕ, ◌≡◌, ◌+◌, ◌≤◌, ◌<◌, ◌^◌, ◌==◌, Bool, true, false, List, [], ◌∷◌, Option, Some, None, if◌then◌else◌, replicate, slice_get, slice_index}
 use Rattle.sms_pages.specs.Directory.{Directory, IsSame, most_replies}
 use Rattle.vm_base.specs.Keys.{is_page}
 use Rattle.vm_base.specs.Limits.{most_hosts}
@@ -55,9 +55,13 @@ replies_among object (row ∷ rows) = (if row.key.object.0 == object then most_r
 abbrev pub most_events : ℕ → ServerTable → ℕ
 most_events object table = 9 + replies_among object table.rows
 
+abbrev pub IsPreparedOf : ℕ → Option PageRow → Type 0
+IsPreparedOf object None = Unit {0}
+IsPreparedOf object (Some row) = row.key.object.0 ≡ object → row.directory.prepared ≡ true
+
+-- each page of the object has the memory of its next call at hand
 abbrev pub ArePrepared : ℕ → List PageRow → Type 0
-ArePrepared object [] = Unit {0}
-ArePrepared object (row ∷ rows) = ((row.key.object.0 == object) ≡ true → row.directory.prepared ≡ true) × ArePrepared object rows
+ArePrepared object rows = (k : ℕ) → IsPreparedOf object (slice_get rows k)
 
 -- the next answer about an object has its memory at hand
 pub record IsPrepared (object : ℕ) (table : ServerTable) : Type 0 where

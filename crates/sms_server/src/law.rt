@@ -1,6 +1,7 @@
 // That what the shared memory server answers is a step of a legal history.
 ghost use Rattle.std.specs.Prelude.{ℕ, ◌≡◌, ◌++◌, List, [], ◌∷◌};
-ghost use Rattle.sms_server.specs.Stands.{AllServed, IsCreate, IsNewServer, IsOther, ServerServes, ServerStands, taking};
+ghost use Rattle.sms_server.specs.Stands.{IsCreate, IsNewServer, IsOther, ServerServes, ServerStands, taking};
+ghost use Rattle.vm_legal.specs.Prompt.{AllServed};
 ghost use Rattle.sms_server.specs.Table.{IsSameTable, ServerTable};
 ghost use Rattle.vm_base.specs.declared.ids.ObjectId.{ObjectId};
 ghost use Rattle.vm_legal.specs.Debts.{IsPaid};

@@ -1,8 +1,9 @@
 // A page of a shared object, with what is known of it.
-ghost use Rattle.std.specs.Prelude.{◌≡◌, ◌≤◌, ◌<◌, ◌+◌, ◌++◌, ◌⊎◌, true, IsOk, OnOk, IfOk, length};
+ghost use Rattle.std.specs.Prelude.{◌≡◌, ◌≤◌, ◌<◌, ◌+◌, ◌++◌, ◌⊎◌, true, Some, IsOk, OnOk, IfOk, length};
 ghost use Rattle.vm_base.specs.Limits.{most_hosts};
 ghost use Rattle.vm_model.specs.Words.{up_word};
 ghost use Rattle.sms_pages.specs.Directory.{most_replies, wanted_access};
+ghost use Rattle.sms_server.specs.Kept.{IsSameRow};
 ghost use Rattle.sms_server.specs.Answers.{DirectoryAfter, IsAbout, ReturnsWhole, RowAfter, heard_row, replies_to, row_events};
 
 use crate::telling::tell;
@@ -24,6 +25,17 @@ pub struct PageRow {
 }
 
 impl PageRow {
+    /// Takes the memory of the next answer, and says how many replies it has at most. It fails for
+    /// want of memory alone.
+    pub fn reserve(&mut self) -> Result<u32, NoMemory>
+        ensures same { IsSameRow (Some self.old) (Some self.new) }
+        ensures most { IfOk result (λ most. most ≡ most_replies self.old.directory) }
+        ensures prepared { OnOk result (self.new.directory.prepared ≡ true) }
+        ensures succeeds { self.old.directory.prepared ≡ true → IsOk result }
+    {
+        self.directory.reserve()
+    }
+
     /// Takes a message of a host about the page, and adds the events of the answer to those that
     /// were given before.
     pub fn answer(

@@ -2,12 +2,12 @@
 ghost use Rattle.std.specs.Prelude.{◌≡◌, ◌≤◌, ◌<◌, ◌^◌, [], ◌∷◌, true, false, IsOk, IsSome, None, OnOk, OnErr, IfOk, length};
 ghost use Rattle.vm_base.specs.Limits.{most_hosts};
 ghost use Rattle.sms_server.specs.Answers.{AreServerWords, IsAbout, IsEnd, IsOfOnePage, IsToServer, ReturnsWhole, ServerAnswer, sent_to};
-ghost use Rattle.sms_server.specs.Kept.{IsPreparedAt};
+ghost use Rattle.sms_server.specs.Kept.{HasMemory, IsPreparedAt};
 ghost use Rattle.sms_server.specs.Table.{ArePrepared, IsPrepared, IsSameTable, most_events, row_among};
 
 use crate::PageRow;
 use crate::page_row::HOSTS;
-use crate::places::{end_rows, find, find_end, find_first, prepare_rows, stands_at};
+use crate::places::{end_rows, find, prepare_rows, stands_at};
 use crate::telling::{ready, sent};
 use sms_pages::PageDirectory;
 use std::alloc::Global;
@@ -163,10 +163,8 @@ impl Server {
         ensures succeeds { IsPrepared object.0 self.old → IsOk result }
     {
         let _most = self.prepare_object(object)?;
-        let from = find_first(&self.rows, object);
-        let to = find_end(&self.rows, object);
         let mut events = mem::replace(&mut self.events, Listing::new(self.alloc));
-        end_rows(&mut self.rows[from..to], host, message, &mut events)?;
+        end_rows(&mut self.rows, object, host, message, &mut events)?;
         Ok(events)
     }
 
@@ -192,7 +190,7 @@ impl Server {
     fn name_page(&mut self, key: PageKey) -> Result<(), NoMemory>
         requires { row_among key.object.0 key.page.0 self.old.rows ≡ None }
         ensures same { IsSameTable self.old self.new }
-        ensures named { OnOk result (IsSome (row_among key.object.0 key.page.0 self.new.rows)) }
+        ensures named { OnOk result (HasMemory 9 (row_among key.object.0 key.page.0 self.new.rows)) }
         ensures room { self.new.room ≡ self.old.room }
         ensures succeeds { self.old.spare ≡ true → IsOk result }
     {
@@ -210,17 +208,30 @@ impl Server {
         Ok(())
     }
 
+    // Makes the row of a page, if there is none.
+    fn find_or_name(&mut self, key: PageKey) -> Result<(), NoMemory>
+        ensures same { IsSameTable self.old self.new }
+        ensures named { OnOk result (IsSome (row_among key.object.0 key.page.0 self.new.rows)) }
+        ensures memory { OnOk result (IsPrepared key.object.0 self.old
+            → HasMemory self.new.room (row_among key.object.0 key.page.0 self.new.rows)) }
+        ensures succeeds { IsPrepared key.object.0 self.old → IsOk result }
+    {
+        let i = find(&self.rows, key);
+        if stands_at(&self.rows, i, key) {
+            return Ok(());
+        }
+        self.name_page(key)
+    }
+
     // The index of a page's row, which is made where there is none, with the memory of an answer.
     fn prepare_page(&mut self, key: PageKey) -> Result<usize, NoMemory>
         ensures same { IsSameTable self.old self.new }
         ensures at { IfOk result (λ i. IsPreparedAt key i self.new) }
         ensures succeeds { IsPrepared key.object.0 self.old → IsOk result }
     {
-        if !stands_at(&self.rows, find(&self.rows, key), key) {
-            self.name_page(key)?;
-        }
+        self.find_or_name(key)?;
         let i = find(&self.rows, key);
-        let most = self.rows[i].directory.reserve()?;
+        let most = self.rows[i].reserve()?;
         self.events.reserve(most)?;
         Ok(i)
     }
@@ -237,9 +248,7 @@ impl Server {
         ensures succeeds { ArePrepared object.0 self.old.rows → most_events object.0 self.old < 2 ^ 32
             → most_events object.0 self.old ≤ self.old.room → IsOk result }
     {
-        let from = find_first(&self.rows, object);
-        let to = find_end(&self.rows, object);
-        let most = prepare_rows(&mut self.rows[from..to])?;
+        let most = prepare_rows(&mut self.rows, object)?;
         let Some(most) = most.checked_add(MOST_OF_NEW) else {
             return Err(NoMemory);
         };

@@ -118,6 +118,7 @@ pub fn tell(
     ensures ok { IsOk result }
     ensures told { events.new.items ≡ reply_events key.object key.page (slice_index heard.now) replies.items ++ events.old.items }
     ensures room { events.old.room ≤ events.new.room + length replies.items }
+    ensures count { length events.new.items ≡ length events.old.items + length replies.items }
 {
     let mut replies = replies;
     'each: while let Some(reply) = replies.take_first() {

@@ -1,6 +1,4 @@
 mod Edits
-mod Orders
 mod Owners
 mod Places
-mod Rows
 mod Tables

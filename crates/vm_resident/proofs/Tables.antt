@@ -11,7 +11,7 @@ use Rattle.vm_base.specs.declared.ids.PageKey.{PageKey}
 use Rattle.vm_resident.proofs.Edits.{by_key_inserted, by_key_removed, by_key_set, row_inserted, row_removed, row_set}
 use Rattle.vm_resident.proofs.Owners.{owner_has, owner_inserted, owner_left, owner_none, owner_set}
 use Rattle.vm_resident.proofs.Places.{FoundNext, next_none, next_some, row_found, row_if}
-use Rattle.vm_resident.specs.Kept.{ByKey, is_of, resident_before}
+use Rattle.vm_resident.specs.Kept.{ByKey, is_of, is_page_at, resident_before}
 use Rattle.vm_resident.specs.Resident.{IsNextPage, IsOwned, NoRowHas, NoRowsFrom, PutsOwner, PutsRow, ResidentTable, owner_among, owner_of, page_key, row_among, row_at}
 use Rattle.vm_resident.specs.declared.page_row.PageRow.{PageRow}
 use Rattle.vm_resident.specs.declared.resident_page.ResidentPage.{ResidentPage}
@@ -24,6 +24,13 @@ pub record Placed (pages : List ResidentPage) (table : ResidentTable) (key : Pag
 
 abbrev pub seen : List ResidentPage → ℕ → ResidentTable
 seen pages spare = record { rows = pages; spare = spare }
+
+pub placed : (pages found : List ResidentPage) (spare : ℕ) (table : ResidentTable) (key : PageKey) (i : ℕ) → seen pages spare ≡ table → ByKey 0 0 pages → found ≡ pages → i ≡ resident_before key.object.0 key.page.0 found → Placed pages table key i
+placed pages found spare table key i view kept same place = record {
+  kept = kept;
+  rows = ap (λ (z : ResidentTable). z.rows) (sym view);
+  place = place ∙ ap (resident_before key.object.0 key.page.0) same;
+}
 
 -- what stands at the place of a page that has a row
 pub record At (pages : List ResidentPage) (key : PageKey) (i : ℕ) (was : PageRow) : Type 0 where
@@ -54,6 +61,33 @@ row_is pages table key i h = rw (h.rows, h.place) (row_found 0 0 key.object.0 ke
 
 pub at_row : (pages : List ResidentPage) (table : ResidentTable) (key : PageKey) (i : ℕ) (was : PageRow) → Placed pages table key i → row_at table key.object.0 key.page.0 ≡ Some was → At pages key i was
 at_row pages table key i was h is = at_read pages key i was (slice_get pages i) refl (sym (row_is pages table key i h) ∙ is)
+
+-- the row of a page, where it has one
+pub record Present (pages : List ResidentPage) (table : ResidentTable) (key : PageKey) (i : ℕ) : Type 0 where
+  pub was : PageRow
+  pub row : row_at table key.object.0 key.page.0 ≡ Some was
+  pub at : At pages key i was
+
+present_read : (pages : List ResidentPage) (table : ResidentTable) (key : PageKey) (i : ℕ) (stood : Option ResidentPage) → slice_get pages i ≡ stood → row_at table key.object.0 key.page.0 ≡ row_if key.object.0 key.page.0 stood
+    → is_page_at key.object.0 key.page.0 stood ≡ true → Present pages table key i
+present_read pages table key i None is row here = absurd (false≢true here)
+present_read pages table key i (Some x) is row here = record {
+  was = x.row;
+  row = rw here at row;
+  at = at_first pages key i x is here;
+}
+
+pub present : (pages found : List ResidentPage) (table : ResidentTable) (key : PageKey) (i : ℕ) (test : Bool) → Placed pages table key i → found ≡ pages → test ≡ is_page_at key.object.0 key.page.0 (slice_get found i) → test ≡ true → Present pages table key i
+present pages found table key i test h same told stood =
+    present_read pages table key i (slice_get pages i) refl (row_is pages table key i h) (rw same at (sym told ∙ stood))
+
+absent_read : (o p : ℕ) (stood : Option ResidentPage) → is_page_at o p stood ≡ false → row_if o p stood ≡ None
+absent_read o p None other = refl
+absent_read o p (Some x) other = rw other refl
+
+pub absent : (pages found : List ResidentPage) (table : ResidentTable) (key : PageKey) (i : ℕ) (test : Bool) → Placed pages table key i → found ≡ pages → test ≡ is_page_at key.object.0 key.page.0 (slice_get found i) → test ≡ false → row_at table key.object.0 key.page.0 ≡ None
+absent pages found table key i test h same told past =
+    row_is pages table key i h ∙ absent_read key.object.0 key.page.0 (slice_get pages i) (rw same at (sym told ∙ past))
 
 -- a table in which a page has no row is as it would be without the row
 pub unput : (table : ResidentTable) (key : PageKey) → row_at table key.object.0 key.page.0 ≡ None → PutsRow key.object.0 key.page.0 None table table

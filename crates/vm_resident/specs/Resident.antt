@@ -1,5 +1,5 @@
 -- The resident pages of a host, as contracts see them.
-use Rattle.std.specs.Prelude.{ℕ, ◌≡◌, ◌≢◌, ◌≤◌, ◌<◌, ◌==◌, ◌&&◌, Bool, List, [], ◌∷◌, Option, Some, None, IsSome, if◌then◌else◌}
+use Rattle.std.specs.Prelude.{ℕ, ◌≡◌, ◌≢◌, ◌≤◌, ◌<◌, ◌==◌, ◌&&◌, List, [], ◌∷◌, Option, Some, None, IsSome, if◌then◌else◌}
 use Rattle.vm_base.specs.Keys.{is_page}
 pub use Rattle.vm_base.specs.Keys.{page_key}
 use Rattle.vm_base.specs.declared.ids.PageKey.{PageKey}
@@ -53,7 +53,3 @@ pub record IsNextPage (table : ResidentTable) (object from page : ℕ) : Type 0 
   pub low : from ≤ page
   pub there : IsSome (row_at table object page)
   pub first : (q : ℕ) → from ≤ q → q < page → row_at table object q ≡ None
-
--- two pages are the same
-abbrev pub same_page : PageKey → PageKey → Bool
-same_page key other = is_page key other.object.0 other.page.0

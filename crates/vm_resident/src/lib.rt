@@ -1,8 +1,6 @@
 //! The table of a host's resident pages: a row for each, found by the page or by its frame.
 #![tactic(auto)]
 
-mod index;
-mod order;
 mod page_row;
 mod resident;
 mod resident_page;

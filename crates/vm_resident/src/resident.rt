@@ -1,11 +1,9 @@
 // The table of resident pages.
-ghost use Rattle.indexmap.specs.IndexMap.{get};
 ghost use Rattle.std.specs.Prelude.{ℕ, ◌≡◌, ◌+◌, ◌≤◌, ◌<◌, [], Some, None, IfSome, IsOk, IsSomeAnd, MatchOption, OnErr, OnOk};
-ghost use Rattle.vm_resident.specs.Resident.{page_key, same_page, IsNextPage, IsOwned, NoRowHas, NoRowsFrom, PutsOwner, PutsRow, owner_of, row_at};
+ghost use Rattle.vm_resident.specs.Resident.{IsNextPage, IsOwned, NoRowHas, NoRowsFrom, PutsOwner, PutsRow, owner_of, row_at};
 
-use crate::index::Index;
-use crate::{PageRow, index};
-use indexmap::IndexMap;
+use crate::PageRow;
+use crate::resident_page::{ResidentPage, find, is_of_object, owner, stands_at};
 use std::alloc::Global;
 use std::marker::Model;
 use vm_base::{FrameNo, NoMemory, ObjectId, PageKey, PageNo};
@@ -17,19 +15,20 @@ use vm_base::{FrameNo, NoMemory, ObjectId, PageKey, PageNo};
 /// its page. Only `reserve` takes memory.
 #[derive(Drop)]
 pub struct Resident {
-    index: Index,
+    // By rising object, and by rising page of an object.
+    pages: Vec<ResidentPage>,
 }
 
 impl Model for Resident {
+    ghost use Rattle.std.specs.Prelude.{◌-◌, length, vec_capacity};
+    ghost use Rattle.vm_resident.specs.Kept.{ByKey};
     ghost use Rattle.vm_resident.specs.Resident.{ResidentTable};
 
     ghost Value = { ResidentTable };
 
-    ghost use Rattle.vm_resident.specs.Kept.{IsIndex, table_of};
+    ghost view = { λ s. record { rows = s.pages.items; spare = vec_capacity s.pages - length s.pages.items } };
 
-    ghost view = { λ s. table_of s.index };
-
-    ghost invariant = { λ s. IsIndex s.index };
+    ghost invariant = { λ s. ByKey 0 0 s.pages.items };
 }
 
 impl Resident {
@@ -41,7 +40,7 @@ impl Resident {
         ensures owned { IsOwned result }
     {
         Resident {
-            index: index::no_rows(alloc),
+            pages: Vec::new(alloc),
         }
     }
 
@@ -53,7 +52,8 @@ impl Resident {
         ensures succeeds { n ≤ self.old.spare → IsOk result }
         ensures err { OnErr result (self.new ≡ self.old) }
     {
-        index::reserve(&mut self.index, n as usize)
+        self.pages.reserve(n as usize)?;
+        Ok(())
     }
 
     /// Puts in the row of a page that has none, where there is room.
@@ -65,14 +65,19 @@ impl Resident {
         ensures frames { owner_of self.old row.frame.0 ≡ None → PutsOwner row.frame.0 (Some key) self.old self.new }
         ensures owned { IsOwned self.old → owner_of self.old row.frame.0 ≡ None → IsOwned self.new }
     {
-        index::put(&mut self.index, key, row);
+        let i = find(&self.pages, key);
+        let _ = self.pages.insert(i, ResidentPage { key, row });
     }
 
     /// The row of a page; None exactly where the page isn't resident.
     pub fn get(&self, key: PageKey) -> Option<PageRow>
         ensures { result ≡ row_at self.now key.object.0 key.page.0 }
     {
-        index::row_of(&self.index, key)
+        let i = find(&self.pages, key);
+        if !stands_at(&self.pages, i, key) {
+            return None;
+        }
+        Some(self.pages[i].row)
     }
 
     /// Changes the row of a page, which keeps its frame.
@@ -83,7 +88,8 @@ impl Resident {
         ensures frames { (f : ℕ) → owner_of self.new f ≡ owner_of self.old f }
         ensures owned { IsOwned self.old → IsOwned self.new }
     {
-        index::change(&mut self.index, key, row);
+        let i = find(&self.pages, key);
+        self.pages[i] = ResidentPage { key, row };
     }
 
     /// Takes out the row of a page; None exactly where the page wasn't resident.
@@ -95,7 +101,12 @@ impl Resident {
         ensures owned { IsOwned self.old → IsOwned self.new }
         ensures none { result ≡ None → self.new ≡ self.old }
     {
-        index::take(&mut self.index, key)
+        let i = find(&self.pages, key);
+        if !stands_at(&self.pages, i, key) {
+            return None;
+        }
+        let page = self.pages.remove(i);
+        Some(page.row)
     }
 
     /// The first resident page of an object from a page on, which is itself looked at.
@@ -103,7 +114,11 @@ impl Resident {
         ensures { MatchOption result (NoRowsFrom self.now object.0 from.0)
             (λ page. IsNextPage self.now object.0 from.0 page.0) }
     {
-        index::next_page(&self.index, object, from)
+        let i = find(&self.pages, PageKey { object, page: from });
+        if !is_of_object(&self.pages, i, object) {
+            return None;
+        }
+        Some(self.pages[i].key.page)
     }
 
     /// The page whose row has a frame; the first such page, if several have it.
@@ -112,13 +127,6 @@ impl Resident {
         ensures row { MatchOption result (NoRowHas self.now f.0)
             (λ key. IsSomeAnd (row_at self.now key.object.0 key.page.0) (λ row. row.frame.0 ≡ f.0)) }
     {
-        index::page_of(&self.index, f)
-    }
-
-    /// The rows by their pages.
-    pub fn table(&self) -> &IndexMap<PageKey, PageRow>
-        ensures rows { (object page : ℕ) → get same_page result.now (page_key object page) ≡ row_at self.now object page }
-    {
-        &self.index.table
+        owner(&self.pages, f)
     }
 }

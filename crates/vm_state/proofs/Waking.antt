@@ -1,7 +1,6 @@
 -- Who waits, once those are to be run again that were to be woken.
 use Rattle.std.proofs.Common.{Bool, List, None, Option, Some, ap, false, refl, subst, sym, true, ℕ, ◌∙◌, ◌≡◌}
 use Rattle.std.specs.Prelude.{if◌then◌else◌, option_map}
-use Rattle.vm_base.specs.declared.ids.PageKey.{PageKey}
 use Rattle.vm_maps.specs.Judge.{IsAllowed}
 use Rattle.vm_maps.specs.Maps.{Mapped}
 use Rattle.vm_model.specs.Waiting.{Access}
@@ -19,7 +18,6 @@ use Rattle.vm_waits.specs.Wants.{IsSizedWant, address_in, need_in}
 use Rattle.vm_waits.specs.declared.waiting.On.{On}
 use Rattle.vm_waits.specs.declared.waiting.On.TheVariants as on
 use Rattle.vm_waits.specs.declared.waiting.Waiting.{Waiting}
-use Rattle.vm_waits.specs.declared.waiting.Want.{Want}
 
 told_same : (x y : Option Waiting) → option_map (λ (w : Waiting). w.want) y ≡ option_map (λ (w : Waiting). w.want) x → waiting_in x ≡ waiting_in y
 told_same None None same = refl

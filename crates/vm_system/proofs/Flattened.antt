@@ -59,8 +59,8 @@ never_lost header outside o p [] caused file fine = refl
 never_lost header outside o p (event.Taken (Up at object) (message.Return control page dirty keep bytes) ∷ past) caused file fine = by (object.0 == o && page.0 == p) (never_lost header outside o p past caused.1 file fine)
   where
     by : (b : Bool) → is_lost o p past ≡ false → (if b then false else is_lost o p past) ≡ false
-    by true before = refl
-    by false before = before
+    by true was = refl
+    by false was = was
 never_lost header outside o p (event.DeviceFailed device.Files how object page ∷ past) caused file fine = never_so fine
 never_lost header outside o p (event.DeviceFailed device.Paging how object page ∷ past) caused file fine =
     or_none (fails_writing o p (event.DeviceFailed device.Paging how object page)) (is_lost o p past)

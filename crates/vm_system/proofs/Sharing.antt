@@ -1,18 +1,19 @@
 -- What the laws of shared memory say of a system's history, and of the server that stands for it.
-use Rattle.vm_system.proofs.Common.{AllSupplied, BeforeSteps, Bool, CopiesCurrent, EachEvent, EachMoment, Event, HasCause, HasOneWriter, Header, IsPaid, List, MeetsProtocol, Message, ObjectId, Outside, OwnBytes, ServerStands, ServerTable, [], ap, arith, false, is_file, is_shared, kind_of, named, nat_lt, nat_tests, never, page_part, queue, refl, subst, sym, true, up, up_word, ℕ, ◌&&◌, ◌∙◌, ◌∷◌, ◌≡◌, ◌<◌, ◌≤◌, ◌||◌, first, if◌then◌else◌, AllServed, ◌==◌}
-use Rattle.std.specs.Prelude.{slice_index}
-use Rattle.sms_pages.proofs.Taken.{begins}
+use Rattle.vm_system.proofs.Common.{AllSupplied, BeforeSteps, Bool, CopiesCurrent, EachEvent, EachMoment, Event, HasCause, HasOneWriter, Header, IsPaid, List, MeetsProtocol, Message, ObjectId, Outside, OwnBytes, ServerStands, ServerTable, [], ap, arith, false, is_file, is_shared, kind_of, named, nat_lt, nat_tests, never, page_part, queue, refl, subst, sym, true, up, up_word, ℕ, ◌&&◌, ◌∙◌, ◌∷◌, ◌≡◌, ◌<◌, ◌≤◌, ◌||◌}
+use Rattle.std.specs.Prelude.{replicate, slice_index}
 use Rattle.sms_server.proofs.Serving.{same_stands}
 use Rattle.sms_server.specs.Stands.{IsNewServer}
-use Rattle.sms_server.specs.Table.{IsSameTable, directory_at, heard_at, new_directory}
+use Rattle.sms_pages.proofs.Taken.{begins}
+use Rattle.sms_pages.specs.Stands.{StandsFor}
+use Rattle.sms_server.specs.Table.{IsSameTable, directory_at, directory_in, heard_at, heard_in, new_directory, row_among}
+use Rattle.sms_server.specs.declared.page_row.PageRow.{PageRow}
 use Rattle.vm_base.specs.declared.ids.ObjectKind.{ObjectKind}
 use Rattle.vm_base.specs.declared.ids.ObjectKind.TheVariants as kinds
 use Rattle.vm_legal.specs.Outside.{is_file_kept, is_file_kind, is_shared_kind, is_wild, is_wild_kind, kind_in}
 use Rattle.vm_model.specs.Named.{declared}
 use Rattle.vm_model.specs.declared.script.Declared.{Declared}
 use Rattle.std.proofs.Common.{Option, Some, None}
-use Rattle.vm_model.specs.Side.{side}
-use Rattle.vm_model.specs.Words.{Asking, Doing, OtherUp, Returning, Unlocking, in_range}
+use Rattle.vm_model.specs.Words.{Asking, Doing, OtherUp, Unlocking, UpWord, in_range}
 use Rattle.vm_model.specs.declared.event.Event.TheVariants as event
 use Rattle.vm_model.specs.declared.message.Message.TheVariants as message
 use Rattle.vm_shared.proofs.Causes.{licensed}
@@ -59,7 +60,7 @@ protocol_met header outside h object (message.Request control page access) past 
     by true is =
         let same : page.0 ≡ p = grind (arith, nat_tests) in
         subst (λ (q : ℕ). MeetsProtocol h (Asking control access) (page_part header.size object.0 q past)) same
-        (request_alone header outside h object.0 control access page past causes (licensed header outside past causes own object.0 page.0 shared) head).0
+        (request_alone header outside h object.0 control access page past causes own shared head).0
     by false is = tt
 protocol_met header outside h object (message.Unlock control page access) past shared causes own paid head p = by (page.0 == p) refl
   where
@@ -67,7 +68,7 @@ protocol_met header outside h object (message.Unlock control page access) past s
     by true is =
         let same : page.0 ≡ p = grind (arith, nat_tests) in
         subst (λ (q : ℕ). MeetsProtocol h (Unlocking access) (page_part header.size object.0 q past)) same
-        (unlock_alone header outside h object.0 control access page past causes paid shared (licensed header outside past causes own object.0 page.0 shared) head).0
+        (unlock_alone header outside h object.0 control access page past causes own paid shared head).0
     by false is = tt
 protocol_met header outside h object (message.Return control page dirty keep bytes) past shared causes own paid head p = by (page.0 == p)
   where
@@ -77,7 +78,7 @@ protocol_met header outside h object (message.Return control page dirty keep byt
 protocol_met header outside h object (message.Completed control page count) past shared causes own paid head p = by (in_range p page.0 count) refl
   where
     mine : (count ≡ 1) × ((side h (page_part header.size object.0 page.0 past)).awaited_control ≡ control)
-    mine = completed_mine header outside h object.0 control count page past causes paid shared (licensed header outside past causes own object.0 page.0 shared) head
+    mine = completed_mine header outside h object.0 control count page past causes own paid shared head
 
     by : (b : Bool) → in_range p page.0 count ≡ b → MeetsProtocol h (if b then Doing control count else OtherUp) (page_part header.size object.0 p past)
     by true is =
@@ -86,7 +87,7 @@ protocol_met header outside h object (message.Completed control page count) past
         λ awaited. subst (λ (q : ℕ). (side h (page_part header.size object.0 q past)).awaited_control ≡ control) same mine.1
     by false is = tt
 protocol_met header outside h object (message.Terminate control) past shared causes own paid head p =
-    (ended_mine header outside h object.0 control p past causes paid shared (licensed header outside past causes own object.0 p shared) head).1
+    (ended_mine header outside h object.0 control p past causes own paid shared head).1
 protocol_met header outside h object m past shared causes own paid head p = tt
 
 -- the server
@@ -94,8 +95,9 @@ protocol_met header outside h object m past shared causes own paid head p = tt
 pub server_start : (header : Header) (table : ServerTable) → IsNewServer header table → ServerStands header table []
 server_start header table new = record {
   size = new.size;
-  pages = λ o p shared. rw (new.rows, new.size) (begins header.size (new_directory header.size) (record { holds = refl; awaits = refl; line = refl; bytes = refl }));
-  heard = λ o p shared h. rw new.rows refl;
+  pages = λ o p shared. subst (λ (rows : List PageRow). StandsFor header.size (directory_in table.size (row_among o p rows)) []) (sym new.rows)
+      (begins header.size (new_directory table.size) (record { holds = refl; awaits = refl; line = refl; bytes = ap (λ n. replicate n 0) new.size }));
+  heard = λ o p shared h. ap (λ (rows : List PageRow). heard_in (row_among o p rows) h) new.rows;
 }
 
 pub server_same : (header : Header) (old new : ServerTable) (past : List Event) → IsSameTable old new → ServerStands header old past → ServerStands header new past

@@ -1,5 +1,7 @@
--- Where no header line is one for which nothing is built, each object that a script declares is a file or a shared one.
-use Rattle.std.proofs.Common.{◌≡◌, ℕ, ◌+◌, ◌-◌, nat_lt, Bool, true, false, ◌||◌, cond, List, [], ◌∷◌, length, replicate, inl, inr, ◌⊎◌, Option, Some, None, Result, Ok, Err, refl, ap, slice_set, subst}
+-- Where no header line is one for which nothing is built, a script declares files and shared objects alone.
+use Rattle.std.proofs.Common.{◌≡◌, ℕ, inl, inr, ◌+◌, ◌-◌, ◌≤◌, nat_lt, nat_le, Bool, true, false, ◌&&◌, ◌||◌, cond, List, [], ◌∷◌, length, reverse, replicate, Option, Some, None, Result, Ok, Err, refl, ap, arith, slice_set, subst}
+use Rattle.std.proofs.lemmas.Bool.{ltb-true, ltb-false}
+use Rattle.std.proofs.lemmas.List.{length-set, length-replicate, length-reverse}
 use Rattle.std.proofs.lemmas.List.Elements.{All-nil, All-cons}
 use Rattle.std.specs.List.{All}
 use Rattle.vm_base.specs.declared.ids.ObjectKind.{ObjectKind}
@@ -13,16 +15,16 @@ use Rattle.vm_text.specs.declared.meaning.HeaderWord.TheVariants as heads
 use Rattle.vm_text.specs.declared.meaning.CommandWord.{CommandWord}
 use Rattle.vm_text.specs.Forms.{Heading, header_words, command_words, stands_already, header_form, hosts_line, frames_line, page_line, slots_line, new_name, object_line, command_form, host_in_word, page_size}
 use Rattle.vm_text.specs.Script.{Reading, nothing_read, Whole, whole_of, header_line, command_line, line_read, lines_read, script_of, whole_script}
-use Rattle.vm_text.specs.Unbuilt.{is_unbuilt_header, is_unbuilt, unbuilt_from, IsBuilt}
-use Rattle.vm_text.specs.Words.{◌>>=◌, lines_of, words_of, is_comment, word_in, one_word, two_words, number_between}
+use Rattle.vm_text.specs.Unbuilt.{is_unbuilt_header, is_unbuilt, unbuilt_from, IsBuilt, IsSuppliedKind}
+use Rattle.vm_text.specs.Words.{◌>>=◌, lines_of, words_of, is_comment, word_in, one_word, two_words, number_of, number_between, within}
 
--- the object is a file or a shared one
-abbrev IsKept : Declared → Type 0
-IsKept object = (object.kind ≡ kinds.File) ⊎ (object.kind ≡ kinds.Shared)
+-- these objects are such
+abbrev Supplied : List Declared → Type 0
+Supplied objects = All (λ (object : Declared). IsSuppliedKind object.kind) objects
 
--- so are all objects so far
-abbrev SoFar : Heading → Type 0
-SoFar heading = All IsKept heading.objects
+-- those that were declared so far are
+record SoFar (heading : Heading) : Type 0 where
+  supplied : Supplied heading.objects
 
 -- what went before, and what came of it
 bound : {A B : Type 0} (r : Result A ScriptFault) (f : A → Result B ScriptFault) (y : B) → (r >>= f) ≡ Ok y → (x : A) × (r ≡ Ok x) × (f x ≡ Ok y)
@@ -39,14 +41,13 @@ reached true r fault y is = (refl, is)
 reached false r fault y is = absurd (cc)
 
 hosts_ok : (old new : Heading) (line : List (List ℕ)) → hosts_line old line ≡ Ok new → SoFar old → SoFar new
-hosts_ok old new [] is so = absurd (cc)
-hosts_ok old new (a ∷ []) is so = absurd (cc)
-hosts_ok old new (a ∷ b ∷ []) is so =
-    let one = bound (number_between 1 8 a) _ new is in
-    let two = bound (number_between 2 4096 b) _ new one.2 in
-    let new_is : record old { frames = replicate one.0 two.0 } ≡ new = cc in
-    subst SoFar new_is so
-hosts_ok old new (a ∷ b ∷ c ∷ line) is so = absurd (cc)
+hosts_ok old new line is so =
+    let one = bound (two_words line) _ new is in
+    let two = bound (number_between 1 8 one.0.0) _ new one.2 in
+    let three = bound (number_between 2 4096 one.0.1) _ new two.2 in
+    let new_is : record old { frames = replicate two.0 three.0 } ≡ new = cc in
+    let made : SoFar (record old { frames = replicate two.0 three.0 }) = record { supplied = so.supplied } in
+    subst SoFar new_is made
 
 frames_ok : (old new : Heading) (line : List (List ℕ)) → frames_line old line ≡ Ok new → SoFar old → SoFar new
 frames_ok old new line is so =
@@ -54,38 +55,42 @@ frames_ok old new line is so =
     let two = bound (host_in_word old one.0.0) _ new one.2 in
     let three = bound (number_between 2 4096 one.0.1) _ new two.2 in
     let new_is : record old { frames = slice_set old.frames two.0.0 three.0 } ≡ new = cc in
-    subst SoFar new_is so
+    let made : SoFar (record old { frames = slice_set old.frames two.0.0 three.0 }) = record { supplied = so.supplied } in
+    subst SoFar new_is made
 
 page_ok : (old new : Heading) (line : List (List ℕ)) → page_line old line ≡ Ok new → SoFar old → SoFar new
 page_ok old new line is so =
     let one = bound (one_word line) _ new is in
     let two = bound (page_size one.0) _ new one.2 in
     let new_is : record old { size = Some two.0 } ≡ new = cc in
-    subst SoFar new_is so
+    let made : SoFar (record old { size = Some two.0 }) = record { supplied = so.supplied } in
+    subst SoFar new_is made
 
 slots_ok : (old new : Heading) (line : List (List ℕ)) → slots_line old line ≡ Ok new → SoFar old → SoFar new
 slots_ok old new line is so =
     let one = bound (one_word line) _ new is in
     let two = bound (number_between 0 65536 one.0) _ new one.2 in
     let new_is : record old { slots = Some two.0 } ≡ new = cc in
-    subst SoFar new_is so
+    let made : SoFar (record old { slots = Some two.0 }) = record { supplied = so.supplied } in
+    subst SoFar new_is made
 
-object_ok : (old new : Heading) (kind : ObjectKind) (line : List (List ℕ)) → (kind ≡ kinds.File) ⊎ (kind ≡ kinds.Shared) → object_line kind old line ≡ Ok new → SoFar old → SoFar new
-object_ok old new kind line is_kept is so =
+object_ok : (kind : ObjectKind) (old new : Heading) (line : List (List ℕ)) → IsSuppliedKind kind → object_line kind old line ≡ Ok new → SoFar old → SoFar new
+object_ok kind old new line supplied is so =
     let one = bound (two_words line) _ new is in
     let two = bound (new_name old one.0.0) _ new one.2 in
     let three = bound (number_between 1 4096 one.0.1) _ new two.2 in
     let object : Declared = record { name = two.0; kind = kind; pages = three.0 } in
     let new_is : record old { objects = object ∷ old.objects } ≡ new = cc in
-    subst SoFar new_is (All-cons IsKept object old.objects is_kept so)
+    let made : SoFar (record old { objects = object ∷ old.objects }) = record { supplied = All-cons (λ (o : Declared). IsSuppliedKind o.kind) object old.objects supplied so.supplied } in
+    subst SoFar new_is made
 
 header_ok : (old new : Heading) (word : HeaderWord) (line : List (List ℕ)) → header_form old word line ≡ Ok new → is_unbuilt_header word ≡ false → SoFar old → SoFar new
 header_ok old new heads.Hosts line is built so = hosts_ok old new line is so
 header_ok old new heads.Frames line is built so = frames_ok old new line (reached (nat_lt 0 (length old.frames)) (frames_line old line) _ new is).1 so
 header_ok old new heads.Page line is built so = page_ok old new line is so
 header_ok old new heads.Slots line is built so = slots_ok old new line is so
-header_ok old new heads.File line is built so = object_ok old new kinds.File line (inl refl) is so
-header_ok old new heads.Shared line is built so = object_ok old new kinds.Shared line (inr refl) is so
+header_ok old new heads.File line is built so = object_ok kinds.File old new line (inl refl) is so
+header_ok old new heads.Shared line is built so = object_ok kinds.Shared old new line (inr refl) is so
 header_ok old new heads.Wild line is built so = absurd (cc)
 
 header_line_ok : (old new : Reading) (word : HeaderWord) (line : List (List ℕ)) → header_line old word line ≡ Ok new → is_unbuilt_header word ≡ false → SoFar old.heading → SoFar new.heading
@@ -123,7 +128,7 @@ ended : (number : ℕ) (reading : Reading) (script : Script) → lines_read numb
 ended number reading script is so =
     let end = reached (nat_lt 0 (length reading.heading.frames)) (Ok (whole_of reading (number - 1))) _ (whole_script script) is in
     let whole : whole_of reading (number - 1) ≡ whole_script script = cc in
-    subst (All IsKept) (ap (λ (w : Whole). w.objects) whole) so
+    record { supplied = subst Supplied (ap (λ (w : Whole). w.objects) whole) so.supplied }
 
 passed_over : (t : Bool) (n : ℕ) (more : Option ℕ) → cond t (Some n) more ≡ None → (t ≡ false) × (more ≡ None)
 passed_over true n more is = absurd (cc)
@@ -145,4 +150,4 @@ lines_ok number reading (line ∷ lines) script is none so =
 
 pub built : (bytes : List ℕ) (script : Script) → unbuilt_from 1 (lines_of bytes) ≡ None → script_of bytes ≡ Ok (whole_script script) → IsBuilt script.header
 built bytes script none is =
-    lines_ok 1 nothing_read (lines_of bytes) script (passed (nat_lt 1048576 (length bytes)) _ _ (whole_script script) is) none (All-nil IsKept)
+    lines_ok 1 nothing_read (lines_of bytes) script (passed (nat_lt 1048576 (length bytes)) _ _ (whole_script script) is) none (record { supplied = All-nil (λ (object : Declared). IsSuppliedKind object.kind) })

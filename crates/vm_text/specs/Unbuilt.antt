@@ -1,6 +1,7 @@
 -- The first header line that the grammar has, and for which nothing is built.
 use Rattle.std.specs.Prelude.{ℕ, ◌+◌, ◌≡◌, ◌⊎◌, nat_lt, Bool, true, false, List, [], ◌∷◌, length, Option, Some, None, if◌then◌else◌}
 use Rattle.std.specs.List.{All}
+use Rattle.vm_base.specs.declared.ids.ObjectKind.{ObjectKind}
 use Rattle.vm_base.specs.declared.ids.ObjectKind.TheVariants as kinds
 use Rattle.vm_model.specs.Limits.{most_script_bytes}
 use Rattle.vm_model.specs.declared.script.Header.{Header}
@@ -27,6 +28,10 @@ unbuilt_from number (line ∷ lines) = if is_unbuilt (words_of line) then Some n
 abbrev pub unbuilt_of : List ℕ → Option ℕ
 unbuilt_of bytes = if nat_lt most_script_bytes (length bytes) then None else unbuilt_from 1 (lines_of bytes)
 
--- each declared object is a file or a shared one
-abbrev pub IsBuilt : Header → Type 0
-IsBuilt header = All (λ object. (object.kind ≡ kinds.File) ⊎ (object.kind ≡ kinds.Shared)) header.objects.items
+-- a file, or a shared object
+abbrev pub IsSuppliedKind : ObjectKind → Type 0
+IsSuppliedKind kind = (kind ≡ kinds.File) ⊎ (kind ≡ kinds.Shared)
+
+-- each declared object is such
+pub record IsBuilt (header : Header) : Type 0 where
+  pub supplied : All (λ object. IsSuppliedKind object.kind) header.objects.items

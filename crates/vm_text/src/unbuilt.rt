@@ -28,7 +28,7 @@ fn is_unbuilt(line: &[u8]) -> bool
 /// It answers `None` where there is no such line, and for more bytes than a script may have.
 pub fn unbuilt_header(bytes: &[u8]) -> Option<u32>
     ensures exact { result ≡ unbuilt_of bytes.now }
-    // A script that is read declares no object then but files and shared ones.
+    // A script that is read declares files and shared objects alone then.
     ensures built { result ≡ None → (script : Script) → script_of bytes.now ≡ Ok (whole_script script) → IsBuilt script.header }
 {
     if bytes.len() > MOST_SCRIPT_BYTES {

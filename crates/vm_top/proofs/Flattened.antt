@@ -13,7 +13,8 @@ use Rattle.vm_system.specs.Flat.{FilesAreFlat}
 use Rattle.vm_system.specs.Keeping.{FilesCarry}
 use Rattle.vm_system.specs.Steps.{LegalCut}
 use Rattle.vm_system.proofs.Flattened.{flat_files}
-use Rattle.vm_system.proofs.Unfilled.{all_current}
+use Rattle.vm_shared.proofs.Currents.{copies_current}
+use Rattle.vm_system.proofs.Sharing.{none_temporary}
 use Rattle.vm_top.specs.declared.top.Status.{Status}
 use Rattle.vm_top.specs.declared.top.Status.TheVariants as status
 use Rattle.vm_top.specs.declared.words.Report.{Report}
@@ -48,7 +49,8 @@ pub files_flat : (report : Report) (run : Script) (files paging now : List ℕ �
     → FilesCarry run.header files now h → FilesFlatAt (outside_of files paging) files now (Some run) h
 files_flat report run files paging now h before after s runs ends carry =
     let legal = ends_cut report run (outside_of files paging run.header) h before after s ends in
-    flat_files run.header (outside_of files paging run.header) files now legal.0 h legal.1 (all_current run.header (outside_of files paging run.header) h runs.built.paged (cut run.header (outside_of files paging run.header) legal.0 h legal.1.follows))
+    let causes = cut run.header (outside_of files paging run.header) legal.0 h legal.1.follows in
+    flat_files run.header (outside_of files paging run.header) files now legal.0 h legal.1 (copies_current run.header (outside_of files paging run.header) h (none_temporary run.header runs.built.supplied) causes legal.1.holds.own_bytes)
     (files_told run.header files paging) carry
 
 -- nothing has happened

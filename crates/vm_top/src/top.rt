@@ -50,8 +50,8 @@ pub enum Status {
     EventLimit,
     /// No memory was there.
     NoMemory,
-    /// `line` is the first that isn't built: a header line for a shared or a wild object or for more than
-    /// one host, or a `copy` from a file. It is 0 where a script was to be made.
+    /// `line` is the first that isn't built: a header line for a wild object, or a `copy` from a
+    /// declared object. It is 0 where a script was to be made.
     NotBuilt { line: u32 },
 }
 
@@ -272,8 +272,8 @@ fn run<S: Source, K: Sink, F: Backing, P: Backing>(
 ///
 /// `words` are without the program's name. The script is read to its end, or beyond its 1,048,576th
 /// byte by 4,096 bytes at most, and is a script of the grammar before its first step. Under `run` the
-/// events of each step are written, in one piece, when the step has ended. The default pager keeps
-/// its pages in the area `paging0` of `paging`, and the pager of a declared file in the area of the
+/// events of each step are written, in one piece, when the step has ended. The default pager of host H
+/// keeps its pages in the area `pagingH` of `paging`, and the pager of a declared file in the area of the
 /// file's name of `files`. An arming that stands in a backing is taken away first.
 pub fn pagers_main<S: Source, K: Sink, F: Backing, P: Backing>(
     alloc: Global,
