@@ -7,5 +7,6 @@ pub mod Serving
 pub mod Whole
 pub mod Paying
 pub mod Naming
+pub mod Starting
 pub mod Words
 pub mod Answering

@@ -1,7 +1,6 @@
 -- A system stands for its history behind the step of a command that takes no message.
 use Rattle.vm_system.proofs.Common.{AllFilesServe, AllInner, AllQueued, AllRest, AllServe, Arming, CanTell, CanTellAll, Channel, Code, Command, Device, DevicesHaveCause, EachOf, Event, FilesAreKept, Header, HostTable, IfOk, IsOrderly, KeepsLegal, Lawful, LeavesBacking, List, Makes, None, Numbered, OnErr, OnOk, Outside, PagingIsKept, Posts, Result, SameHosts, Some, Spares, State, Stretch, SystemStands, Told, Went, [], all_lined, all_nobodys, all_refused, all_suffice, ap, append_assoc, arith, arms, devices, false, get_or, head, inl, inner_both, is_idle, length, none-some, of_both, queued_lined, queued_refused, refl, refusal, same_Some, slice_get, stretch_none, subst, suc, sym, takes_up, true, zero, ℕ, ◌++◌, ◌<◌, ◌∙◌, ◌∷◌, ◌≡◌}
 use Rattle.std.specs.Prelude.{Ok, Err}
-use Rattle.vm_model.specs.Ranges.{InRange}
 use Rattle.vm_model.specs.declared.event.Device.TheVariants as device
 use Rattle.vm_model.specs.declared.event.Event.TheVariants as event
 use Rattle.vm_model.specs.declared.command.Command.TheVariants as command

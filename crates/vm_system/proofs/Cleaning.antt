@@ -1,10 +1,9 @@
 -- What a file's pager says for a clean.
-use Rattle.vm_system.proofs.Common.{AllInner, AllLicensed, Bool, CanTellAll, CleanEvents, Command, EachIn, EachOf, Event, FileTable, FramesSuffice, Header, IsKnownAs, IsNobodys, IsSupplied, IsOrderly, Known, KnownControl, List, MakesNoControl, MomentsIn, None, ObjectId, Option, Outside, OwnBytes, PageNo, Some, State, SystemStands, [], ap, arith, clean_head, false, head, home_for, inl, inr, is_file, is_idle, is_made, known_below, known_control, length, named, nat_lt, none-some, not, or_known, refl, reverse, same_Some, slice_get, subst, suc, sym, true, up, zero, ℕ, ◌++◌, ◌<◌, ◌||◌, ◌∙◌, ◌∷◌, ◌≡◌, ◌⊎◌, is_shared, refusal, code_where, declared_pages, ◌==◌, ◌+◌}
+use Rattle.vm_system.proofs.Common.{AllInner, AllLicensed, Bool, CanTellAll, CleanEvents, Command, EachIn, EachOf, Event, FileTable, FramesSuffice, Header, IsKnownAs, IsNobodys, IsOrderly, Known, KnownControl, List, MakesNoControl, MomentsIn, None, ObjectId, Option, Outside, OwnBytes, PageNo, Some, State, SystemStands, [], ap, arith, clean_head, false, head, home_for, inl, inr, is_file, is_idle, is_made, known_below, known_control, length, named, nat_lt, none-some, not, or_known, refl, reverse, same_Some, slice_get, subst, suc, sym, true, up, zero, ℕ, ◌++◌, ◌<◌, ◌||◌, ◌∙◌, ◌∷◌, ◌≡◌, ◌⊎◌, is_shared, refusal, code_where, declared_pages, ◌==◌, ◌+◌}
 use Rattle.vm_base.specs.declared.code.Code.TheVariants as code
 use Rattle.vm_legal.proofs.Served.{paged_sends}
 use Rattle.vm_legal.proofs.Unshared.{file_unshared}
 use Rattle.sms_server.specs.Stands.{IsOther as IsServerOther}
-use Rattle.vm_model.specs.Ranges.{InRange}
 use Rattle.vm_model.specs.declared.command.Command.TheVariants as command
 use Rattle.vm_model.specs.declared.event.Event.TheVariants as event
 use Rattle.vm_model.specs.declared.message.Message.TheVariants as message

@@ -1,6 +1,6 @@
 -- What leaves the files' pagers, and the files.
 use Rattle.vm_system.proofs.Apart.{IsAbout}
-use Rattle.vm_system.proofs.Common.{AllFilesServe, Bool, Down, EachOf, Event, FileKept, FileTable, FilesCarry, Header, HostId, List, MayHave, Message, None, ObjectId, Option, SameAreas, Some, Told, Up, [], ap, arith, false, false≢true, home_of, homes_stay, inl, inr, is_file, name_of, named, nat_lt, nat_tests, none-some, refl, sym, true, ℕ, ◌&&◌, ◌++◌, ◌<◌, ◌∙◌, ◌∷◌, ◌≡◌, ◌≢◌, ◌≤◌}
+use Rattle.vm_system.proofs.Common.{AllFilesServe, Bool, Down, EachOf, Event, FileKept, FileTable, FilesCarry, Header, HostId, List, MayHave, Message, None, ObjectId, Option, SameAreas, Some, Told, Up, [], ap, arith, false, false≢true, home_of, homes_stay, inl, inr, is_file, name_of, named, nat_lt, nat_tests, none-some, refl, sym, true, ℕ, ◌&&◌, ◌++◌, ◌<◌, ◌∙◌, ◌∷◌, ◌≡◌, ◌≢◌}
 use Rattle.pg_file.proofs.Carrying.{others_carry}
 use Rattle.pg_file.proofs.Standing.{others}
 use Rattle.pg_file.specs.Stands.{IsOther, PagerStands as FileStands}

@@ -1,5 +1,5 @@
 -- The files hold the flat map: where all was taken, no call of the files has failed, and no control lives.
-use Rattle.std.proofs.Common.{ℕ, ◌≡◌, ◌<◌, ◌≤◌, ◌*◌, ◌⊎◌, ◌==◌, ◌&&◌, ◌||◌, not, nat_lt, inl, inr, Bool, true, false, List, [], ◌∷◌, Option, Some, None, refl, sym, ap, subst, ◌∙◌, arith, if◌then◌else◌, length}
+use Rattle.std.proofs.Common.{ℕ, ◌≡◌, ◌<◌, ◌≤◌, ◌*◌, ◌==◌, ◌&&◌, ◌||◌, not, inl, inr, Bool, true, false, List, [], ◌∷◌, Option, Some, None, refl, sym, ap, ◌∙◌, arith, if◌then◌else◌, length}
 use Rattle.std.proofs.lemmas.Bool.Decides.{nat_tests}
 use Rattle.std.specs.Prelude.{drop, unwrap_or}
 use Rattle.vm_model.specs.declared.command.Numbered.{Numbered}
@@ -11,7 +11,7 @@ use Rattle.vm_model.specs.declared.event.Way.TheVariants as way
 use Rattle.vm_model.specs.declared.message.Channel.TheVariants.{Up}
 use Rattle.vm_model.specs.declared.message.Message.TheVariants as message
 use Rattle.vm_model.specs.declared.script.Header.{Header}
-use Rattle.vm_model.specs.Channels.{queue, up_port}
+use Rattle.vm_model.specs.Channels.{up_port}
 use Rattle.vm_model.specs.Controls.{live_control}
 use Rattle.vm_model.specs.Moments.{EachEvent}
 use Rattle.vm_model.specs.Named.{declared_pages, named}
@@ -25,7 +25,7 @@ use Rattle.vm_legal.specs.Steps.{fails_writing, lacks_slot}
 use Rattle.vm_legal.specs.Undelivered.{undelivered}
 use Rattle.vm_legal.specs.Used.{in_use}
 use Rattle.vm_legal.specs.Walks.{page_on}
-use Rattle.vm_abroad.specs.Home.{HaveHomes, home_of}
+use Rattle.vm_abroad.specs.Home.{home_of}
 use Rattle.vm_flat.proofs.Beyond.{none_beyond}
 use Rattle.vm_flat.proofs.Settled.{settled}
 use Rattle.vm_flat.proofs.Staying.{none_here}

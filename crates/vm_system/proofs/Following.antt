@@ -1,5 +1,5 @@
 -- What the kernels say leaves the pagers and what was stored.
-use Rattle.vm_system.proofs.Common.{Agrees, AllFilesServe, AllInner, AllServe, AllServed, AllTold, Bool, CanTellAll, Command, Content, EachIn, Event, FilesAreKept, FilesCarry, Followed, Going, Header, HostId, HostTable, HostsPart, IsOrderly, IsPaid, Lawful, List, Outside, PagerHasAnswered, PagingIsKept, Posts, SameHosts, ServerStands, SlotTable, SlotsFit, Some, SomeKernelSays, Spares, SparesFiles, SparesPaging, State, Stretch, Told, ap, content_of, devices, paid_more, refl, reverse, slice_get, subst, sym, true, ℕ, ◌++◌, ◌<◌, ◌∙◌, ◌≡◌, ServerTable}
+use Rattle.vm_system.proofs.Common.{Agrees, AllFilesServe, AllInner, AllServe, AllServed, AllTold, Bool, CanTellAll, Command, Content, EachIn, Event, FilesAreKept, FilesCarry, Followed, Going, Header, HostId, HostTable, HostsPart, IsOrderly, IsPaid, Lawful, List, Outside, PagerHasAnswered, PagingIsKept, Posts, SameHosts, ServerStands, SlotTable, SlotsFit, Some, SomeKernelSays, Spares, SparesFiles, SparesPaging, State, Stretch, Told, ap, content_of, devices, paid_more, refl, reverse, slice_get, subst, sym, true, ℕ, ◌++◌, ◌∙◌, ◌≡◌, ServerTable}
 use Rattle.vm_model.specs.declared.event.Device.TheVariants.{Files, Paging}
 use Rattle.vm_system.proofs.Agreeing.{carry_spared, content_stays, devices_said, files_spared, serve_said, spared_said}
 use Rattle.vm_system.proofs.Lawfulness.{lawful_more, others_said, served_more, server_more}

@@ -1,5 +1,5 @@
 -- Whatever isn't a copy has a head where it isn't refused.
-use Rattle.vm_system.proofs.Common.{AllSupplied, Bool, Code, Command, Event, Header, List, Message, None, Option, Some, [], acting, code_where, false, first, head, host_of, is_empty, is_made, is_none, live_control, queue, refl, refusal, take_head, true, ℕ, ◌&&◌, ◌∷◌, ◌≡◌}
+use Rattle.vm_system.proofs.Common.{AllSupplied, Bool, Code, Command, Event, Header, List, Message, None, Option, Some, [], code_where, false, first, head, host_of, is_empty, is_made, is_none, live_control, queue, refl, refusal, take_head, true, ℕ, ◌&&◌, ◌∷◌, ◌≡◌}
 use Rattle.vm_base.specs.declared.code.Code.TheVariants as code
 use Rattle.vm_base.specs.declared.ids.TaskId.{TaskId}
 use Rattle.vm_legal.specs.Outside.{is_wild}

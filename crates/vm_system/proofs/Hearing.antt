@@ -1,5 +1,5 @@
 -- The server hears of a host before it answers it: whoever holds a page, or stands in line for it, has asked for it, from a control that has its channel.
-use Rattle.vm_system.proofs.Common.{Bool, Channel, Down, Event, HasHeard, Header, HostId, IsHeard, IsHostLetter, IsWordUp, List, Message, None, ObjectId, Option, Some, Up, [], ap, arith, false, first, host_id, if◌then◌else◌, inl, inr, is_made, is_of_control, is_shared, length, makes, nat_tests, never, page_part, refl, stands_in, subst, suc, sym, true, zero, ℕ, ◌&&◌, ◌++◌, ◌==◌, ◌||◌, ◌∙◌, ◌∷◌, ◌≡◌, ◌⊎◌, ◌<◌}
+use Rattle.vm_system.proofs.Common.{Bool, Channel, Down, Event, HasHeard, Header, HostId, IsHeard, IsHostLetter, IsWordUp, List, Message, None, ObjectId, Option, Some, Up, [], ap, arith, false, first, host_id, if◌then◌else◌, inl, inr, is_made, is_shared, length, makes, nat_tests, never, page_part, refl, stands_in, subst, suc, sym, true, zero, ℕ, ◌&&◌, ◌++◌, ◌==◌, ◌||◌, ◌∙◌, ◌∷◌, ◌≡◌, ◌⊎◌, ◌<◌}
 use Rattle.vm_model.specs.declared.event.Event.TheVariants as event
 use Rattle.vm_model.specs.declared.message.Message.TheVariants as message
 use Rattle.vm_legal.specs.Licences.{ServerSends}
@@ -7,7 +7,7 @@ use Rattle.vm_model.specs.PageLicences.{ReplyCause, SupplyRow, UpgradeRow}
 use Rattle.vm_model.specs.Server.{Wanting, joined, line, stays, trimmed_line, without_request}
 use Rattle.vm_model.specs.Side.{Side, after_done, is_open_to, side, side_after, side_taken_down}
 use Rattle.vm_model.specs.TaskPlace.{means_page, task_host}
-use Rattle.vm_model.specs.Words.{Act, ActEffect, Asking, Begins, BeginsCopy, Copies, Doing, DownWord, Drops, EndsCopy, Ending as EndingWord, Failing, Fails, Lacking, Loads, Locking, Nothing, Opens, OtherDown, OtherUp, Puts, Readying, Returning, SendsUp, SentDown, StepBegins, Stores, Supplying, TakenUp, TakesDown, Unlocking, UpWord, act_if, act_of, down_word, effect_on, in_range, sent_act_effect, to_others, up_word}
+use Rattle.vm_model.specs.Words.{Act, ActEffect, Asking, Copies, Doing, DownWord, Drops, EndsCopy, Ending as EndingWord, Failing, Fails, Lacking, Locking, Nothing, OtherDown, OtherUp, Puts, Readying, Returning, SendsUp, SentDown, StepBegins, Supplying, TakenUp, TakesDown, Unlocking, UpWord, act_if, act_of, down_word, in_range, sent_act_effect, to_others, up_word}
 
 -- lines
 

@@ -1,5 +1,5 @@
 -- A history stays lawful with each part of a step, and in what is no matter of the server it stands for it as before.
-use Rattle.vm_system.proofs.Common.{AllInner, AllLicensed, AllServed, BeforeSteps, Channel, Command, Down, EachEvent, EachIn, EachOf, Event, HasCause, Header, IsNobodys, IsPaid, Lawful, Licensed, List, Message, None, ObjectId, Option, Outside, OwnBytes, ServerStands, ServerTable, Some, SomeKernelSays, Up, [], each_whole, false, is_shared, lined, steps_whole, subst, sym, ◌++◌, ◌∷◌, ◌≡◌, ℕ}
+use Rattle.vm_system.proofs.Common.{AllInner, AllLicensed, AllServed, Channel, Command, Down, EachEvent, EachIn, EachOf, Event, HasCause, Header, IsPaid, Lawful, Licensed, List, Message, ObjectId, Outside, OwnBytes, ServerStands, ServerTable, SomeKernelSays, Up, [], each_whole, false, is_shared, steps_whole, subst, sym, ◌++◌, ◌∷◌, ◌≡◌, ℕ}
 use Rattle.vm_model.specs.declared.command.Command.TheVariants as command
 use Rattle.vm_model.specs.declared.event.Event.TheVariants as event
 use Rattle.sms_server.specs.Stands.{IsOther as IsServerOther}

@@ -1,23 +1,16 @@
 -- What the laws of shared memory say of a system's history, and of the server that stands for it.
-use Rattle.vm_system.proofs.Common.{AllSupplied, BeforeSteps, Bool, CopiesCurrent, EachEvent, EachMoment, Event, HasCause, HasOneWriter, Header, IsPaid, List, MeetsProtocol, Message, ObjectId, Outside, OwnBytes, ServerStands, ServerTable, [], ap, arith, false, is_file, is_shared, kind_of, named, nat_lt, nat_tests, never, page_part, queue, refl, subst, sym, true, up, up_word, ℕ, ◌&&◌, ◌∙◌, ◌∷◌, ◌≡◌, ◌<◌, ◌≤◌, ◌||◌}
-use Rattle.std.specs.Prelude.{replicate, slice_index}
+use Rattle.vm_system.proofs.Common.{AllSupplied, BeforeSteps, Bool, EachEvent, EachMoment, Event, HasCause, HasOneWriter, Header, IsPaid, List, MeetsProtocol, Message, ObjectId, Outside, OwnBytes, ServerStands, ServerTable, [], arith, false, is_shared, kind_of, named, nat_lt, nat_tests, never, page_part, queue, refl, subst, sym, true, up, up_word, ℕ, ◌&&◌, ◌∙◌, ◌∷◌, ◌≡◌, ◌<◌, ◌||◌, first, if◌then◌else◌, AllServed, ◌==◌}
 use Rattle.sms_server.proofs.Serving.{same_stands}
-use Rattle.sms_server.specs.Stands.{IsNewServer}
-use Rattle.sms_pages.proofs.Taken.{begins}
-use Rattle.sms_pages.specs.Stands.{StandsFor}
-use Rattle.sms_server.specs.Table.{IsSameTable, directory_at, directory_in, heard_at, heard_in, new_directory, row_among}
-use Rattle.sms_server.specs.declared.page_row.PageRow.{PageRow}
+use Rattle.sms_server.specs.Table.{IsSameTable, directory_at}
 use Rattle.vm_base.specs.declared.ids.ObjectKind.{ObjectKind}
 use Rattle.vm_base.specs.declared.ids.ObjectKind.TheVariants as kinds
 use Rattle.vm_legal.specs.Outside.{is_file_kept, is_file_kind, is_shared_kind, is_wild, is_wild_kind, kind_in}
 use Rattle.vm_model.specs.Named.{declared}
 use Rattle.vm_model.specs.declared.script.Declared.{Declared}
 use Rattle.std.proofs.Common.{Option, Some, None}
-use Rattle.vm_model.specs.Words.{Asking, Doing, OtherUp, Unlocking, UpWord, in_range}
-use Rattle.vm_model.specs.declared.event.Event.TheVariants as event
+use Rattle.vm_model.specs.Side.{side}
+use Rattle.vm_model.specs.Words.{Asking, Doing, OtherUp, Returning, Unlocking, in_range}
 use Rattle.vm_model.specs.declared.message.Message.TheVariants as message
-use Rattle.vm_shared.proofs.Causes.{licensed}
-use Rattle.vm_shared.proofs.Currents.{copies_current}
 use Rattle.vm_shared.proofs.Pages.{one_writer}
 use Rattle.vm_shared.proofs.Protocol.{completed_mine, ended_mine, request_alone, unlock_alone}
 use Rattle.vm_shared.specs.Kinds.{NoneIsTemporary}
@@ -91,14 +84,6 @@ protocol_met header outside h object (message.Terminate control) past shared cau
 protocol_met header outside h object m past shared causes own paid head p = tt
 
 -- the server
-
-pub server_start : (header : Header) (table : ServerTable) → IsNewServer header table → ServerStands header table []
-server_start header table new = record {
-  size = new.size;
-  pages = λ o p shared. subst (λ (rows : List PageRow). StandsFor header.size (directory_in table.size (row_among o p rows)) []) (sym new.rows)
-      (begins header.size (new_directory table.size) (record { holds = refl; awaits = refl; line = refl; bytes = ap (λ n. replicate n 0) new.size }));
-  heard = λ o p shared h. ap (λ (rows : List PageRow). heard_in (row_among o p rows) h) new.rows;
-}
 
 pub server_same : (header : Header) (old new : ServerTable) (past : List Event) → IsSameTable old new → ServerStands header old past → ServerStands header new past
 server_same header old new past same stands = record {

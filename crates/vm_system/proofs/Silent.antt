@@ -1,5 +1,5 @@
 -- What holds at the end of a step doesn't change with a line, or with the code of a refusal.
-use Rattle.vm_system.proofs.Common.{AReady, Access, AllInner, AllRest, AnAnswer, AnUnlock, Awaits, Bool, Code, Comes, Copies, Elsewhere, Event, HasPlace, Header, HostIsFull, HostTable, IsExhausted, IsPaid, IsSource, List, None, NoneInVain, Nowhere, Prompt, Raises, Waits, WaitsForPager, WaitsUnlocked, WantsFrame, common_all, created, inl, inr, is_store, page_of, paid_of, refl, ℕ, ◌++◌, ◌∷◌, ◌≡◌, [], up, Some, false, true, ap, is_some}
+use Rattle.vm_system.proofs.Common.{AReady, Access, AllInner, AllRest, AnAnswer, AnUnlock, Awaits, Bool, Code, Comes, Copies, Elsewhere, Event, HasPlace, Header, HostIsFull, HostTable, IsExhausted, IsPaid, IsSource, List, None, NoneInVain, Nowhere, Prompt, Raises, Waits, WaitsForPager, WaitsUnlocked, WantsFrame, common_all, created, inl, inr, is_store, page_of, paid_of, refl, ℕ, ◌++◌, ◌∷◌, ◌≡◌, [], Some, false, true, ap, is_some}
 use Rattle.vm_model.specs.declared.event.Event.TheVariants as event
 
 -- the accesses that wait, and what they wait for

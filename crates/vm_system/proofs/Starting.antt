@@ -1,12 +1,13 @@
 -- A new system stands for the empty history.
-use Rattle.vm_system.proofs.Common.{AllFilesServe, AllQueued, AllRest, AllServe, AllTold, AreEmpty, AreNumbered, Content, FileTable, FilesAreKept, FilesAreTold, FilesCarry, Header, IsSupplied, List, None, Outside, PagerStands, PagingIsKept, Posts, SlotTable, SlotsFit, Some, State, SystemStands, Told, [], ap, arith, content_of, empty, inl, inr, length, length-append, name_of, named, none-some, refl, reverse, same_Some, slice_get, start, subst, suc, sym, take, true, zero, ℕ, ◌++◌, ◌+◌, ◌<◌, ◌∙◌, ◌∷◌, ◌≡◌, ◌⊎◌}
+use Rattle.vm_system.proofs.Common.{AllFilesServe, AllQueued, AllRest, AllServe, AllTold, AreEmpty, AreNumbered, Content, FileTable, FilesAreKept, FilesAreTold, FilesCarry, Header, IsSupplied, List, None, Outside, PagerStands, PagingIsKept, Posts, SlotTable, SlotsFit, Some, State, SystemStands, Told, [], ap, arith, content_of, empty, inl, inr, length, length-append, name_of, named, none-some, refl, reverse, same_Some, slice_get, start, subst, suc, sym, take, true, zero, ℕ, ◌++◌, ◌+◌, ◌∙◌, ◌∷◌, ◌≡◌, ◌⊎◌}
 use Rattle.pg_file.proofs.Carrying.{empty as file_empty}
 use Rattle.pg_file.proofs.Standing.{start as file_start}
 use Rattle.pg_file.specs.Stands.{PagerStands as FileStands, new_table}
 use Rattle.pg_slots.specs.Contents.{Kept as Stored}
 use Rattle.vm_model.specs.declared.script.Declared.{Declared}
 use Rattle.sms_server.specs.Stands.{IsNewServer}
-use Rattle.vm_system.proofs.Sharing.{served_start, server_start}
+use Rattle.sms_server.proofs.Starting.{server_start}
+use Rattle.vm_system.proofs.Sharing.{served_start}
 use Rattle.vm_system.proofs.Letters.{orderly_none}
 use Rattle.vm_system.proofs.Silent.{paid_start}
 

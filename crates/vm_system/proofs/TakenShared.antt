@@ -1,5 +1,5 @@
 -- A message about a shared object is taken by its server, which answers.
-use Rattle.vm_system.proofs.Common.{AllFilesServe, AllInner, AllLicensed, AllServe, AreServerWords, Bool, CanTellAll, Channel, ChannelId, Command, Content, Device, Down, EachIn, EachOf, Event, FilesAreKept, FilesCarry, Followed, FramesSuffice, HasPageOf, Header, HostId, IsConsequence, IsHostLetter, IsOrderly, IsServerWord, IsSharedWord, IsToServer, IsWord, IsWordUp, List, Licensed, MayTake, MayTakeFrom, Message, MomentsIn, None, ObjectId, Option, Outside, OwnBytes, PagerHasAnswered, PagingIsKept, Posts, ServerAnswer, ServerServes, ServerStands, ServerTable, SlotTable, SlotsFit, Some, Spares, State, Step, TakesStep, Told, Took, Up, [], ap, append_assoc, arith, content_of, devices, each_both, false, first, gives_frame, host_id, inl, inner_both, inr, is_file, is_made, is_shared, kind_of, length, licensed_both, moments_both, named, never, nat_lt, of_both, others, others_carry, page_part, queue, refl, reverse, sent_to, slice_get, subst, sym, taken_letter, taken_more, true, up, ℕ, ◌++◌, ◌<◌, ◌≤◌, ◌∙◌, ◌∷◌, ◌≡◌, ◌⊎◌, Letter, same_Some}
+use Rattle.vm_system.proofs.Common.{AllFilesServe, AllInner, AllLicensed, AllServe, AreServerWords, Bool, CanTellAll, Channel, ChannelId, Command, Content, Device, Down, EachIn, EachOf, Event, Followed, FramesSuffice, Header, HostId, IsConsequence, IsHostLetter, IsOrderly, IsServerWord, IsSharedWord, IsToServer, IsWord, IsWordUp, List, Licensed, MayTake, MayTakeFrom, Message, MomentsIn, None, ObjectId, Option, Outside, OwnBytes, PagerHasAnswered, PagingIsKept, Posts, ServerAnswer, ServerServes, ServerTable, SlotTable, SlotsFit, Some, Spares, State, Step, TakesStep, Told, Took, Up, [], ap, append_assoc, arith, content_of, devices, each_both, false, first, gives_frame, host_id, inl, inner_both, inr, is_file, is_made, is_shared, kind_of, length, licensed_both, moments_both, named, never, nat_lt, of_both, others, others_carry, page_part, queue, refl, reverse, slice_get, subst, sym, taken_letter, taken_more, true, up, ℕ, ◌++◌, ◌<◌, ◌∙◌, ◌∷◌, ◌≡◌, ◌⊎◌, Letter, same_Some}
 use Rattle.vm_model.specs.declared.event.Device.TheVariants.{Files, Paging}
 use Rattle.vm_model.specs.declared.event.Event.TheVariants as event
 use Rattle.vm_model.specs.declared.message.Message.TheVariants as message
@@ -14,10 +14,9 @@ use Rattle.vm_legal.specs.Outside.{is_shared_kind}
 use Rattle.sms_server.specs.Stands.{IsCreate}
 use Rattle.sms_server.specs.Answers.{ReturnsWhole}
 use Rattle.sms_server.specs.Table.{IsSameTable}
-use Rattle.vm_system.proofs.Answering.{IsReply, reply_consequences, reply_frames, reply_inner, reply_nobodys, reply_own, reply_spares}
+use Rattle.vm_system.proofs.Answering.{IsReply, reply_consequences, reply_frames, reply_inner, reply_nobodys, reply_own}
 use Rattle.vm_system.proofs.Apart.{IsAbout, apart_of, declared_fit, declared_stand}
 use Rattle.vm_shared.proofs.Causes.{licensed}
-use Rattle.sms_server.proofs.Acting.{others_serve as served_other}
 use Rattle.sms_server.proofs.Whole.{causes as server_causes, served as server_served, stands as server_stands}
 use Rattle.sms_server.proofs.Paying.{paid as server_paid}
 use Rattle.vm_system.proofs.Sharing.{server_same, protocol_met}
@@ -187,8 +186,7 @@ greeted header at about m events past inner letter host object control size take
     let here : at.0 ≡ host = ap (λ (z : Letter). host_in z.channel) same in
     let its : about.0 ≡ object = ap (λ (z : Letter). object_in z.channel) same in
     let said : m ≡ message.Init control size = ap (λ (z : Letter). z.message) same in
-    let word : IsWordUp header.size (λ k. is_made (Down at about k) past) (message.Init control size) = subst (λ (z : Message). IsWordUp header.size (λ k. is_made (Down at about k) past) z) said letter.1 in
-    (
+    let word : IsWordUp header.size (λ k. is_made (Down at about k) past) (message.Init control size) = subst (λ (z : Message). IsWordUp header.size (λ k. is_made (Down at about k) past) z) said letter.1 in (
       subst (λ (n : ℕ). n < length header.frames.items) here letter.0,
       made_all (Down (host_id host) (record { 0 = object }) control) events (event.Taken (Up at about) m ∷ past)
           (subst (λ (n : ℕ). is_made (Down (host_id n) (record { 0 = object }) control) past ≡ true) here (subst (λ (n : ℕ). is_made (Down at (record { 0 = n }) control) past ≡ true) its word)),

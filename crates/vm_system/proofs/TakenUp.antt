@@ -1,5 +1,5 @@
 -- A message about a temporary object is taken by the default pager of a host, which answers.
-use Rattle.vm_system.proofs.Common.{AllFilesServe, AllLicensed, AllServe, AnswerHasCause, AreNumbered, CanTellAll, CarriesContent, Channel, ChannelId, Content, CountRises, Device, DevicesHaveCause, EachIn, Err, Event, Followed, FramesSuffice, Going, HasRoom, Header, HostId, IsAreaTold, IsConsequence, IsHostLetter, IsToPager, KeepsShape, LeavesAreas, List, Listed, MayTake, MayTakeFrom, Message, MomentsIn, ObjectId, Ok, Option, Outside, OwnBytes, PagerHasAnswered, PagerServes, PagerStands, PagingIsKept, Posts, ReturnsWhole, SameAreas, SameHosts, SlotTable, SlotsFit, Some, SparesFiles, State, Step, SuppliesStored, TakesStep, TellsFault, Told, Took, Up, [], after_message, ap, append_assoc, area_name, arith, carries, causes, content_of, declared_pages, devices, each_both, first, get_or, gives_frame, inl, inner_both, inr, is_heard_elsewhere, length, length-append, length-set, licensed_both, lined, moments_both, named, of_both, others, others_carry, paid, paid_more, queue, refl, same_Some, set, slice_get, slice_get-get_or, slice_get_within, stands, subst, suc, sym, take, true, zero, ℕ, ◌++◌, ◌+◌, ◌<◌, ◌∙◌, ◌∷◌, ◌≡◌, ◌≤◌, ◌⊎◌, reverse}
+use Rattle.vm_system.proofs.Common.{AllFilesServe, AllLicensed, AllServe, AnswerHasCause, AreNumbered, CanTellAll, CarriesContent, Channel, ChannelId, Content, CountRises, Device, DevicesHaveCause, EachIn, Err, Event, Followed, FramesSuffice, Going, HasRoom, Header, HostId, IsAreaTold, IsConsequence, IsHostLetter, IsToPager, KeepsShape, LeavesAreas, List, Listed, MayTake, MayTakeFrom, Message, MomentsIn, ObjectId, Ok, Option, Outside, OwnBytes, PagerHasAnswered, PagerServes, PagerStands, PagingIsKept, Posts, ReturnsWhole, SameAreas, SameHosts, SlotTable, SlotsFit, Some, SparesFiles, State, Step, SuppliesStored, TakesStep, TellsFault, Told, Took, Up, [], after_message, ap, append_assoc, area_name, arith, carries, causes, content_of, devices, each_both, first, get_or, gives_frame, inl, inner_both, inr, is_heard_elsewhere, length, length-append, length-set, licensed_both, lined, moments_both, named, of_both, others, others_carry, paid, queue, refl, same_Some, set, slice_get, slice_get-get_or, slice_get_within, stands, subst, suc, sym, take, true, zero, ℕ, ◌++◌, ◌+◌, ◌<◌, ◌∙◌, ◌∷◌, ◌≡◌, ◌≤◌, ◌⊎◌, reverse}
 use Rattle.std.proofs.Common.{◌≢◌}
 use Rattle.pg_default.specs.Answers.{PagerAnswer as Answers}
 use Rattle.vm_base.specs.declared.failure.NoMemory.{NoMemory}

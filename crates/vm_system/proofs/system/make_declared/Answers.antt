@@ -1,4 +1,4 @@
-use Rattle.vm_system.proofs.Common.{List, ap, arith, length, reverse, take, ℕ, ◌++◌, ◌+◌, ◌∙◌, ◌∷◌, ◌≡◌, []}
+use Rattle.vm_system.proofs.Common.{List, ap, arith, length, reverse, take, ℕ, ◌++◌, ◌∙◌, ◌∷◌, ◌≡◌, []}
 use Rattle.std.proofs.lemmas.List.{length-reverse}
 use Rattle.vm_model.specs.declared.script.Declared.{Declared}
 use Rattle.vm_system.proofs.Starting.{all_taken, next_taken}
