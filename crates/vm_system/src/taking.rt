@@ -236,10 +236,10 @@ impl State {
             unreachable!()
         };
         let washed = gives_frame(message);
-        let replies = self.server.answer(host, object, message)?;
-        let fresh = replies.len() + 1;
+        let words = self.server.answer(host, object, message)?;
+        let fresh = words.len() + 1;
         self.take_first(line, number);
-        self.commit(replies);
+        self.commit(words);
         self.follow(host, fresh, washed)
     }
 

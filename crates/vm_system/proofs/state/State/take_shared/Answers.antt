@@ -77,8 +77,8 @@ answer-requires-clause-whole g c =
     let word = up_shared given c.args.line c.args.number c.args.host c.args.object m t any c.requires.1 at in
     rw any.stands.agrees.server.size word.2
 
-pub returns-in_err-replies-clause-spares : goal.returns-in_err-replies-clause-spares
-returns-in_err-replies-clause-spares g c =
+pub returns-in_err-words-clause-spares : goal.returns-in_err-words-clause-spares
+returns-in_err-words-clause-spares g c =
     let e = c.reserve-2.ensures in
     same_all g.given.header g.given.outside c.args.self.now _ (same_pagers _ _ e.hosts) (same_files _ _ e.hosts) e.history
 
@@ -115,8 +115,8 @@ commit-requires-clause-can g c =
     let any = may_reserved given c.args.line c.args.number channel (record s { server = c.reserve.new.self }) t ready r.hosts r.history r.made r.numbers r.letters r.buffers in
     let m = c.in-Some-head.message.now in
     let at = may_head given c.args.line c.args.number channel m t any c.in-Some-head.ensures in
-    let e = c.in_ok-replies.ensures in
-    let events = c.in_ok-replies.replies.items in
+    let e = c.in_ok-words.ensures in
+    let events = c.in_ok-words.words.items in
     let table = c.answer.new.self in
     let reply = shared_reply given c.args.line c.args.number c.args.host c.args.object m t table events any c.requires.1 at e.answered e.words in
     let told = first_told given c.args.line c.args.number channel m t t c.take_first.new.self any at refl refl c.take_first.ensures.history in
@@ -127,12 +127,12 @@ commit-requires-clause-room g c =
     let r = c.reserve-2.ensures in
     let most = c.in_ok-most.most in
     let fits = c.in_ok-most.ensures.most in
-    let few = c.in_ok-replies.ensures.few in
+    let few = c.in_ok-words.ensures.few in
     let same : most_events c.args.object.0 c.reserve-2.new.self.server ≡ most_events c.args.object.0 c.reserve.new.self = ap (most_events c.args.object.0) r.hosts.server in
-    let less : length c.in_ok-replies.replies.items ≤ most = omega (arith, few, same, fits) in
+    let less : length c.in_ok-words.words.items ≤ most = omega (arith, few, same, fits) in
     let room = subst (λ (n : ℕ). HasRoom n c.reserve-2.new.self) c.in-Some.ensures.1 c.in_ok-reserve.ensures.room in
     let two = c.take_first.ensures.room most (record { history = room.history; channels = room.channels; numbers = room.numbers; letters = room.letters; buffers = room.buffers }) in
-    fewer_room (length c.in_ok-replies.replies.items) most c.take_first.new.self less two
+    fewer_room (length c.in_ok-words.words.items) most c.take_first.new.self less two
 
 pub follow-requires : goal.follow-requires
 follow-requires g c =
@@ -145,8 +145,8 @@ follow-requires g c =
     let any = may_reserved given c.args.line c.args.number channel (record s { server = c.reserve.new.self }) t ready r.hosts r.history r.made r.numbers r.letters r.buffers in
     let m = c.in-Some-head.message.now in
     let at = may_head given c.args.line c.args.number channel m t any c.in-Some-head.ensures in
-    let e = c.in_ok-replies.ensures in
-    let events = c.in_ok-replies.replies.items in
+    let e = c.in_ok-words.ensures in
+    let events = c.in_ok-words.words.items in
     let table = c.answer.new.self in
     let reply = shared_reply given c.args.line c.args.number c.args.host c.args.object m t table events any c.requires.1 at e.answered e.words in
     let told = first_told given c.args.line c.args.number channel m t t c.take_first.new.self any at refl refl c.take_first.ensures.history in
@@ -174,8 +174,8 @@ returns-clause-took g c =
     let any = may_reserved given c.args.line c.args.number channel (record s { server = c.reserve.new.self }) t ready r.hosts r.history r.made r.numbers r.letters r.buffers in
     let m = c.in-Some-head.message.now in
     let at = may_head given c.args.line c.args.number channel m t any c.in-Some-head.ensures in
-    let e = c.in_ok-replies.ensures in
-    let events = c.in_ok-replies.replies.items in
+    let e = c.in_ok-words.ensures in
+    let events = c.in_ok-words.words.items in
     let table = c.answer.new.self in
     let reply = shared_reply given c.args.line c.args.number c.args.host c.args.object m t table events any c.requires.1 at e.answered e.words in
     let told = first_told given c.args.line c.args.number channel m t t c.take_first.new.self any at refl refl c.take_first.ensures.history in
@@ -200,8 +200,8 @@ returns-clause-cut g c =
     let any = may_reserved given c.args.line c.args.number channel (record s { server = c.reserve.new.self }) t ready r.hosts r.history r.made r.numbers r.letters r.buffers in
     let m = c.in-Some-head.message.now in
     let at = may_head given c.args.line c.args.number channel m t any c.in-Some-head.ensures in
-    let e = c.in_ok-replies.ensures in
-    let events = c.in_ok-replies.replies.items in
+    let e = c.in_ok-words.ensures in
+    let events = c.in_ok-words.words.items in
     let table = c.answer.new.self in
     let reply = shared_reply given c.args.line c.args.number c.args.host c.args.object m t table events any c.requires.1 at e.answered e.words in
     let told = first_told given c.args.line c.args.number channel m t t c.take_first.new.self any at refl refl c.take_first.ensures.history in
@@ -222,8 +222,8 @@ returns-clause-spares g c =
     let any = may_reserved given c.args.line c.args.number channel (record s { server = c.reserve.new.self }) t ready r.hosts r.history r.made r.numbers r.letters r.buffers in
     let m = c.in-Some-head.message.now in
     let at = may_head given c.args.line c.args.number channel m t any c.in-Some-head.ensures in
-    let e = c.in_ok-replies.ensures in
-    let events = c.in_ok-replies.replies.items in
+    let e = c.in_ok-words.ensures in
+    let events = c.in_ok-words.words.items in
     let table = c.answer.new.self in
     let reply = shared_reply given c.args.line c.args.number c.args.host c.args.object m t table events any c.requires.1 at e.answered e.words in
     let told = first_told given c.args.line c.args.number channel m t t c.take_first.new.self any at refl refl c.take_first.ensures.history in
