@@ -229,7 +229,7 @@ pub record AllTold (header : Header) (events past : List Event) : Type 0 where
   pub can : CanTellAll header.size events past
 
 page_of_answer : (size : ℕ) (m : Message) → IsWord size m → HasPageOf size m
-page_of_answer size (message.Supply page lock precious bytes) is = is.2
+page_of_answer size (message.Supply page lock precious bytes) is = is.1
 page_of_answer size (message.Return control page dirty keep bytes) is = absurd is
 page_of_answer size m is = tt
 
@@ -267,7 +267,7 @@ replied header host at size object control page None events past old server size
 replied header host at size object control page (Some held.Lost) events past old server sized is = subst (λ (x : List Event). AllTold header x past) (sym is) (told_one header host at object control (error page) past old server tt)
 replied header host at size object control page (Some (held.Torn s)) events past old server sized is = subst (λ (x : List Event). AllTold header x past) (sym is) (told_one header host at object control (error page) past old server tt)
 replied header host at size object control page (Some (held.Kept s)) events past old server sized (inl supplied) =
-    subst (λ (x : List Event). AllTold header x past) (sym supplied.2) (told_one header host at object control (supply page supplied.0) past old server (refl, refl, supplied.1 ∙ sized))
+    subst (λ (x : List Event). AllTold header x past) (sym supplied.2) (told_one header host at object control (supply page supplied.0) past old server (omega arith, supplied.1 ∙ sized))
 replied header host at size object control page (Some (held.Kept s)) events past old server sized (inr failed) =
     let failure : AllTold header (device_failed Read object page ∷ []) past = record { orderly = orderly_silent header (device_failed Read object page) past tt old; can = (tt, tt) } in
     subst (λ (x : List Event). AllTold header x past) (sym failed)
@@ -314,7 +314,7 @@ file_replied : (header : Header) (host size : ℕ) (object : ObjectId) (control 
     → FileReply size host object.0 control page lost events → AllTold header events past
 file_replied header host size object control page true events past old server sized is = subst (λ (x : List Event). AllTold header x past) (sym is) (told_one header host host object control (error page) past old server tt)
 file_replied header host size object control page false events past old server sized (inl supplied) =
-    subst (λ (x : List Event). AllTold header x past) (sym supplied.2) (told_one header host host object control (supply page supplied.0) past old server (refl, refl, supplied.1 ∙ sized))
+    subst (λ (x : List Event). AllTold header x past) (sym supplied.2) (told_one header host host object control (supply page supplied.0) past old server (omega arith, supplied.1 ∙ sized))
 file_replied header host size object control page false events past old server sized (inr (inl lacking)) =
     subst (λ (x : List Event). AllTold header x past) (sym lacking) (told_one header host host object control (message.Unavailable page) past old server tt)
 file_replied header host size object control page false events past old server sized (inr (inr failed)) =
@@ -366,4 +366,4 @@ can_file header host object m past old new events orderly letter own sized is = 
 -- what a file's pager asks for a clean
 pub orderly_cleaned : (header : Header) (host : ℕ) (object : ObjectId) (control : ℕ) (page : PageNo) (count : ℕ) (flush : Bool) (past : List Event) → IsOrderly header past → host < length header.frames.items
     → IsOrderly header (event.Sent (Down (host_id host) object control) (message.Lock page count 2 flush 8 true) ∷ past)
-orderly_cleaned header host object control page count flush past old known = sent_down header host object control (message.Lock page count 2 flush 8 true) past old known (omega arith, refl)
+orderly_cleaned header host object control page count flush past old known = sent_down header host object control (message.Lock page count 2 flush 8 true) past old known (omega arith, inr refl)
