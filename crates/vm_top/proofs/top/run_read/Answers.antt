@@ -12,4 +12,4 @@ returns-clause-carried g c = λ uncut.
 
 pub returns-clause-files_flat : goal.returns-clause-files_flat
 returns-clause-files_flat g c =
-    files_flat c.args.report c.args.script _ _ _ _ _ _ c.finish-status.result c.requires.run (c.finish-status.ensures.ends c.args.script _ _ c.run_script-ran.ensures.ran) c.run_script-ran.ensures.carried
+    files_flat c.args.report c.args.script _ (g.P.Backing.area c.args.paging.now.inner) _ _ (g.K.Sink.written c.args.out.now) (g.K.Sink.written c.finish-status.new.out) c.finish-status.result c.requires.run (c.finish-status.ensures.ends c.args.script _ _ c.run_script-ran.ensures.ran) c.run_script-ran.ensures.carried
