@@ -1,7 +1,5 @@
 -- What the laws of shared memory say of a system's history, and of the server that stands for it.
-use Rattle.vm_system.proofs.Common.{AllSupplied, BeforeSteps, Bool, EachEvent, EachMoment, Event, HasCause, HasOneWriter, Header, IsPaid, List, MeetsProtocol, Message, ObjectId, Outside, OwnBytes, ServerStands, ServerTable, [], arith, false, is_shared, kind_of, named, nat_lt, nat_tests, never, page_part, queue, refl, subst, sym, true, up, up_word, ℕ, ◌&&◌, ◌∙◌, ◌∷◌, ◌≡◌, ◌<◌, ◌||◌, first, if◌then◌else◌, AllServed, ◌==◌}
-use Rattle.sms_server.proofs.Serving.{same_stands}
-use Rattle.sms_server.specs.Table.{IsSameTable, directory_at}
+use Rattle.vm_system.proofs.Common.{AllSupplied, BeforeSteps, Bool, EachEvent, EachMoment, Event, HasCause, HasOneWriter, Header, IsPaid, List, MeetsProtocol, Message, ObjectId, Outside, OwnBytes, [], arith, false, is_shared, kind_of, named, nat_lt, nat_tests, never, page_part, queue, refl, subst, sym, true, up, up_word, ℕ, ◌&&◌, ◌∷◌, ◌≡◌, ◌<◌, ◌||◌, first, if◌then◌else◌, AllServed, ◌==◌}
 use Rattle.vm_base.specs.declared.ids.ObjectKind.{ObjectKind}
 use Rattle.vm_base.specs.declared.ids.ObjectKind.TheVariants as kinds
 use Rattle.vm_legal.specs.Outside.{is_file_kept, is_file_kind, is_shared_kind, is_wild, is_wild_kind, kind_in}
@@ -84,13 +82,6 @@ protocol_met header outside h object (message.Terminate control) past shared cau
 protocol_met header outside h object m past shared causes own paid head p = tt
 
 -- the server
-
-pub server_same : (header : Header) (old new : ServerTable) (past : List Event) → IsSameTable old new → ServerStands header old past → ServerStands header new past
-server_same header old new past same stands = record {
-  size = same.size ∙ stands.size;
-  pages = λ o p shared. same_stands header.size (directory_at old o p) (directory_at new o p) (page_part header.size o p past) (same.pages o p).directory (stands.pages o p shared);
-  heard = λ o p shared h. (same.pages o p).heard h ∙ stands.heard o p shared h;
-}
 
 pub served_start : (header : Header) → AllServed header []
 served_start header object page shared line = absurd (line refl)

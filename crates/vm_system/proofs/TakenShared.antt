@@ -1,5 +1,5 @@
 -- A message about a shared object is taken by its server, which answers.
-use Rattle.vm_system.proofs.Common.{AllFilesServe, AllInner, AllLicensed, AllServe, AreServerWords, Bool, CanTellAll, Channel, ChannelId, Command, Content, Device, Down, EachIn, EachOf, Event, Followed, FramesSuffice, Header, HostId, IsConsequence, IsHostLetter, IsOrderly, IsServerWord, IsSharedWord, IsToServer, IsWord, IsWordUp, List, Licensed, MayTake, MayTakeFrom, Message, MomentsIn, None, ObjectId, Option, Outside, OwnBytes, PagerHasAnswered, PagingIsKept, Posts, ServerAnswer, ServerServes, ServerTable, SlotTable, SlotsFit, Some, Spares, State, Step, TakesStep, Told, Took, Up, [], ap, append_assoc, arith, content_of, devices, each_both, false, first, gives_frame, host_id, inl, inner_both, inr, is_file, is_made, is_shared, kind_of, length, licensed_both, moments_both, named, never, nat_lt, of_both, others, others_carry, page_part, queue, refl, reverse, slice_get, subst, sym, taken_letter, taken_more, true, up, ℕ, ◌++◌, ◌<◌, ◌∙◌, ◌∷◌, ◌≡◌, ◌⊎◌, Letter, same_Some}
+use Rattle.vm_system.proofs.Common.{SameHosts, AllFilesServe, AllInner, AllLicensed, AllServe, AreServerWords, Bool, CanTellAll, Channel, ChannelId, Command, Content, Device, Down, EachIn, EachOf, Event, Followed, FramesSuffice, Header, HostId, IsConsequence, IsHostLetter, IsOrderly, IsServerWord, IsSharedWord, IsToServer, IsWord, IsWordUp, List, Licensed, MayTake, MayTakeFrom, Message, MomentsIn, None, ObjectId, Option, Outside, OwnBytes, PagerHasAnswered, PagingIsKept, Posts, ServerAnswer, ServerServes, ServerTable, SlotTable, SlotsFit, Some, Spares, State, Step, TakesStep, Told, Took, Up, [], ap, append_assoc, arith, content_of, devices, each_both, false, first, gives_frame, host_id, inl, inner_both, inr, is_file, is_made, is_shared, kind_of, length, licensed_both, moments_both, named, never, nat_lt, of_both, others, others_carry, page_part, queue, refl, reverse, slice_get, subst, sym, taken_letter, taken_more, true, up, ℕ, ◌++◌, ◌<◌, ◌∙◌, ◌∷◌, ◌≡◌, ◌⊎◌, Letter, same_Some}
 use Rattle.vm_model.specs.declared.event.Device.TheVariants.{Files, Paging}
 use Rattle.vm_model.specs.declared.event.Event.TheVariants as event
 use Rattle.vm_model.specs.declared.message.Message.TheVariants as message
@@ -13,13 +13,12 @@ use Rattle.vm_legal.specs.Licences.{PagerSends, ServerSends}
 use Rattle.vm_legal.specs.Outside.{is_shared_kind}
 use Rattle.sms_server.specs.Stands.{IsCreate}
 use Rattle.sms_server.specs.Answers.{ReturnsWhole}
-use Rattle.sms_server.specs.Table.{IsSameTable}
 use Rattle.vm_system.proofs.Answering.{IsReply, reply_consequences, reply_frames, reply_inner, reply_nobodys, reply_own}
 use Rattle.vm_system.proofs.Apart.{IsAbout, apart_of, declared_fit, declared_stand}
 use Rattle.vm_shared.proofs.Causes.{licensed}
 use Rattle.sms_server.proofs.Whole.{causes as server_causes, served as server_served, stands as server_stands}
 use Rattle.sms_server.proofs.Paying.{paid as server_paid}
-use Rattle.vm_system.proofs.Sharing.{server_same, protocol_met}
+use Rattle.vm_system.proofs.Sharing.{protocol_met}
 use Rattle.vm_system.proofs.Filing.{carry_about, files_about}
 use Rattle.vm_system.proofs.Following.{filed_spares, kept_at}
 use Rattle.vm_system.proofs.Hearing.{granted, made_all, upgraded}
@@ -27,7 +26,7 @@ use Rattle.vm_system.proofs.Lawfulness.{lawful_more, lawful_taken}
 use Rattle.vm_system.proofs.Letters.{letter_first, orderly_taken, washed_out}
 use Rattle.vm_system.proofs.Sayings.{AllTold, page_of_answer, sent_down, told_none}
 use Rattle.vm_system.proofs.Taken.{Front, devices_lined, front_carry, front_content, front_of, front_settled, front_suffice, taken_licensed, takes_step, taken_suffice}
-use Rattle.vm_system.proofs.TakenUp.{going, up_letter}
+use Rattle.vm_system.proofs.TakenUp.{going, may_reserved, up_letter}
 
 -- a shared object is declared, and no file
 
@@ -367,32 +366,10 @@ took_shared given host object m s new old table events said followed =
       paid = followed.stands.paid;
     }
 
--- with room made in the server all is as it was
-pub may_prepared : (given : Step) (line : Option ℕ) (number : ChannelId) (channel : Channel) (s : State) (table : ServerTable) → MayTakeFrom given line number channel s → IsSameTable s.server table → MayTakeFrom given line number channel (record s { server = table })
-may_prepared given line number channel s table may same =
-    let stands = may.stands in
-    let agrees = stands.agrees in
-    let posts = agrees.posts in
-    record {
-      stands = record {
-        built = stands.built;
-        rests = stands.rests;
-        queues = stands.queues;
-        agrees = record {
-          size = agrees.size;
-          declared = agrees.declared;
-          pagers = agrees.pagers;
-          files = agrees.files;
-          server = server_same given.header s.server table s.history.items same agrees.server;
-          posts = record { channels = posts.channels; count = posts.count; letters = posts.letters; buffers = posts.buffers };
-          orderly = agrees.orderly;
-          lawful = agrees.lawful;
-        };
-        paid = stands.paid;
-        served = stands.served;
-      };
-      past = may.past;
-      made = may.made;
-      may = may.may;
-      some = may.some;
-    }
+-- with room made behind the server's answer, all but the server is as it was
+pub may_answered : (given : Step) (line : Option ℕ) (number : ChannelId) (channel : Channel) (s t : State) (table : ServerTable) → MayTakeFrom given line number channel s → SameHosts (record s { server = table }) t
+    → t.history.items ≡ s.history.items → t.channels.made ≡ s.channels.made → t.ports.channels ≡ s.ports.channels → t.ports.letters ≡ s.ports.letters → t.buffers.size ≡ s.buffers.size
+    → MayTakeFrom given line number channel (record t { server = s.server })
+may_answered given line number channel s t table may same items made numbers letters buffers =
+    may_reserved given line number channel s (record t { server = s.server }) may
+    (record { size = same.size; hosts = same.hosts; pagers = same.pagers; declared = same.declared; files = same.files; server = refl }) items made numbers letters buffers

@@ -227,16 +227,15 @@ impl State {
         ensures cut { OnErr result (MayBeCut given self.old.history.items self.new.history.items) }
         ensures spares { Spares given.header given.outside self.old self.new }
     {
-        let most = self.server.reserve(object)?;
-        let Some(count) = most.checked_add(2) else {
-            return Err(NoMemory);
-        };
-        self.reserve(count)?;
         let Some(message) = self.ports.head(number) else {
             unreachable!()
         };
         let washed = gives_frame(message);
         let words = self.server.answer(host, object, message)?;
+        let Some(count) = words.len().checked_add(2) else {
+            return Err(NoMemory);
+        };
+        self.reserve(count)?;
         let fresh = words.len() + 1;
         self.take_first(line, number);
         self.commit(words);
