@@ -1,6 +1,6 @@
 -- What the file holds behind an answer.
-use Rattle.std.proofs.Common.{ℕ, ◌≡◌, ◌≤◌, ◌<◌, ◌+◌, ◌*◌, ◌⊎◌, ◌==◌, not, Bool, true, false, List, [], ◌∷◌, ◌++◌, length, Option, Some, None, Ok, refl, sym, ◌∙◌, ap, subst, arith, inl, inr}
-use Rattle.std.proofs.lemmas.Bool.{false≢true}
+use Rattle.std.proofs.Common.{ℕ, ◌≡◌, ◌≤◌, ◌<◌, ◌+◌, ◌*◌, ◌⊎◌, ◌==◌, not, Bool, true, false, List, [], ◌∷◌, ◌++◌, drop, length, Option, Some, None, Ok, refl, sym, ◌∙◌, ap, subst, arith, inl, inr, ⊎_elim}
+use Rattle.std.proofs.lemmas.Bool.{cases_lt, false≢true}
 use Rattle.std.proofs.lemmas.Bool.Decides.{nat_tests}
 use Rattle.std.specs.Prelude.{unwrap_or}
 use Rattle.vm_base.specs.Listing.{Listed}
@@ -9,21 +9,23 @@ use Rattle.vm_model.specs.declared.message.Message.{Message}
 use Rattle.vm_model.specs.declared.message.Message.TheVariants as message
 use Rattle.vm_model.specs.declared.script.Header.{Header}
 use Rattle.vm_legal.specs.Pagers.{is_lost, last_return, newer}
-use Rattle.vm_outside.specs.Areas.{AfterFault, SameAreas, Told, WriteTold, read_at, write_at}
-use Rattle.vm_outside.specs.Bytes.{length-write_at, read_at-elsewhere, read_at-torn, read_at-written}
+use Rattle.vm_outside.specs.Areas.{AfterFault, SameAreas, Told, Torn, WriteTold, read_at, write_at}
+use Rattle.vm_outside.specs.Bytes.{length-write_at, read_at-elsewhere, read_at-torn, read_at-written, torn_whole}
+use Rattle.pg_file.proofs.Dropping.{drop-torn}
 use Rattle.pg_file.specs.Answers.{FileAnswer, LeavesFile, ReturnsWhole, is_stored, told_of, write_answer}
 use Rattle.pg_file.specs.Files.{FileTable, has_lost}
 use Rattle.pg_file.specs.Stands.{CarriesFile, FileKept, IsOther, PagerServes, taking}
 use Rattle.pg_file.proofs.Facts.{Holds, Leaves, Returned, holds_taken, leaves_all, nothing_new, on_sent, others_leave, requested, returned}
 
 pub empty : (size host object : ℕ) (start : Option (List ℕ)) → FileKept size host object start start []
-empty size host object start = record { page = λ p kept. refl; least = omega arith }
+empty size host object start = record { page = λ p kept. refl; least = omega arith; beyond = λ n none. refl }
 
 pub kept_on : (size host object : ℕ) (start now : Option (List ℕ)) (past later : List Event) → Holds object past later → FileKept size host object start now past → FileKept size host object start now later
 kept_on size host object start now past later holds kept = record {
   page = λ p stored.
       kept.page p (sym (holds.lost p) ∙ stored) ∙ ap (λ (was : Option (List ℕ)). newer was (Some (read_at (unwrap_or start []) (p * size) size))) (sym (holds.last host p));
   least = kept.least;
+  beyond = λ n none. kept.beyond n (λ p above. sym (holds.last host p) ∙ none p above);
 }
 
 pub others_carry : (size host object : ℕ) (start now : Option (List ℕ)) (e : Event) (past : List Event) → IsOther object e → FileKept size host object start now past → FileKept size host object start now (e ∷ past)
@@ -48,12 +50,20 @@ record Writes (size page : ℕ) (bytes : List ℕ) (stored : Bool) (was now : Op
   here : stored ≡ true → read_at (unwrap_or now []) (page * size) size ≡ bytes
   elsewhere : (p : ℕ) → (page == p) ≡ false → read_at (unwrap_or now []) (p * size) size ≡ read_at (unwrap_or was []) (p * size) size
   least : length (unwrap_or was []) ≤ length (unwrap_or now [])
+  beyond : (n : ℕ) → page < n → drop (n * size) (unwrap_or now []) ≡ drop (n * size) (unwrap_or was [])
+
+-- past the page a torn write leaves all as it was
+dropped : (size page n : ℕ) (bytes was now : List ℕ) → length bytes ≡ size → page < n → Torn was (page * size) (length bytes) now → drop (n * size) now ≡ drop (n * size) was
+dropped size page n bytes was now whole less left =
+    let front = in_front page n size less in
+    drop-torn was (page * size) (length bytes) now left (n * size) (omega (arith, front, whole))
 
 written : (size page : ℕ) (bytes : List ℕ) (was : Option (List ℕ)) → length bytes ≡ size → Writes size page bytes true was (Some (write_at (unwrap_or was []) (page * size) bytes))
 written size page bytes was whole = record {
   here = λ stored. subst (λ (n : ℕ). read_at (write_at (unwrap_or was []) (page * size) bytes) (page * size) n ≡ bytes) whole (read_at-written (unwrap_or was []) (page * size) bytes);
   elsewhere = λ p apart. read_at-elsewhere (unwrap_or was []) (page * size) bytes (p * size) size (pages_apart page p size (length bytes) whole apart);
   least = let long = length-write_at (unwrap_or was []) (page * size) bytes in grind arith;
+  beyond = λ n less. dropped size page n bytes (unwrap_or was []) (write_at (unwrap_or was []) (page * size) bytes) whole less (torn_whole (unwrap_or was []) (page * size) bytes);
 }
 
 torn : (size page : ℕ) (bytes : List ℕ) (was now : Option (List ℕ)) → length bytes ≡ size → AfterFault was (page * size) (length bytes) now → Writes size page bytes false was now
@@ -61,11 +71,13 @@ torn size page bytes was None whole none = record {
   here = λ stored. absurd (false≢true stored);
   elsewhere = λ p apart. rw none refl;
   least = rw none (omega arith);
+  beyond = λ n less. rw none refl;
 }
 torn size page bytes was (Some now) whole left = record {
   here = λ stored. absurd (false≢true stored);
   elsewhere = λ p apart. read_at-torn (unwrap_or was []) (page * size) (length bytes) now left (p * size) size (pages_apart page p size (length bytes) whole apart);
   least = left.least;
+  beyond = λ n less. dropped size page n bytes (unwrap_or was []) now whole less left;
 }
 
 -- what a write of a page left
@@ -86,8 +98,23 @@ kept_returned : (size host object page : ℕ) (bytes : List ℕ) (stored : Bool)
 kept_returned size host object page bytes stored start was now past later facts writes kept = record {
   page = λ p keeps. by p keeps (page == p) refl;
   least = let one = kept.least in let two = writes.least in omega (arith, one, two);
+  beyond = λ n none. writes.beyond n (below n none) ∙ kept.beyond n (λ p above. unreturned n none p above);
 }
   where
+    itself : (k : ℕ) → (k == k) ≡ true
+    itself k = grind (arith, nat_tests)
+
+    -- the page was returned
+    below : (n : ℕ) → ((p : ℕ) → n ≤ p → last_return host object p later ≡ None) → page < n
+    below n none = ⊎_elim (λ less. less) (λ above. absurd (let last : last_return host object page later ≡ Some bytes = rw (itself page) at (facts.last page) in let bad : Some bytes ≡ None = sym last ∙ none page above in cc)) (cases_lt page n)
+
+    unreturned : (n : ℕ) → ((p : ℕ) → n ≤ p → last_return host object p later ≡ None) → (p : ℕ) → n ≤ p → last_return host object p past ≡ None
+    unreturned n none p above =
+        let less = below n none in
+        let apart : (page == p) ≡ false = grind (arith, nat_tests) in
+        let last : last_return host object p later ≡ last_return host object p past = rw apart at (facts.last p) in
+        sym last ∙ none p above
+
     begun : ℕ → Option (List ℕ)
     begun p = Some (read_at (unwrap_or start []) (p * size) size)
 

@@ -4,4 +4,5 @@ pub mod Facts
 pub mod Standing
 pub mod Causes
 pub mod Debts
+pub mod Dropping
 pub mod Carrying

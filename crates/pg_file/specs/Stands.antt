@@ -1,5 +1,5 @@
 -- When a file's pager stands for a history, and what that history says of its file.
-use Rattle.std.specs.Prelude.{ℕ, ◌≡◌, ◌≢◌, ◌≤◌, ◌*◌, true, false, List, [], ◌∷◌, length, Option, Some, None, unwrap_or}
+use Rattle.std.specs.Prelude.{ℕ, ◌≡◌, ◌≢◌, ◌≤◌, ◌*◌, true, false, List, [], ◌∷◌, drop, length, Option, Some, None, unwrap_or}
 use Rattle.vm_model.specs.declared.event.Event.{Event}
 use Rattle.vm_model.specs.declared.event.Event.TheVariants as event
 use Rattle.vm_model.specs.declared.message.Channel.TheVariants.{Up}
@@ -58,6 +58,8 @@ pub record FileKept (size host object : ℕ) (start now : Option (List ℕ)) (pa
   pub page : (p : ℕ) → is_lost object p past ≡ false
       → Some (read_at (unwrap_or now []) (p * size) size) ≡ newer (last_return host object p past) (Some (read_at (unwrap_or start []) (p * size) size))
   pub least : length (unwrap_or start []) ≤ length (unwrap_or now [])
+  -- no byte is touched, nor made, past the pages that were returned
+  pub beyond : (n : ℕ) → ((p : ℕ) → n ≤ p → last_return host object p past ≡ None) → drop (n * size) (unwrap_or now []) ≡ drop (n * size) (unwrap_or start [])
 
 -- what is told of the files at the start is what the object's file held
 pub record IsStartTold (header : Header) (outside : Outside) (object : ℕ) (start : Option (List ℕ)) : Type 0 where

@@ -333,11 +333,11 @@ fn headers_that_are_not_built(rt: HostRuntime) {
     for (script, line) in [
         ("", 0),
         ("hosts 1 4\nframes 0 2\npage 16\nslots 3\ntask 0 0\n", 0),
-        ("hosts 2 4\n", 1),
-        ("page 16\r\n\thosts  08 4", 2),
+        ("hosts 2 4\n", 0),
+        ("page 16\r\n\thosts  08 4", 0),
         ("hosts 1 4\nfile f 1\nfile g 4096\nload 0 0 1\n", 0),
-        ("# wild w 1\n\n hosts 01 4\n  file f 1\nshared s 1\n", 5),
-        ("shared s 1\nhosts 1 2", 1),
+        ("# wild w 1\n\n hosts 01 4\n  file f 1\nshared s 1\n", 0),
+        ("shared s 1\nhosts 2 2\n\twild w 1", 3),
         ("page 16\nwild w 2\nhosts 3 4\n", 2),
     ] {
         assert_eq!(rt; unbuilt_header(script.as_bytes()).unwrap_or(0), line);

@@ -5,12 +5,10 @@ use Rattle.std.specs.Prelude.{Bool, nat_lt, ◌&&◌}
 use Rattle.vm_kernel.specs.Matches.{IsRanged}
 use Rattle.vm_legal.specs.Outside.{Outside, is_file, is_file_kept}
 use Rattle.vm_model.specs.Named.{declared, named}
-use Rattle.vm_model.specs.Ranges.{KeepsRanges}
 use Rattle.vm_model.specs.declared.script.Header.{Header}
-use Rattle.vm_model.specs.declared.script.Script.{Script}
 use Rattle.vm_outside.specs.Areas.{Told}
 use Rattle.vm_system.specs.Keeping.{FilesAreTold}
-use Rattle.vm_system.specs.Stands.{IsOfFiles}
+use Rattle.vm_system.specs.Stands.{IsSupplied}
 
 no_file : (header : Header) → header.objects.items ≡ [] → (o : ℕ) → is_file header o ≡ true → {A : Type 0} → A
 no_file header none o file = absurd (let bad : false ≡ true = sym (one (named header) (is_file_kept (declared header o)) (ap length none)) ∙ file in cc)
@@ -18,20 +16,11 @@ no_file header none o file = absurd (let bad : false ≡ true = sym (one (named 
     one : (n : ℕ) (b : Bool) → n ≡ 0 → nat_lt o n && b ≡ false
     one n b zero = let none : nat_lt o n ≡ false = grind (arith, nat_tests) in rw none refl
 
-pub bare : (header : Header) → IsRanged header → header.objects.items ≡ [] → IsOfFiles header
+pub bare : (header : Header) → IsRanged header → header.objects.items ≡ [] → IsSupplied header
 bare header ranged none = record {
   ranged = ranged;
-  paged = λ o below. let zero : named header ≡ 0 = ap length none in absurd (omega (arith, below, zero));
+  supplied = λ o below. let zero : named header ≡ 0 = ap length none in absurd (omega (arith, below, zero));
   names = λ one other first second same. no_file header none one first;
-}
-
-pub ranged : (script : Script) → KeepsRanges script → script.header.objects.items ≡ [] → IsRanged script.header
-ranged script keeps none = record {
-  size = keeps.size;
-  hosts = keeps.hosts;
-  few = λ i d below. let most = (keeps.frames i d below).1 in omega (arith, most);
-  objects = keeps.objects;
-  kinds = λ k d below. let zero : named script.header ≡ 0 = ap length none in absurd (omega (arith, below, zero));
 }
 
 pub untold : (header : Header) (outside : Outside) (start : List ℕ → Told) → header.objects.items ≡ [] → FilesAreTold header outside start

@@ -3,8 +3,6 @@
 #![tactic(auto)]
 
 #[cfg(test)]
-mod hosts;
-#[cfg(test)]
 mod kernel;
 #[cfg(test)]
 mod paging;

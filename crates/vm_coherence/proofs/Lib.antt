@@ -10,6 +10,7 @@ pub mod Whole
 pub mod Ways
 pub mod Carried
 pub mod Still
+pub mod Carrying
 pub mod Opens
 pub mod Single
 pub mod Aligned

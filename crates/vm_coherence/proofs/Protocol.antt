@@ -8,6 +8,7 @@ use Rattle.vm_model.specs.Waiters.{Waiter, waiters, readers}
 use Rattle.vm_model.specs.Server.{first, Wanting, line, NoUpgrade, NoRequest, kept}
 use Rattle.vm_model.specs.PageLicences.{HostMay, UpgradeRow, RecallRow, Cause, ActsLicensed}
 use Rattle.vm_model.specs.Coherence.{Done, begins_step, StepsDone}
+use Rattle.vm_coherence.proofs.Queues.{late_all}
 use Rattle.vm_coherence.proofs.Sound.{Fair, Sound}
 use Rattle.vm_coherence.proofs.Line.{request, upgrade, total, total_front}
 use Rattle.vm_coherence.proofs.Law.{never, World, cause, own_side, other_side, upgrades_one, world}
@@ -177,6 +178,10 @@ none_upgrades h (w ∷ ws) none = (one h w (omega arith), none_upgrades h ws (om
 pending_0 : (s : Side) (control access : ℕ) → Sound s → first s.up ≡ Some (Asking control access) → s.pending ≡ 0
 pending_0 s control access ok is = grind (arith, nat_tests)
 
+-- a host that has told that it ends a control has no request with the server
+ended_0 : (s : Side) (control : ℕ) → Sound s → first s.up ≡ Some (Ending control) → s.pending ≡ 0
+ended_0 s control ok is = grind (arith, nat_tests, late_all s.up)
+
 upgrades_0 : (s : Side) (n access : ℕ) → Single s n → first s.up ≡ Some (Unlocking access) → n ≡ 0
 upgrades_0 s n access x is = grind (arith, nat_tests)
 
@@ -193,3 +198,8 @@ completed_awaited size h control count past licensed done is = done_is_mine (sid
 
 pub ended_awaited : (size h control : ℕ) (past : List Act) → ActsLicensed size past → StepsDone past → first (side h past).up ≡ Some (Ending control) → 0 < (side h past).awaits → (side h past).awaited_control ≡ control
 ended_awaited size h control past licensed done is some = end_is_mine (side h past) (upgrades h past) control ((world size past licensed).each h) ((waits size past licensed done).each h) ((protocol size past licensed done).aligned h) is some
+
+pub ended_unasked : (size h control : ℕ) (past : List Act) → ActsLicensed size past → first (side h past).up ≡ Some (Ending control) → NoRequest h (line past)
+ended_unasked size h control past licensed is =
+    let w = world size past licensed in
+    none_requests h (line past) (w.counted h ∙ ended_0 (side h past) control (w.each h) is)

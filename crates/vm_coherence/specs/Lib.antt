@@ -1,3 +1,4 @@
+pub mod Carried
 pub mod Crossing
 pub mod Idle
 pub mod Locals

@@ -23,6 +23,7 @@ ghost use Rattle.vm_model.specs.Side.{side};
 ghost use Rattle.vm_model.specs.Server.{current, first, line, NoRequest, NoUpgrade};
 ghost use Rattle.vm_model.specs.PageLicences.{ActsLicensed};
 ghost use Rattle.vm_model.specs.PagePart.{page_part, world_part};
+ghost use Rattle.vm_coherence.specs.Carried.{IsCarriedAt};
 ghost use Rattle.vm_coherence.specs.Crossing.{crossing};
 ghost use Rattle.vm_coherence.specs.Idle.{flushed, idle_request};
 ghost use Rattle.vm_coherence.specs.Locals.{SideIsLocal};
@@ -61,17 +62,28 @@ pub fn crossing_run()
 {}
 
 /// What the hosts' own rules give the server of a page: when a request is taken, none of its host is
-/// in the line; when an unlock is taken, no upgrade of its host is; a lock that is said done, and a
-/// control that ends while its host is awaited, are of the control for which the host is awaited.
+/// in the line, nor when the end of one of its controls is; when an unlock is taken, no upgrade of its
+/// host is; a lock that is said done, and a control that ends while its host is awaited, are of the
+/// control for which the host is awaited.
 ///
 /// A server that takes each message in its turn may so note a host's words without looking at the
 /// control that they name.
-#[tactic(auto, using(crate::proofs::Protocol::one_request, crate::proofs::Protocol::one_unlock, crate::proofs::Protocol::completed_awaited, crate::proofs::Protocol::ended_awaited))]
+#[tactic(auto, using(crate::proofs::Protocol::one_request, crate::proofs::Protocol::one_unlock, crate::proofs::Protocol::completed_awaited, crate::proofs::Protocol::ended_awaited, crate::proofs::Protocol::ended_unasked))]
 pub fn protocol_law()
     ensures one_request { (size h control access : ℕ) (acts : List Act) → ActsLicensed size acts → first (side h acts).up ≡ Some (Asking control access) → NoRequest h (line acts) }
     ensures one_unlock { (size h access : ℕ) (acts : List Act) → ActsLicensed size acts → StepsDone acts → first (side h acts).up ≡ Some (Unlocking access) → NoUpgrade h (line acts) }
     ensures completed { (size h control count : ℕ) (acts : List Act) → ActsLicensed size acts → StepsDone acts → first (side h acts).up ≡ Some (Doing control count) → (side h acts).awaited_control ≡ control }
+    ensures ended_unasked { (size h control : ℕ) (acts : List Act) → ActsLicensed size acts → first (side h acts).up ≡ Some (Ending control) → NoRequest h (line acts) }
     ensures ended { (size h control : ℕ) (acts : List Act) → ActsLicensed size acts → StepsDone acts → first (side h acts).up ≡ Some (Ending control) → 0 < (side h acts).awaits → (side h acts).awaited_control ≡ control }
+{}
+
+/// Whatever a host waits for of a page is on its way, or with the server, and so is whatever the server
+/// waits for: a request in the queue up, in the server's line, or answered in the queue down; an unlock
+/// likewise; and of a host that is awaited the lock, that it is done, or the end of the control. Only what
+/// stands in the line waits for somebody else.
+#[tactic(auto, using(crate::proofs::Carrying::carried))]
+pub fn carried_law()
+    ensures carried { (size : ℕ) (acts : List Act) → ActsLicensed size acts → StepsDone acts → (h : ℕ) → IsCarriedAt h acts }
 {}
 
 /// A worked history of a whole system, of 16-byte pages: two hosts map one page and read it, host 0

@@ -13,6 +13,7 @@ use Rattle.vm_model.specs.Waiting.{Storing}
 use Rattle.vm_legal.specs.Outside.{Outside, Told}
 use Rattle.vm_legal.specs.Bytes.{OwnBytes, CopiesCurrent, FlatBytes}
 use Rattle.vm_legal.specs.Licences.{HasCause}
+use Rattle.vm_legal.proofs.Unshared.{NoneIsShared, loads_unshared, none_shared}
 use Rattle.vm_flat.proofs.Loads.{answers}
 
 abbrev header : Header
@@ -310,5 +311,8 @@ own_bytes = (own_39, (tt, (tt, (own_36, (tt, (tt, (own_33, (tt, (tt, (own_30, (o
 current : EachEvent (CopiesCurrent header outside) past_39
 current = (tt, (tt, (tt, (tt, (tt, (tt, (tt, (tt, (tt, (tt, (tt, (tt, (tt, (tt, (tt, (tt, (tt, (tt, (tt, (tt, (tt, (tt, (tt, (tt, (tt, (tt, (tt, (tt, (tt, (tt, (tt, (tt, (tt, (tt, (tt, (tt, (tt, (tt, (tt, (tt, tt))))))))))))))))))))))))))))))))))))))))
 
+unshared : NoneIsShared header
+unshared = none_shared header (λ o below. absurd (omega (arith, below)))
+
 pub answered : EachEvent (FlatBytes header outside) past_39
-answered = answers header outside past_39 caused_39 own_bytes current
+answered = answers header outside past_39 caused_39 own_bytes current (loads_unshared header outside past_39 unshared)

@@ -1,5 +1,5 @@
 -- A run with pageout: a file's page comes back, and a temporary page that got no slot is lost.
-use Rattle.std.proofs.Common.{List, [], ◌∷◌, true, false, refl, arith, inr, inl, ◌≡◌}
+use Rattle.std.proofs.Common.{ℕ, subst, List, [], ◌∷◌, true, false, refl, arith, inr, inl, ◌≡◌}
 use Rattle.vm_base.specs.declared.entry.Entry.{Entry}
 use Rattle.vm_base.specs.declared.ids.Inherit.TheVariants.{Copy}
 use Rattle.vm_base.specs.declared.ids.ObjectKind.TheVariants.{File}
@@ -12,10 +12,11 @@ use Rattle.vm_model.specs.declared.message.Message.TheVariants as message
 use Rattle.vm_model.specs.declared.script.Header.{Header}
 use Rattle.vm_model.specs.Moments.{EachEvent}
 use Rattle.vm_model.specs.Waiting.{Loading, Storing}
-use Rattle.vm_legal.specs.Outside.{Outside, Told}
+use Rattle.vm_legal.specs.Outside.{Outside, Told, is_shared}
 use Rattle.vm_legal.specs.Bytes.{OwnBytes, CopiesCurrent, FlatBytes}
 use Rattle.vm_legal.specs.Licences.{HasCause, Reclaimed, Created}
 use Rattle.vm_flat.proofs.FileStart.{all, mapped, settling, past_0, past_1, past_2, past_3, past_4, past_5, past_6, past_7, past_8, past_9, past_10, past_11, past_12, past_13, past_14, past_15, past_16}
+use Rattle.vm_legal.proofs.Unshared.{NoneIsShared, loads_unshared, none_shared}
 use Rattle.vm_flat.proofs.Loads.{answers}
 
 abbrev header : Header
@@ -172,7 +173,7 @@ caused_10 : EachEvent (HasCause header outside) past_10
 caused_10 = ((settling, (refl, (refl, omega arith))), caused_9)
 
 caused_11 : EachEvent (HasCause header outside) past_11
-caused_11 = ((settling, record { task = 0; access = Loading 64 2; waits = record { waits = refl; at = record { host = 0; entry = mapped; lives = refl; found = refl } }; on_host = refl; unmarked = λ store. refl; comes = record { top = 0; top_page = 0; steps = 0; is_top = record { object = refl; page = refl }; walks = (refl, refl) }; number = refl; live = refl; ready = refl; away = refl; unasked = refl; known = refl }), caused_10)
+caused_11 = ((settling, record { task = 0; access = Loading 64 2; waits = record { waits = refl; at = record { host = 0; entry = mapped; lives = refl; found = refl } }; on_host = refl; unmarked = λ store. refl; comes = record { top = 0; top_page = 0; steps = 0; is_top = record { object = refl; page = refl }; walks = (refl, refl) }; number = refl; live = refl; ready = refl; away = refl; unasked = refl; known = refl; left = tt }), caused_10)
 
 caused_12 : EachEvent (HasCause header outside) past_12
 caused_12 = ((settling, (refl, (refl, omega arith))), caused_11)
@@ -256,7 +257,7 @@ caused_38 : EachEvent (HasCause header outside) past_38
 caused_38 = ((settling, refl), caused_37)
 
 caused_39 : EachEvent (HasCause header outside) past_39
-caused_39 = ((settling, record { task = 0; access = Loading 0 1; waits = record { waits = refl; at = record { host = 0; entry = own; lives = refl; found = refl } }; on_host = refl; unmarked = λ store. refl; comes = record { top = 1; top_page = 0; steps = 0; is_top = record { object = refl; page = refl }; walks = (refl, refl) }; number = refl; live = refl; ready = refl; away = refl; unasked = refl; known = refl }), caused_38)
+caused_39 = ((settling, record { task = 0; access = Loading 0 1; waits = record { waits = refl; at = record { host = 0; entry = own; lives = refl; found = refl } }; on_host = refl; unmarked = λ store. refl; comes = record { top = 1; top_page = 0; steps = 0; is_top = record { object = refl; page = refl }; walks = (refl, refl) }; number = refl; live = refl; ready = refl; away = refl; unasked = refl; known = refl; left = tt }), caused_38)
 
 caused_40 : EachEvent (HasCause header outside) past_40
 caused_40 = ((settling, tt), caused_39)
@@ -280,7 +281,7 @@ caused_46 : EachEvent (HasCause header outside) past_46
 caused_46 = ((settling, refl), caused_45)
 
 caused_47 : EachEvent (HasCause header outside) past_47
-caused_47 = ((settling, record { task = 0; access = Loading 64 2; waits = record { waits = refl; at = record { host = 0; entry = mapped; lives = refl; found = refl } }; on_host = refl; unmarked = λ store. refl; comes = record { top = 0; top_page = 0; steps = 0; is_top = record { object = refl; page = refl }; walks = (refl, refl) }; number = refl; live = refl; ready = refl; away = refl; unasked = refl; known = refl }), caused_46)
+caused_47 = ((settling, record { task = 0; access = Loading 64 2; waits = record { waits = refl; at = record { host = 0; entry = mapped; lives = refl; found = refl } }; on_host = refl; unmarked = λ store. refl; comes = record { top = 0; top_page = 0; steps = 0; is_top = record { object = refl; page = refl }; walks = (refl, refl) }; number = refl; live = refl; ready = refl; away = refl; unasked = refl; known = refl; left = tt }), caused_46)
 
 caused_48 : EachEvent (HasCause header outside) past_48
 caused_48 = ((settling, tt), caused_47)
@@ -315,5 +316,8 @@ own_bytes = (own_52, (tt, (tt, (tt, (tt, (tt, (tt, (tt, (tt, (tt, (tt, (tt, (tt,
 current : EachEvent (CopiesCurrent header outside) past_52
 current = (tt, (tt, (tt, (tt, (tt, (tt, (tt, (tt, (tt, (tt, (tt, (tt, (tt, (tt, (tt, (tt, (tt, (tt, (tt, (tt, (tt, (tt, (tt, (tt, (tt, (tt, (tt, (tt, (tt, (tt, (tt, (tt, (tt, (tt, (tt, (tt, (tt, (tt, (tt, (tt, (tt, (tt, (tt, (tt, (tt, (tt, (tt, (tt, (tt, (tt, (tt, (tt, (tt, tt)))))))))))))))))))))))))))))))))))))))))))))))))))))
 
+unshared : NoneIsShared header
+unshared = none_shared header (λ o below. let first : 0 ≡ o = omega (arith, below) in subst (λ (z : ℕ). is_shared header z ≡ false) first refl)
+
 pub answered : EachEvent (FlatBytes header outside) past_52
-answered = answers header outside past_52 caused_52 own_bytes current
+answered = answers header outside past_52 caused_52 own_bytes current (loads_unshared header outside past_52 unshared)

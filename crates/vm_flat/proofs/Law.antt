@@ -1,5 +1,5 @@
 -- Every load of a sustained history answers the flat map.
-use Rattle.std.proofs.Common.{ℕ, ◌≡◌, ◌+◌, ◌%◌, List, [], ◌∷◌, Bool, true, false, refl, sym, ap, subst, ◌∙◌, arith, Option, Some, None, if◌then◌else◌}
+use Rattle.std.proofs.Common.{ℕ, ◌≡◌, ◌+◌, ◌%◌, ◌||◌, List, [], ◌∷◌, Bool, true, false, refl, sym, ap, subst, ◌∙◌, arith, Option, Some, None, if◌then◌else◌}
 use Rattle.std.proofs.lemmas.Bool.Decides.{nat_tests}
 use Rattle.std.specs.Prelude.{◌==◌, ◌&&◌, ◌||◌, not}
 use Rattle.vm_base.specs.Pages.{little_endian_bytes, with_bytes}
@@ -16,7 +16,7 @@ use Rattle.vm_base.specs.Entries.{page_at}
 use Rattle.vm_model.specs.Bytes.{number_at}
 use Rattle.vm_model.specs.Tasks.{host_of}
 use Rattle.vm_model.specs.Waiting.{Access, Loading, waiting}
-use Rattle.vm_legal.specs.Outside.{Outside, is_private, is_file, is_said}
+use Rattle.vm_legal.specs.Outside.{Outside, is_private, is_file, is_said, is_shared}
 use Rattle.vm_legal.specs.Living.{lives_on}
 use Rattle.vm_legal.specs.Used.{is_kept, made_here}
 use Rattle.vm_flat.proofs.Uses.{in_use}
@@ -27,7 +27,7 @@ use Rattle.vm_legal.specs.Flat.{StoreChange, change_of, bytes_after_store, made_
 use Rattle.vm_legal.specs.Licences as L
 use Rattle.vm_flat.proofs.Sustained as S
 use Rattle.vm_flat.proofs.Sustained.{Sustained, AllSustained}
-use Rattle.vm_legal.specs.Bytes.{OwnBytes, CopiesCurrent, FlatBytes}
+use Rattle.vm_legal.specs.Bytes.{OwnBytes, CopiesCurrent, FlatBytes, LoadsCurrent}
 use Rattle.vm_flat.proofs.Deeds as D
 use Rattle.vm_flat.proofs.Causes as C
 use Rattle.vm_flat.proofs.Regions.{if_no}
@@ -248,9 +248,9 @@ same_load task address bytes other_address other_bytes past one two =
 same_host : (task host other : ℕ) (past : List Event) → host_of task past ≡ Some host → host_of task past ≡ Some other → other ≡ host
 same_host task host other past one two = ap (λ (h : Option ℕ). number_or_zero h) (sym two ∙ one)
 
-loaded : (header : Header) (outside : Outside) (e : Event) (past : List Event) → Holds header outside past → Sustained header outside e past → OwnBytes header e past → FlatBytes header outside e past
-loaded header outside (event.Loaded task object page value) past h c own =
-    record { address = c.address; bytes = c.bytes; waits = c.waits; number = λ ours. number ∙ ap (λ x. number_at x header.size c.address c.bytes) (same ours) }
+loaded : (header : Header) (outside : Outside) (e : Event) (past : List Event) → Holds header outside past → Sustained header outside e past → OwnBytes header e past → LoadsCurrent header outside e past → FlatBytes header outside e past
+loaded header outside (event.Loaded task object page value) past h c own shared =
+    record { address = c.address; bytes = c.bytes; waits = c.waits; number = by_kind (is_private header outside c.waits.at.entry.region.0) refl }
   where
     alike : SameLoad c.address c.bytes own.address own.bytes
     alike = same_load task.0 c.address c.bytes own.address own.bytes past c.waits.waits own.waits.waits
@@ -270,8 +270,13 @@ loaded header outside (event.Loaded task object page value) past h c own =
         (walks header outside c.waits.at.host past h.numbered c.comes.steps c.comes.top c.comes.top_page object.0 page.0 c.comes.walks)
         (here_is header outside c.waits.at.host object.0 page.0 true past c.here) in
         sym (bytes_are header outside c.waits.at.host object.0 page.0 past) ∙ got ∙ h.flats c.waits.at.host c.waits.at.entry.region.0 (page_at header.size c.address c.waits.at.entry)
-loaded header outside e past h c own = tt
 
-pub law : (header : Header) (outside : Outside) (history : List Event) → AllSustained header outside history → EachEvent (OwnBytes header) history → EachEvent (CopiesCurrent header outside) history → EachEvent (FlatBytes header outside) history
-law header outside [] sustained own current = tt
-law header outside (e ∷ past) sustained own current = (loaded header outside e past (holds header outside past sustained.1 current.1) sustained.0 own.0, law header outside past sustained.1 own.1 current.1)
+    by_kind : (private : Bool) → is_private header outside c.waits.at.entry.region.0 ≡ private → private || is_shared header c.waits.at.entry.region.0 ≡ true
+        → value ≡ number_at (flat_page header outside c.waits.at.entry.region.0 (page_at header.size c.address c.waits.at.entry) past) header.size c.address c.bytes
+    by_kind true is flat = number ∙ ap (λ x. number_at x header.size c.address c.bytes) (same is)
+    by_kind false is flat = shared c.address c.bytes c.waits flat
+loaded header outside e past h c own shared = tt
+
+pub law : (header : Header) (outside : Outside) (history : List Event) → AllSustained header outside history → EachEvent (OwnBytes header) history → EachEvent (CopiesCurrent header outside) history → EachEvent (LoadsCurrent header outside) history → EachEvent (FlatBytes header outside) history
+law header outside [] sustained own current loads = tt
+law header outside (e ∷ past) sustained own current loads = (loaded header outside e past (holds header outside past sustained.1 current.1) sustained.0 own.0 loads.0, law header outside past sustained.1 own.1 current.1 loads.1)

@@ -1,5 +1,6 @@
 pub mod Allowed
 pub mod Answered
+pub mod Beyond
 pub mod Caused
 pub mod Causes
 pub mod ChainRun
@@ -27,11 +28,14 @@ pub mod Ports
 pub mod Precious
 pub mod Queues
 pub mod Regions
+pub mod Settled
 pub mod Slow
 pub mod SlowRun
 pub mod Sound
+pub mod Staying
 pub mod Stored
 pub mod Sustained
+pub mod Takings
 pub mod Ties
 pub mod Traffic
 pub mod Translation

@@ -15,11 +15,12 @@ use Rattle.vm_model.specs.declared.script.Header.{Header}
 use Rattle.vm_model.specs.Local.{CanRead}
 use Rattle.vm_model.specs.Moments.{EachEvent}
 use Rattle.vm_model.specs.Waiting.{Loading}
-use Rattle.vm_legal.specs.Outside.{Outside, Untold}
+use Rattle.vm_legal.specs.Outside.{Outside, Untold, is_shared}
 use Rattle.vm_legal.specs.Bytes.{OwnBytes, CopiesCurrent, FlatBytes}
 use Rattle.vm_legal.specs.Licences.{HasCause, IsDoneAt, Wanted, Flushed}
 use Rattle.vm_legal.specs.Walks.{page_on}
 use Rattle.vm_flat.proofs.FileStart.{all, mapped, settling, past_0, past_1, past_2, past_3, past_4, past_5, past_6, past_7, past_8, past_9, past_10, past_11, past_12, past_13, past_14, past_15, past_16}
+use Rattle.vm_legal.proofs.Unshared.{NoneIsShared, loads_unshared, none_shared}
 use Rattle.vm_flat.proofs.Loads.{answers}
 
 abbrev header : Header
@@ -180,7 +181,7 @@ caused_10 : EachEvent (HasCause header outside) past_10
 caused_10 = ((settling, (refl, (refl, omega arith))), caused_9)
 
 caused_11 : EachEvent (HasCause header outside) past_11
-caused_11 = ((settling, record { task = 0; access = Loading 64 2; waits = record { waits = refl; at = record { host = 0; entry = mapped; lives = refl; found = refl } }; on_host = refl; unmarked = λ store. refl; comes = record { top = 0; top_page = 0; steps = 0; is_top = record { object = refl; page = refl }; walks = (refl, refl) }; number = refl; live = refl; ready = refl; away = refl; unasked = refl; known = refl }), caused_10)
+caused_11 = ((settling, record { task = 0; access = Loading 64 2; waits = record { waits = refl; at = record { host = 0; entry = mapped; lives = refl; found = refl } }; on_host = refl; unmarked = λ store. refl; comes = record { top = 0; top_page = 0; steps = 0; is_top = record { object = refl; page = refl }; walks = (refl, refl) }; number = refl; live = refl; ready = refl; away = refl; unasked = refl; known = refl; left = tt }), caused_10)
 
 caused_12 : EachEvent (HasCause header outside) past_12
 caused_12 = ((settling, (refl, (refl, omega arith))), caused_11)
@@ -270,7 +271,7 @@ caused_40 : EachEvent (HasCause header outside) past_40
 caused_40 = ((settling, refl), caused_39)
 
 caused_41 : EachEvent (HasCause header outside) past_41
-caused_41 = ((settling, record { task = 0; access = Loading 64 2; waits = record { waits = refl; at = record { host = 0; entry = mapped; lives = refl; found = refl } }; on_host = refl; unmarked = λ store. refl; comes = record { top = 0; top_page = 0; steps = 0; is_top = record { object = refl; page = refl }; walks = (refl, refl) }; number = refl; live = refl; ready = refl; away = refl; unasked = refl; known = refl }), caused_40)
+caused_41 = ((settling, record { task = 0; access = Loading 64 2; waits = record { waits = refl; at = record { host = 0; entry = mapped; lives = refl; found = refl } }; on_host = refl; unmarked = λ store. refl; comes = record { top = 0; top_page = 0; steps = 0; is_top = record { object = refl; page = refl }; walks = (refl, refl) }; number = refl; live = refl; ready = refl; away = refl; unasked = refl; known = refl; left = tt }), caused_40)
 
 caused_42 : EachEvent (HasCause header outside) past_42
 caused_42 = ((settling, tt), caused_41)
@@ -332,5 +333,8 @@ own_bytes = (tt, (tt, (tt, (tt, (tt, (tt, (own_46, (tt, (tt, (tt, (tt, (tt, (tt,
 current : EachEvent (CopiesCurrent header outside) past_52
 current = (tt, (tt, (tt, (tt, (tt, (tt, (tt, (tt, (tt, (tt, (tt, (tt, (tt, (tt, (tt, (tt, (tt, (tt, (tt, (tt, (tt, (tt, (tt, (tt, (tt, (tt, (tt, (tt, (tt, (tt, (tt, (tt, (tt, (λ shared. absurd (cc), (tt, (tt, (tt, (tt, (tt, (tt, (tt, (tt, (tt, (tt, (tt, (tt, (tt, (tt, (tt, (tt, (tt, (tt, (tt, tt)))))))))))))))))))))))))))))))))))))))))))))))))))))
 
+unshared : NoneIsShared header
+unshared = none_shared header (λ o below. let first : 0 ≡ o = omega (arith, below) in subst (λ (z : ℕ). is_shared header z ≡ false) first refl)
+
 pub answered : EachEvent (FlatBytes header outside) past_52
-answered = answers header outside past_52 caused_52 own_bytes current
+answered = answers header outside past_52 caused_52 own_bytes current (loads_unshared header outside past_52 unshared)

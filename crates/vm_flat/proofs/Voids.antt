@@ -41,7 +41,7 @@ sent_up_void z s o p own live object (message.Return control page dirty keep byt
 sent_up_void z s o p own live object (message.Terminate control) = void_if z s _ Ends Nothing (λ b. refl) refl
 sent_up_void z s o p own live object other = refl
 
-not_absent : {A : Type 0} (a : Asked) → ◌≡◌ {A = Option Asked} None (Some a) → A
+pub not_absent : {A : Type 0} (a : Asked) → ◌≡◌ {A = Option Asked} None (Some a) → A
 not_absent a is = absurd (cc)
 
 abbrev is_up : Option Letter → Bool
@@ -97,7 +97,7 @@ hears_void z s own mine lives asked file = rw (mine, lives, asked, file) refl
 abbrev pub absent : ℕ → ℕ → ℕ → Asked
 absent host o p = record { host = host; object = o; page = p }
 
-record Came (h o p at to index : ℕ) (b : Bool) : Type 0 where
+pub record Came (h o p at to index : ℕ) (b : Bool) : Type 0 where
   pub counts : b ≡ true
   pub host : at ≡ h
   pub object : to ≡ o
@@ -115,7 +115,7 @@ abbrev page_in : Option Asked → ℕ
 page_in None = 0
 page_in (Some a) = a.page
 
-came : (host o p at object page : ℕ) (b : Bool) → (if b then Some (absent at object page) else None) ≡ Some (absent host o p) → Came host o p at object page b
+pub came : (host o p at object page : ℕ) (b : Bool) → (if b then Some (absent at object page) else None) ≡ Some (absent host o p) → Came host o p at object page b
 came host o p at object page true is = record { counts = refl; host = ap (λ x. host_in x) is; object = ap (λ x. object_in x) is; page = ap (λ x. page_in x) is }
 came host o p at object page false is = not_absent _ is
 

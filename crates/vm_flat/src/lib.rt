@@ -1,16 +1,25 @@
 //! What loads of temporary and file memory answer: a law of event lists.
 #![tactic(auto)]
 
-ghost use Rattle.std.specs.Prelude.{ℕ, ◌≡◌, true, List};
+ghost use Rattle.std.specs.Prelude.{ℕ, ◌≡◌, ◌≤◌, ◌<◌, false, true, List, [], length, None, Some};
+ghost use Rattle.vm_model.specs.Channels.{queue, up_port};
 ghost use Rattle.vm_model.specs.Controls.{last_control, live_control};
 ghost use Rattle.vm_model.specs.Founded.{IsFounded};
 ghost use Rattle.vm_model.specs.Local.{is_known_absent, local};
-ghost use Rattle.vm_model.specs.Moments.{EachEvent};
+ghost use Rattle.vm_model.specs.Moments.{BeforeSteps, EachEvent};
+ghost use Rattle.vm_model.specs.Named.{declared_pages};
+ghost use Rattle.vm_model.specs.declared.command.Numbered.{Numbered};
 ghost use Rattle.vm_model.specs.declared.event.Event.{Event};
 ghost use Rattle.vm_model.specs.declared.script.Header.{Header};
-ghost use Rattle.vm_legal.specs.Bytes.{CopiesCurrent, FlatBytes, OwnBytes};
-ghost use Rattle.vm_legal.specs.Licences.{HasCause};
-ghost use Rattle.vm_legal.specs.Outside.{Outside, is_file, is_private};
+ghost use Rattle.vm_legal.specs.Bytes.{CopiesCurrent, FlatBytes, LoadsCurrent, OwnBytes};
+ghost use Rattle.vm_legal.specs.Flat.{flat_page};
+ghost use Rattle.vm_legal.specs.Follows.{FollowsCut};
+ghost use Rattle.vm_legal.specs.Licences.{HasCause, pager_has};
+ghost use Rattle.vm_legal.specs.Outside.{Outside, is_file, is_private, is_said};
+ghost use Rattle.vm_legal.specs.Pagers.{last_return};
+ghost use Rattle.vm_legal.specs.Prompt.{Prompt};
+ghost use Rattle.vm_legal.specs.Used.{in_use};
+ghost use Rattle.vm_legal.specs.Walks.{page_on};
 ghost use Rattle.vm_flat.specs.Locals.{SpotIsLocal};
 ghost use Rattle.vm_flat.specs.Places.{spot};
 
@@ -21,10 +30,11 @@ ghost use Rattle.vm_flat.specs.Places.{spot};
 /// `outside` tells what the files hold at the start, if that is told: else their pages are what
 /// their pagers' answers said last. Where it says that the paging area does not tell, nothing is
 /// said of temporary regions. Of a slow copy from a shared object it is supposed that it takes that
-/// object's flat page: the law of shared memory says so.
+/// object's flat page, and of a load of shared memory that it answers the flat page: the law of shared
+/// memory says so.
 #[tactic(auto, using(crate::proofs::Loads::answers))]
 pub fn loads_answer()
-    ensures { (header : Header) (outside : Outside) (history : List Event) → EachEvent (HasCause header outside) history → EachEvent (OwnBytes header) history → EachEvent (CopiesCurrent header outside) history → EachEvent (FlatBytes header outside) history }
+    ensures { (header : Header) (outside : Outside) (history : List Event) → EachEvent (HasCause header outside) history → EachEvent (OwnBytes header) history → EachEvent (CopiesCurrent header outside) history → EachEvent (LoadsCurrent header outside) history → EachEvent (FlatBytes header outside) history }
 {}
 
 /// A place is what its host has of the page, at every moment of every history: there is one notion of
@@ -36,4 +46,17 @@ pub fn places_are_local()
     ensures page { (header : Header) (outside : Outside) (history : List Event) (host o p : ℕ) → SpotIsLocal (is_file header o) (last_control host o history) (live_control host o history) (spot header outside host o p history) (local header.size host (record { object = o; page = p }) history) }
     ensures known_absent { (header : Header) (outside : Outside) (history : List Event) (host o p : ℕ) → is_private header outside o ≡ true → (spot header outside host o p history).absent ≡ is_known_absent header (record { object = o; page = p }) (local header.size host (record { object = o; page = p }) history) }
     ensures founded { (header : Header) (outside : Outside) (history : List Event) → EachEvent (HasCause header outside) history → EachEvent (IsFounded header.size) history }
+{}
+
+/// What a file's pager took last is the flat map's page, where the file is told, no changed copy of the page
+/// is on the host that uses the file, and nothing is on its way up from there: else it is what the file had.
+///
+/// A page of a file is on a host only while a control of the file lives there, so where none lives nothing
+/// is left of it. And no page past the object's end is ever returned: what the file holds there is never
+/// touched.
+#[tactic(auto, using(crate::proofs::Settled::settled, crate::proofs::Staying::none_here, crate::proofs::Beyond::none_beyond))]
+pub fn files_hold_the_flat_map()
+    ensures settled { (header : Header) (outside : Outside) (history : List Event) → EachEvent (HasCause header outside) history → EachEvent (CopiesCurrent header outside) history → (host o p : ℕ) → is_file header o ≡ true → is_said header outside o ≡ false → in_use header host o history ≡ true → p < declared_pages header o → queue (up_port host o) history ≡ [] → ((page_on header host o p history).here ≡ true → (page_on header host o p history).dirty ≡ false) → pager_has header outside host o p history ≡ Some (flat_page header outside o p history) }
+    ensures away { (header : Header) (outside : Outside) (commands : List Numbered) (history : List Event) → FollowsCut header outside commands history → EachEvent (CopiesCurrent header outside) history → BeforeSteps (Prompt header) history → (host o p : ℕ) → host < length header.frames.items → is_file header o ≡ true → live_control host o history ≡ None → (page_on header host o p history).here ≡ false }
+    ensures beyond { (header : Header) (outside : Outside) (history : List Event) → EachEvent (HasCause header outside) history → EachEvent (CopiesCurrent header outside) history → (host o p : ℕ) → is_file header o ≡ true → declared_pages header o ≤ p → last_return host o p history ≡ None }
 {}

@@ -10,6 +10,7 @@ use Rattle.vm_abroad.proofs.Home.{homes_next}
 use Rattle.vm_base.specs.Limits.{most_objects}
 use Rattle.vm_model.specs.Regions.{marked_below, marked_regions}
 use Rattle.vm_hosts.proofs.Tables.{common_all}
+use Rattle.vm_kernel.proofs.Replied.{nobody_replied}
 
 makes_nothing : (n : ℕ) (events : List Event) → EachOf IsNobodys events → EachOf (MakesOn n) events
 makes_nothing n [] nobodys = tt
@@ -107,6 +108,7 @@ common_more header outside doing ids (e ∷ events) past none nobodys licensed c
       few = subst (λ (z : ℕ). z + marked_regions header (e ∷ events ++ past) ≤ most_objects) (sym same.object) (subst (λ (z : ℕ). next_object header (events ++ past) + z ≤ most_objects) (sym marks) before.few);
       homeless = homes_next header outside e (events ++ past) (doing, licensed.0.0) before.homeless;
       settled = record { returned = none_created e (events ++ past) nobodys.0 none.0; shut = nobodys_shut (e ∷ events) past nobodys common.settled.shut };
+      replied = nobody_replied e (events ++ past) nobodys.0 before.replied;
     }
 
 -- what is no host's has its cause, and no region waits for its entry

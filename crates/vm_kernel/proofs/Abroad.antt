@@ -31,7 +31,7 @@ use Rattle.vm_state.specs.Places.{known_local}
 pub common_of : (header : Header) (h : ℕ) (k : Parts) (ids : Ids) (gone : List Entry) (past : List Event) → Matches header h k ids gone past → IsCommon header ids past
 common_of header h k ids gone past matches =
     let has = matches.regions in
-    record { region = has.region; object = has.object; marks = has.marks; few = has.few; settled = matches.settled; homeless = matches.homeless }
+    record { region = has.region; object = has.object; marks = has.marks; few = has.few; settled = matches.settled; replied = matches.replied; homeless = matches.homeless }
 
 -- what its tables say of its host
 
@@ -239,6 +239,7 @@ module _ (header : Header) (h : ℕ) (k : Parts) (ids next : Ids) (past new : Li
           uses = uses_same apart home;
           controls = controls_same objects;
           settled = common.settled;
+          replied = common.replied;
           homeless = common.homeless;
           laundry = laundry_same;
           frames = frames_same;

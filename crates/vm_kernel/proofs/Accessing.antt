@@ -1,25 +1,29 @@
 -- What a page leaves of the kernel that comes for a waiting access, or by which one ends.
-use Rattle.vm_kernel.proofs.Common.{Access, AllReferred, Bool, Brings, Changes, Event, FrameNo, HasPages, HasWaiters, Header, HostParts, Ids, List, Local, Matches, None, ObjectTable, On, Option, PageKey, PageRow, Parts, Queues, Raises, Some, Stores, WaitTable, Waiting, Woken, Works, Zeroes, [], absent_at, ap, arith, begun_at, clean_row, entry, false, fit_touched, frames_held, frames_wired, host_id, host_of, is_again, is_frame, little_endian_bytes, local, local_after, local_of_row, page_in, place_of, refl, replicate, returns_out, reverse, row_at, rows_in, slice_get, some_is, subst, sym, true, unlocked, waiting, with_bytes, ℕ, ◌+◌, ◌||◌, ◌∙◌, ◌∷◌, ◌≡◌}
+use Rattle.vm_kernel.proofs.Common.{Access, AllReferred, Bool, Brings, Changes, Event, FrameNo, HasPages, HasWaiters, Header, HostParts, Ids, List, Local, Matches, None, ObjectTable, On, Option, PageKey, PageRow, Parts, Queues, Raises, Some, Stores, WaitTable, Waiting, Woken, Works, Zeroes, [], absent_at, ap, arith, begun_at, clean_row, entry, false, fit_touched, frames_held, frames_wired, host_id, host_of, inl, inr, is_again, is_frame, little_endian_bytes, local, local_after, local_of_row, page_in, place_of, refl, replicate, returns_out, reverse, row_at, rows_in, slice_get, some_is, subst, sym, true, unlocked, waiting, with_bytes, ℕ, ◌+◌, ◌||◌, ◌∙◌, ◌∷◌, ◌≡◌}
 use Rattle.vm_abroad.proofs.Home.{object_stays}
 use Rattle.vm_fault.specs.Faults.{KeepsPlan, References, WritesPage}
+use Rattle.vm_fault.specs.Walks.{keeps_out}
 use Rattle.vm_model.specs.declared.event.Event.TheVariants as event
 use Rattle.vm_parts.specs.Changes.{RaisesPage}
 use Rattle.vm_state.proofs.Referred.{referred_row}
-use Rattle.vm_state.proofs.Waiting.{AsksNone, IsNotAsked, asks_none_again, asks_none_frame, here_not_asked, none_not_asked, waiters_over, waiters_page}
+use Rattle.vm_state.proofs.Waiting.{AsksNone, IsUnawaited, asks_none_again, asks_none_frame, here_unawaited, none_unawaited, open_unsent, waiters_over, waiters_page}
+use Rattle.vm_state.specs.Waiters.{is_woken}
 use Rattle.vm_supply.specs.declared.woken.Woken.TheVariants as woken
 use Rattle.vm_terminate.specs.Finishes.{IsReferred}
 use Rattle.vm_kernel.specs.Serving.{runs_now}
 use Rattle.vm_state.specs.Places.{known_local}
 use Rattle.vm_kernel.proofs.Known.{known_on}
-use Rattle.vm_kernel.proofs.Brings.{fits_changed}
+use Rattle.vm_kernel.proofs.Brings.{fits_changed, plain_here}
 use Rattle.vm_kernel.proofs.Ordering.{PutsInOrder}
 use Rattle.vm_kernel.proofs.Own.{lives_here, own_host}
 use Rattle.vm_kernel.proofs.Pages.{bytes_now, frames_changed, laundry_changed, pages_moved, shown_as, shown_here}
 use Rattle.vm_kernel.proofs.Uses.{holds_waits, uses_still}
 use Rattle.vm_kernel.proofs.After.{controls_stay, regions_behind}
 use Rattle.vm_kernel.proofs.Untold.{matches_with}
+use Rattle.vm_kernel.proofs.Replied.{replied_behind}
+use Rattle.vm_state.specs.References.{MayLock}
 
--- who is run waits for no page that is asked
+-- who is run waits for no page of which a word is outstanding
 pub asks_none_now : (k : Parts) (reason : On) → runs_now reason ≡ true → AsksNone k.memory.resident reason
 asks_none_now k reason now = by (is_again reason) refl now
   where
@@ -29,17 +33,23 @@ asks_none_now k reason now = by (is_again reason) refl now
 
 -- something refers to each object in use still, once a page of one that is referred to has changed
 pub page_referred : (key : PageKey) (frame : FrameNo) (was now : Option PageRow) (held : Bool) (bytes : List ℕ) (lists : Queues) (k : Parts) (memory : HostParts) → Changes key frame was now held bytes lists k.memory memory → KeepsPlan k.memory memory
-    → IsReferred k.memory.objects key.object.0 → AllReferred k.chains k.memory.objects k.memory.resident → AllReferred k.chains memory.objects memory.resident
-page_referred key frame was now held bytes lists k memory c plan is all =
+    → IsReferred k.memory.objects key.object.0 → ((row : PageRow) → now ≡ Some row → MayLock k.memory.objects key.object.0 row) → AllReferred k.chains k.memory.objects k.memory.resident → AllReferred k.chains memory.objects memory.resident
+page_referred key frame was now held bytes lists k memory c plan is may all =
     subst (λ (z : ObjectTable). AllReferred k.chains z memory.resident) (sym plan.objects)
-    (referred_row key.object.0 key.page.0 now k.chains k.memory.objects k.memory.resident memory.resident c.row (λ row found. is) all)
+    (referred_row key.object.0 key.page.0 now k.chains k.memory.objects k.memory.resident memory.resident c.row (λ row found. (is, may row found)) all)
 
--- who waits does so still, once a page has changed that wasn't asked, and isn't
-pub page_waits : (key : PageKey) (frame : FrameNo) (was now : Option PageRow) (held : Bool) (bytes : List ℕ) (lists : Queues) (k : Parts) (memory : HostParts) (who : Woken) (at : ℕ → Option Access) → Changes key frame was now held bytes lists k.memory memory
-    → KeepsPlan k.memory memory → IsNotAsked was → IsNotAsked now → HasWaiters k.maps k.chains k.memory.resident k.memory.objects k.waits.rows who at → HasWaiters k.maps k.chains memory.resident memory.objects k.waits.rows who at
+-- who waits does so still, once a page has changed of which no word was outstanding, and none is
+pub page_waits : (key : PageKey) (frame : FrameNo) (was now : Option PageRow) (held : Bool) (bytes : List ℕ) (lists : Queues) (k : Parts) (memory : HostParts) (who : On → Bool) (at : ℕ → Option Access) → Changes key frame was now held bytes lists k.memory memory
+    → KeepsPlan k.memory memory → IsUnawaited was → IsUnawaited now → HasWaiters k.maps k.chains k.memory.resident k.memory.objects k.waits.rows who at → HasWaiters k.maps k.chains memory.resident memory.objects k.waits.rows who at
 page_waits key frame was now held bytes lists k memory who at c plan before after has =
     subst (λ (z : ObjectTable). HasWaiters k.maps k.chains memory.resident z k.waits.rows who at) (sym plan.objects)
-    (waiters_page k.maps k.chains k.memory.resident memory.resident k.memory.objects k.waits.rows who at key.object.0 key.page.0 now has c.row (subst (λ (z : Option PageRow). IsNotAsked z) (sym c.found) before) after)
+    (waiters_page k.maps k.chains k.memory.resident memory.resident k.memory.objects k.waits.rows who at key.object.0 key.page.0 now has c.row (inl (subst (λ (z : Option PageRow). IsUnawaited z) (sym c.found) before)) after)
+
+-- a page with another row may be locked still as it was
+pub same_lock : (os : ObjectTable) (o : ℕ) (was now row : PageRow) → now.lock ≡ was.lock → Some now ≡ Some row → MayLock os o was → MayLock os o row
+same_lock os o was now row same is may =
+    let its : row.lock ≡ was.lock = ap (λ (z : PageRow). z.lock) (sym (some_is now row is)) ∙ same in
+    elim may [ inl open_now ↦ inl (its ∙ open_now) | inr lives ↦ inr lives ]
 
 -- a page of zeros comes
 
@@ -59,7 +69,7 @@ matches_zeroed header h k ids past key frame memory m c plan =
       known = m.known;
       size = m.size;
       host = m.host;
-      fits = fits_changed key frame _ _ _ _ _ k memory m.fits plan.fit plan.buffers c (record { lock = refl; precious = refl; unlock_sent = refl });
+      fits = fits_changed key frame _ _ _ _ _ k memory m.fits plan.fit plan.buffers c (λ away. record { lock = refl; precious = refl; unlock_sent = refl });
       tasks = m.tasks;
       regions = rw plan.objects (regions_behind header (event.Zeroed (host_id h) key.object key.page) past k.chains k.memory.objects ids (λ r. refl) m.regions);
       homes = m.homes;
@@ -70,6 +80,7 @@ matches_zeroed header h k ids past key frame memory m c plan =
       controls = rw plan.objects (controls_stay (λ o home. object_stays o h (event.Zeroed (host_id h) key.object key.page) past home) m.controls);
       homeless = record { regions = m.homeless.regions; objects = m.homeless.objects; stay = m.homeless.stay; files = m.homeless.files; whole = m.homeless.whole; bare = m.homeless.bare; fills = m.homeless.fills };
       settled = record { returned = refl; shut = λ region. refl };
+      replied = replied_behind tt m.replied;
       laundry = laundry_changed key frame _ _ _ _ _ k.memory memory k.laundry (returns_out h past) m.laundry c;
       frames = rw (own_host h) (frames_changed (slice_get (reverse header.frames.items) h) key frame _ _ _ _ _ k.memory memory (frames_held header.size h past) (frames_held header.size h past + 1) (frames_wired h past) m.frames c (λ held. let more = c.claims in omega arith));
     }
@@ -80,8 +91,8 @@ works_zeroed header h past k ids key frame memory works is c plan =
     record {
       matches = matches_zeroed header h k ids past key frame memory works.matches c plan;
       used = works.used;
-      referred = page_referred key frame _ _ _ _ _ k memory c plan is works.referred;
-      waits = page_waits key frame _ _ _ _ _ k memory woken.Nobody (λ u. waiting u past) c plan (none_not_asked None refl) (here_not_asked _ _ refl refl) works.waits;
+      referred = page_referred key frame _ _ _ _ _ k memory c plan is (λ row same. inl (ap (λ (z : PageRow). z.lock) (sym (some_is _ row same)))) works.referred;
+      waits = page_waits key frame _ _ _ _ _ k memory (is_woken woken.Nobody) (λ u. waiting u past) c plan (none_unawaited None refl) (here_unawaited _ _ refl refl refl) works.waits;
       order = works.order;
     }
 
@@ -108,7 +119,7 @@ matches_raised header h k ids past low top row frame memory m found here c plan 
       known = m.known;
       size = m.size;
       host = m.host;
-      fits = fits_changed top frame _ _ _ _ _ k memory m.fits plan.fit plan.buffers c (record { lock = refl; precious = refl; unlock_sent = refl });
+      fits = fits_changed top frame _ _ _ _ _ k memory m.fits plan.fit plan.buffers c (λ away. record { lock = refl; precious = refl; unlock_sent = refl });
       tasks = m.tasks;
       regions = rw plan.objects (regions_behind header (event.Raised (host_id h) low.object low.page top.object top.page) past k.chains k.memory.objects ids (λ r. refl) m.regions);
       homes = m.homes;
@@ -119,6 +130,7 @@ matches_raised header h k ids past low top row frame memory m found here c plan 
       controls = rw plan.objects (controls_stay (λ o home. object_stays o h (event.Raised (host_id h) low.object low.page top.object top.page) past home) m.controls);
       homeless = record { regions = m.homeless.regions; objects = m.homeless.objects; stay = m.homeless.stay; files = m.homeless.files; whole = m.homeless.whole; bare = m.homeless.bare; fills = m.homeless.fills };
       settled = record { returned = refl; shut = λ region. refl };
+      replied = replied_behind tt m.replied;
       laundry = laundry_changed top frame _ _ _ _ _ k.memory memory k.laundry (returns_out h past) m.laundry c;
       frames = rw (own_host h) (frames_changed (slice_get (reverse header.frames.items) h) top frame _ _ _ _ _ k.memory memory (frames_held header.size h past) (frames_held header.size h past + 1) (frames_wired h past) m.frames c (λ held. let more = c.claims in omega arith));
     }
@@ -130,8 +142,8 @@ works_raised header h past k ids low top row frame memory works is found here c 
     record {
       matches = matches_raised header h k ids past low top row frame memory works.matches found here c plan;
       used = works.used;
-      referred = page_referred top frame _ _ _ _ _ k memory c plan is works.referred;
-      waits = page_waits top frame _ _ _ _ _ k memory woken.Nobody (λ u. waiting u past) c plan (none_not_asked None refl) (here_not_asked _ _ refl refl) works.waits;
+      referred = page_referred top frame _ _ _ _ _ k memory c plan is (λ row same. inl (ap (λ (z : PageRow). z.lock) (sym (some_is _ row same)))) works.referred;
+      waits = page_waits top frame _ _ _ _ _ k memory (is_woken woken.Nobody) (λ u. waiting u past) c plan (none_unawaited None refl) (here_unawaited _ _ refl refl refl) works.waits;
       order = works.order;
     }
 
@@ -182,6 +194,7 @@ works_loaded header h past k ids w key value waits2 works is now put =
         controls = controls_stay (λ o home. object_stays o h e past home) m.controls;
         homeless = record { regions = m.homeless.regions; objects = m.homeless.objects; stay = m.homeless.stay; files = m.homeless.files; whole = m.homeless.whole; bare = m.homeless.bare; fills = m.homeless.fills };
         settled = record { returned = refl; shut = λ region. refl };
+        replied = replied_behind tt m.replied;
         laundry = m.laundry;
         frames = m.frames;
       };
@@ -194,8 +207,8 @@ works_loaded header h past k ids w key value waits2 works is now put =
 -- with a store
 pub works_stored : (header : Header) (h : ℕ) (past : List Event) (k : Parts) (ids : Ids) (w : Waiting) (key : PageKey) (frame : FrameNo) (at size value : ℕ) (row : PageRow) (memory : HostParts) (waits2 : WaitTable) → Works header h k ids woken.Nobody past
     → entry k.waits.rows w.task.0 ≡ Some w → runs_now w.on ≡ true → PutsInOrder w.task.0 None k.waits.rows waits2.rows → WritesPage key frame at size value k.memory memory
-    → row_at k.memory.resident key.object.0 key.page.0 ≡ Some row → row.here ≡ true → Works header h (record k { memory = memory; waits = waits2 }) ids woken.Nobody (event.Stored w.task key.object key.page at size value ∷ past)
-works_stored header h past k ids w key frame at size value row memory waits2 works is now put wrote found here =
+    → row_at k.memory.resident key.object.0 key.page.0 ≡ Some row → row.here ≡ true → keeps_out row.lock true ≡ false → Works header h (record k { memory = memory; waits = waits2 }) ids woken.Nobody (event.Stored w.task key.object key.page at size value ∷ past)
+works_stored header h past k ids w key frame at size value row memory waits2 works is now put wrote found here open_to =
     let m = works.matches in
     let c = wrote.page in
     let plan = wrote.plan in
@@ -208,16 +221,17 @@ works_stored header h past k ids w key frame at size value row memory waits2 wor
     let was = wrote.row in
     let row2 : PageRow = record was { dirty = true } in
     let lacked = absent_at k.memory.objects o p in
-    let its : was.here ≡ true = ap (λ (z : PageRow). z.here) (some_is was row (sym c.found ∙ found)) ∙ here in
-    let plain = m.fits.plain o p was c.found in
+    let one : was ≡ row = some_is was row (sym c.found ∙ found) in
+    let its : was.here ≡ true = ap (λ (z : PageRow). z.here) one ∙ here in
+    let unsent : was.unlock_sent ≡ false = ap (λ (z : PageRow). z.unlock_sent) one ∙ open_unsent k.maps k.chains k.memory.resident k.memory.objects k.waits.rows (λ u. waiting u past) o p row works.waits found here open_to in
     let written = bytes_now key was.frame _ _ _ _ _ k.memory memory c ∙ ap (λ (z : FrameNo). with_bytes at bytes (page_in k.memory.frames z.0)) (sym wrote.is) in
     let pages2 = known_on header header.size key (Stores at bytes) (λ o2 p2. local header.size h (place_of o2 p2) past) tt
     (pages_moved header.size (Stores at bytes) key was.frame _ _ _ _ _ k.memory memory k.memory.objects (λ o2 p2. known_local header o2 p2 (local header.size h (place_of o2 p2) past)) m.fits.parts m.pages c
     (ap (local_after header.size (Stores at bytes)) (shown_here k.memory.frames was lacked its) ∙ (ap (λ z. shown_as row2 true true z lacked) (sym written) ∙ sym (shown_here memory.frames row2 lacked its))) (λ o2 p2 apart. refl)) in
     let pages3 : HasPages memory.frames memory.resident k.memory.objects (λ o2 p2. known_local header o2 p2 (local header.size h (place_of o2 p2) (e ∷ past))) = rw (lives, own_host h) pages2 in
-    let referred2 = page_referred key was.frame _ _ _ _ _ k memory c plan (works.referred.pages o p row found) works.referred in
-    let waits3 = page_waits key was.frame _ _ _ _ _ k memory woken.Nobody (λ u. waiting u past) c plan (here_not_asked _ was refl its) (here_not_asked _ row2 refl its) works.waits in
-    let fits2 = fits_changed key was.frame _ _ _ _ _ k memory m.fits plan.fit plan.buffers c (record { lock = plain.lock; precious = plain.precious; unlock_sent = plain.unlock_sent }) in
+    let referred2 = page_referred key was.frame _ _ _ _ _ k memory c plan (works.referred.pages o p row found) (λ r same. same_lock k.memory.objects o was row2 r refl same (works.referred.locks o p was c.found)) works.referred in
+    let waits3 = page_waits key was.frame _ _ _ _ _ k memory (is_woken woken.Nobody) (λ u. waiting u past) c plan (here_unawaited _ was refl its unsent) (here_unawaited _ row2 refl its unsent) works.waits in
+    let fits2 = fits_changed key was.frame _ _ _ _ _ k memory m.fits plan.fit plan.buffers c (plain_here row2 its) in
     record {
       matches = record {
         ranged = m.ranged;
@@ -238,6 +252,7 @@ works_stored header h past k ids w key frame at size value row memory waits2 wor
         controls = rw plan.objects (controls_stay (λ o home. object_stays o h e past home) m.controls);
         homeless = record { regions = m.homeless.regions; objects = m.homeless.objects; stay = m.homeless.stay; files = m.homeless.files; whole = m.homeless.whole; bare = m.homeless.bare; fills = m.homeless.fills };
         settled = record { returned = refl; shut = λ region. refl };
+        replied = replied_behind tt m.replied;
         laundry = laundry_changed key was.frame _ _ _ _ _ k.memory memory k.laundry (returns_out h past) m.laundry c;
         frames = frames_changed (slice_get (reverse header.frames.items) h) key was.frame _ _ _ _ _ k.memory memory (frames_held header.size h past) (frames_held header.size h past) (frames_wired h past) m.frames c (λ held. let same = c.claims in omega arith);
       };

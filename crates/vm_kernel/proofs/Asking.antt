@@ -1,12 +1,12 @@
 -- What a request for a page leaves of the kernel, and an access that waits for something else.
-use Rattle.vm_kernel.proofs.Common.{Asks, false, AsksPage, Bool, Event, FrameNo, HasWaiters, Header, HostParts, Ids, IsAsked, List, Matches, ObjectRow, ObjectTable, On, PageKey, Parts, Reason, Some, Up, WaitTable, Waiting, Works, [], ap, arith, begun_at, entry, frames_held, frames_wired, host_id, is_control, is_ready_state, live_control, local, local_after, object_at, place_of, ready_in, refl, returns_out, reverse, slice_get, subst, sym, true, waiting, with_on, ℕ, ◌&&◌, ◌+◌, ◌==◌, ◌∙◌, ◌∷◌, ◌≡◌}
+use Rattle.vm_kernel.proofs.Common.{Asks, AsksPage, Bool, Event, FrameNo, HasWaiters, Header, HostParts, Ids, List, Matches, ObjectRow, ObjectTable, On, PageKey, PageRow, Parts, Reason, Some, Up, WaitTable, Waiting, Works, [], ap, arith, begun_at, entry, false, frames_held, frames_wired, host_id, inl, is_control, is_ready_state, live_control, local, local_after, object_at, place_of, ready_in, refl, returns_out, reverse, slice_get, some_is, subst, sym, true, waiting, with_on, ℕ, ◌&&◌, ◌+◌, ◌==◌, ◌∙◌, ◌∷◌, ◌≡◌}
 use Rattle.vm_abroad.proofs.Home.{object_stays}
 use Rattle.vm_fault.specs.Faults.{KeepsPlan}
 use Rattle.vm_model.specs.declared.event.Event.TheVariants as event
 use Rattle.vm_model.specs.declared.message.Message.TheVariants as message
 use Rattle.vm_objects.specs.declared.row.PagerState.TheVariants as state
-use Rattle.vm_state.proofs.Waiting.{waiters_asked, waiters_turned}
-use Rattle.vm_state.specs.Waiters.{IsPlaceOf}
+use Rattle.vm_state.proofs.Waiting.{IsAwaitedBy, asked_is, none_unawaited, put_now, waiters_asked, waiters_turned}
+use Rattle.vm_state.specs.Waiters.{IsPlaceOf, is_woken}
 use Rattle.vm_supply.specs.declared.woken.Woken.TheVariants as woken
 use Rattle.vm_terminate.specs.Finishes.{IsReferred}
 use Rattle.vm_waits.specs.declared.waiting.On.TheVariants as on
@@ -20,6 +20,7 @@ use Rattle.vm_kernel.proofs.Own.{own_host}
 use Rattle.vm_kernel.proofs.Pages.{asking, asking_it, asking_other, frames_changed, itself, laundry_changed, pages_changed}
 use Rattle.vm_kernel.proofs.After.{controls_stay, regions_behind}
 use Rattle.vm_kernel.proofs.Untold.{matches_with}
+use Rattle.vm_kernel.proofs.Replied.{replied_behind}
 
 -- a request of the host for the page
 abbrev pub requesting : ℕ → PageKey → ℕ → ℕ → Event
@@ -52,7 +53,7 @@ matches_asked header h k ids past key control access frame memory m live c plan 
       known = m.known;
       size = m.size;
       host = m.host;
-      fits = fits_changed key frame _ _ _ _ _ k memory m.fits plan.fit plan.buffers c (record { lock = refl; precious = refl; unlock_sent = refl });
+      fits = fits_changed key frame _ _ _ _ _ k memory m.fits plan.fit plan.buffers c (λ away. record { lock = refl; precious = refl; unlock_sent = refl });
       tasks = m.tasks;
       regions = rw plan.objects (regions_behind header (requesting h key control access) past k.chains k.memory.objects ids (λ r. refl) m.regions);
       homes = m.homes;
@@ -63,6 +64,7 @@ matches_asked header h k ids past key control access frame memory m live c plan 
       controls = rw plan.objects (controls_stay (λ o home. object_stays o h (requesting h key control access) past home) m.controls);
       homeless = record { regions = m.homeless.regions; objects = m.homeless.objects; stay = m.homeless.stay; files = m.homeless.files; whole = m.homeless.whole; bare = m.homeless.bare; fills = m.homeless.fills };
       settled = record { returned = refl; shut = λ region. refl };
+      replied = replied_behind tt m.replied;
       laundry = laundry_changed key frame _ _ _ _ _ k.memory memory k.laundry (returns_out h past) m.laundry c;
       frames = rw (own_host h) (frames_changed (slice_get (reverse header.frames.items) h) key frame _ _ _ _ _ k.memory memory (frames_held header.size h past) (frames_held header.size h past + 1) (frames_wired h past) m.frames c (λ held. let more = c.claims in omega arith));
     }
@@ -77,10 +79,10 @@ works_asked header h past k ids w key object access frame memory waits2 works is
     record {
       matches = matches_with memory.queues memory.buffers waits2 m.fits.parts refl m;
       used = works.used;
-      referred = page_referred key frame _ _ _ _ _ k memory c plan referred works.referred;
-      waits = subst (λ (z : ObjectTable). HasWaiters k.maps k.chains memory.resident z waits2.rows woken.Nobody (λ u. waiting u past)) (sym plan.objects)
-          (waiters_asked k.maps k.chains k.memory.resident memory.resident k.memory.objects k.waits.rows waits2.rows (λ u. waiting u past) w.task.0 w key _ works.waits is (asks_none_now k w.on now) place c.found c.row refl put.entry
-          (ap ready_in known ∙ ap is_ready_state ready));
+      referred = page_referred key frame _ _ _ _ _ k memory c plan referred (λ row same. inl (ap (λ (z : PageRow). z.lock) (sym (some_is _ row same)))) works.referred;
+      waits = subst (λ (z : ObjectTable). HasWaiters k.maps k.chains memory.resident z waits2.rows (is_woken woken.Nobody) (λ u. waiting u past)) (sym plan.objects)
+          (waiters_asked k.maps k.chains k.memory.resident memory.resident k.memory.objects k.waits.rows waits2.rows (λ u. waiting u past) w.task.0 w key _ works.waits is (asks_none_now k w.on now) place (none_unawaited _ c.found) c.row
+          (asked_is memory.resident w.want key.object.0 key.page.0 _ (put_now key.object.0 key.page.0 _ k.memory.resident memory.resident c.row) refl) put.entry (λ away. ap ready_in known ∙ ap is_ready_state ready));
       order = put.order.keeps (λ u. begun_at u past) 0 works.order;
     }
 
@@ -96,8 +98,8 @@ works_turned header h past k ids w reason waits2 works is now holds put =
       order = put.order.keeps (λ u. begun_at u past) 0 works.order;
     }
 
--- the access waits for a page that was asked for before
+-- the access waits for a page that was asked for before, or for its unlock
 pub works_joined : (header : Header) (h : ℕ) (past : List Event) (k : Parts) (ids : Ids) (w : Waiting) (key : PageKey) (waits2 : WaitTable) → Works header h k ids woken.Nobody past → entry k.waits.rows w.task.0 ≡ Some w → runs_now w.on ≡ true
-    → IsPlaceOf k.maps k.chains w.task.0 w.want key → IsAsked k.memory.resident key.object.0 key.page.0 → PutsInOrder w.task.0 (Some (with_on w (on.Page key))) k.waits.rows waits2.rows
+    → IsPlaceOf k.maps k.chains w.task.0 w.want key → IsAwaitedBy k.memory.resident w.want key.object.0 key.page.0 → PutsInOrder w.task.0 (Some (with_on w (on.Page key))) k.waits.rows waits2.rows
     → Works header h (record k { waits = waits2 }) ids woken.Nobody past
-works_joined header h past k ids w key waits2 works is now place asked put = works_turned header h past k ids w (on.Page key) waits2 works is now (place, asked) put
+works_joined header h past k ids w key waits2 works is now place awaits put = works_turned header h past k ids w (on.Page key) waits2 works is now (place, awaits) put

@@ -1,7 +1,7 @@
 -- An access is run: what holds after each thing that it may come to.
-use Rattle.vm_kernel.proofs.Common.{Bool, Command, Event, Header, HostId, HostParts, Ids, IfSome, IsAt, JoinsQueue, LegalEvents, List, Matches, None, ObjectId, Option, Outside, PageKey, PageRow, Parts, RegionRow, Some, Up, WaitTable, Waiting, Want, Wants, WantsFrame, Works, [], access_in, address_in, ap, append_assoc, claimed, clean_row, count_again, entry, entry_at, false, free, host_id, if◌then◌else◌, inl, inr, named, one_again, one_frame, page_at, page_of, queued, refl, region_at, row_at, row_put, rows_in, some_is, subst, suc, sym, true, unlocked, with_on, zero, ℕ, ◌%◌, ◌&&◌, ◌++◌, ◌+◌, ◌-◌, ◌∙◌, ◌∷◌, ◌≡◌, ◌≤◌, ◌⊎◌}
+use Rattle.vm_kernel.proofs.Common.{Bool, Command, Event, Header, HostId, HostParts, Ids, IfSome, IsAt, JoinsQueue, LegalEvents, List, Matches, None, ObjectId, Option, Outside, PageKey, PageRow, Parts, RegionRow, Some, Up, WaitTable, Waiting, Want, Wants, WantsFrame, Works, [], access_in, address_in, ap, append_assoc, claimed, clean_row, count_again, entry, entry_at, false, free, host_id, if◌then◌else◌, inl, inr, named, one_again, one_frame, page_at, page_of, queued, refl, region_at, row_put, rows_in, some_is, subst, suc, sym, true, unlocked, with_on, zero, ℕ, ◌%◌, ◌&&◌, ◌++◌, ◌+◌, ◌-◌, ◌∙◌, ◌∷◌, ◌≡◌, ◌≤◌, ◌⊎◌}
 use Rattle.vm_base.specs.declared.entry.Entry.{Entry}
-use Rattle.vm_fault.specs.Faults.{AfterZeros, AtOnce, Ended, FaultState, Faulted, Hits, Needs, NothingChanges, Nowhere, Prepares, Raised, RequestsPage, ToAsk, ToRaise}
+use Rattle.vm_fault.specs.Faults.{AfterZeros, AsksUnlock, AtOnce, Ended, FaultState, Faulted, Hits, Needs, NothingChanges, Nowhere, Prepares, Raised, RequestsPage, ToAsk, ToRaise}
 use Rattle.vm_fault.specs.Walks.{Finds, PassesOver, Sinks, StopsAsked, WalksTo, is_storing, keeps_out, top_place, wanted_number, writes_at}
 use Rattle.vm_fault.specs.declared.step.FaultStep.{FaultStep}
 use Rattle.vm_fault.specs.declared.step.FaultStep.TheVariants as step
@@ -9,7 +9,7 @@ use Rattle.vm_kernel.proofs.Accessing.{works_loaded, works_raised, works_stored,
 use Rattle.vm_kernel.proofs.Asking.{works_asked, works_joined, works_turned}
 use Rattle.vm_kernel.proofs.Follows.{comes_at, loaded_follows, raised_follows, request_follows, shadowed_follows, stored_follows, zeroed_follows}
 use Rattle.vm_kernel.proofs.Growing.{goes_both, goes_none, goes_one, suffices}
-use Rattle.vm_kernel.proofs.Leading.{Leads, it_waits, leads_of, storing_is, top_at}
+use Rattle.vm_kernel.proofs.Leading.{Leads, it_waits, leads_of, top_at}
 use Rattle.vm_kernel.proofs.Ordering.{PutsInOrder}
 use Rattle.vm_kernel.proofs.Own.{named_host, own_host}
 use Rattle.vm_kernel.proofs.Shadows.{works_shadowed}
@@ -26,10 +26,12 @@ use Rattle.vm_supply.specs.declared.woken.Woken.TheVariants as woken
 use Rattle.vm_waits.specs.declared.waiting.On.TheVariants as on
 use Rattle.vm_waits.specs.declared.waiting.Want.TheVariants as want
 use Rattle.vm_kernel.proofs.Shown.{shown_at}
-use Rattle.vm_kernel.proofs.Claiming.{plain_open}
+use Rattle.vm_state.proofs.Locks.{kept_anywhere, plain_open, storing_is}
+use Rattle.vm_kernel.proofs.Unlocking.{unlock_follows, unlocking, works_unlocked}
 use Rattle.std.proofs.lemmas.Bool.{and_parts}
 use Rattle.vm_kernel.proofs.Returning.{untold_temporary}
 use Rattle.vm_state.proofs.Declared.{kind_cases}
+use Rattle.std.specs.Prelude.{◌==◌}
 
 -- what a fault may change of a kernel, and a kernel with that changed
 
@@ -55,10 +57,6 @@ pub record Tries (header : Header) (h : ℕ) (past : List Event) (k : Parts) (id
 pub leads_there : (header : Header) (h : ℕ) (past : List Event) (k : Parts) (ids : Ids) (w : Waiting) (top : PageKey) → (t : Tries header h past k ids w top) → Leads header h past k w.task.0 w.want top t.at
 leads_there header h past k ids w top t = leads_of header h k ids past woken.Nobody w.task.0 w top t.works.matches t.works.waits t.is t.at
 
--- nothing prohibits a page
-open_row : (header : Header) (h : ℕ) (past : List Event) (k : Parts) (ids : Ids) (w : Waiting) (top key : PageKey) (row : PageRow) → Tries header h past k ids w top → row_at k.memory.resident key.object.0 key.page.0 ≡ Some row → row.lock ≡ unlocked
-open_row header h past k ids w top key row t found = (t.works.matches.fits.plain key.object.0 key.page.0 row found).lock
-
 -- a want that stores
 pub record IsStore (what : Want) : Type 0 where
   pub address : ℕ
@@ -73,9 +71,9 @@ store_of (want.Store address size value) stores = record { address = address; si
 -- it ends with a page that is here
 
 hit_load : (header : Header) (h : ℕ) (outside : Outside) (doing : Command) (past : List Event) (k : Parts) (ids : Ids) (w : Waiting) (top : PageKey) (events : List Event) (steps : ℕ) (key : PageKey) (row : PageRow) (address size value : ℕ) (e : Event) (m2 : HostParts) (waits2 : WaitTable)
-    → Tries header h (events ++ past) k ids w top → w.want ≡ want.Load address size → Finds k.memory k.chains steps top key row → Hits w.task (want.Load address size) key row.frame (address % header.size) value e k.memory m2
+    → Tries header h (events ++ past) k ids w top → w.want ≡ want.Load address size → Finds k.memory k.chains steps top key row → keeps_out row.lock false ≡ false → Hits w.task (want.Load address size) key row.frame (address % header.size) value e k.memory m2
     → PutsInOrder w.task.0 None k.waits.rows waits2.rows → Reaches header h outside doing past events (record k { memory = m2; waits = waits2 }) ids (e ∷ events)
-hit_load header h outside doing past k ids w top events steps key row address size value e m2 waits2 t is finds hits put =
+hit_load header h outside doing past k ids w top events steps key row address size value e m2 waits2 t is finds out hits put =
     let moment = events ++ past in
     let loaded : Event = event.Loaded w.task key.object key.page value in
     let works = works_loaded header h moment k ids w key value waits2 t.works t.is t.now put in
@@ -86,17 +84,17 @@ hit_load header h outside doing past k ids w top events steps key row address si
     (record {
       works = works_touched header h (loaded ∷ moment) (record k { waits = waits2 }) ids woken.Nobody row.frame m2 hits.1 works;
       goes = goes_one header h outside doing past events loaded t.works.matches.settled
-          (loaded_follows header h outside doing moment k w.task w.want top t.at address size value steps key row to s is finds (open_row header h moment k ids w top key row t finds.found) hits.0 enough);
+          (loaded_follows header h outside doing moment k w.task w.want top t.at address size value steps key row to s is finds out hits.0 enough);
     })
 
 hit_store : (header : Header) (h : ℕ) (outside : Outside) (doing : Command) (past : List Event) (k : Parts) (ids : Ids) (w : Waiting) (top : PageKey) (events : List Event) (row : PageRow) (address size number value : ℕ) (e : Event) (m2 : HostParts) (waits2 : WaitTable)
-    → Tries header h (events ++ past) k ids w top → w.want ≡ want.Store address size number → Finds k.memory k.chains 0 top top row → Hits w.task (want.Store address size number) top row.frame (address % header.size) value e k.memory m2
+    → Tries header h (events ++ past) k ids w top → w.want ≡ want.Store address size number → Finds k.memory k.chains 0 top top row → keeps_out row.lock true ≡ false → Hits w.task (want.Store address size number) top row.frame (address % header.size) value e k.memory m2
     → PutsInOrder w.task.0 None k.waits.rows waits2.rows → Reaches header h outside doing past events (record k { memory = m2; waits = waits2 }) ids (e ∷ events)
-hit_store header h outside doing past k ids w top events row address size number value e m2 waits2 t is finds hits put =
+hit_store header h outside doing past k ids w top events row address size number value e m2 waits2 t is finds out hits put =
     let moment = events ++ past in
     let mid : HostParts = hits.1.0 in
     let stored : Event = event.Stored w.task top.object top.page (address % header.size) size number in
-    let works = works_stored header h moment k ids w top row.frame (address % header.size) size number row mid waits2 t.works t.is t.now put hits.1.1 finds.found finds.here in
+    let works = works_stored header h moment k ids w top row.frame (address % header.size) size number row mid waits2 t.works t.is t.now put hits.1.1 finds.found finds.here out in
     let to = leads_there header h moment k ids w top t in
     let s = shown_at t.works.matches in
     let enough = suffices header h mid.frames (stored ∷ moment) works.matches.frames in
@@ -104,21 +102,22 @@ hit_store header h outside doing past k ids w top events row address size number
     (record {
       works = works_touched header h (stored ∷ moment) (record k { memory = mid; waits = waits2 }) ids woken.Nobody row.frame m2 hits.1.2 works;
       goes = goes_one header h outside doing past events stored t.works.matches.settled
-          (stored_follows header h outside doing moment k w.task w.want top t.at address size number row to s is (t.clear (ap is_storing is)) finds (open_row header h moment k ids w top top row t finds.found) enough);
+          (stored_follows header h outside doing moment k w.task w.want top t.at address size number row to s is (t.clear (ap is_storing is)) finds out enough);
     })
 
 hit : (header : Header) (h : ℕ) (outside : Outside) (doing : Command) (past : List Event) (k : Parts) (ids : Ids) (w : Waiting) (top : PageKey) (events : List Event) (steps : ℕ) (key : PageKey) (row : PageRow) (value : ℕ) (e : Event) (m2 : HostParts) (waits2 : WaitTable)
-    → Tries header h (events ++ past) k ids w top → Finds k.memory k.chains steps top key row → (is_storing w.want ≡ true → steps ≡ 0) → Hits w.task w.want key row.frame (address_in w.want % header.size) value e k.memory m2
+    → Tries header h (events ++ past) k ids w top → Finds k.memory k.chains steps top key row → (is_storing w.want ≡ true → steps ≡ 0) → keeps_out row.lock (writes_at w.want steps) ≡ false → Hits w.task w.want key row.frame (address_in w.want % header.size) value e k.memory m2
     → PutsInOrder w.task.0 None k.waits.rows waits2.rows → Reaches header h outside doing past events (record k { memory = m2; waits = waits2 }) ids (e ∷ events)
-hit header h outside doing past k ids w top events steps key row value e m2 waits2 t finds none hits put =
+hit header h outside doing past k ids w top events steps key row value e m2 waits2 t finds none out hits put =
     by w.want refl hits
   where
     by : (what : Want) → w.want ≡ what → Hits w.task what key row.frame (address_in what % header.size) value e k.memory m2 → Reaches header h outside doing past events (record k { memory = m2; waits = waits2 }) ids (e ∷ events)
-    by (want.Load address size) is hits2 = hit_load header h outside doing past k ids w top events steps key row address size value e m2 waits2 t is finds hits2 put
+    by (want.Load address size) is hits2 = hit_load header h outside doing past k ids w top events steps key row address size value e m2 waits2 t is finds (subst (λ (z : Want). keeps_out row.lock (writes_at z steps) ≡ false) is out) hits2 put
     by (want.Store address size number) is hits2 =
         let there : Finds k.memory k.chains 0 top key row = subst (λ (z : ℕ). Finds k.memory k.chains z top key row) (none (ap is_storing is)) finds in
         let same : key ≡ top = sym there.walks in
         hit_store header h outside doing past k ids w top events row address size number value e m2 waits2 t is (subst (λ (z : PageKey). Finds k.memory k.chains 0 top z row) same there)
+        (subst (λ (z : ℕ). keeps_out row.lock (z == 0) ≡ false) (none (ap is_storing is)) (subst (λ (z : Want). keeps_out row.lock (writes_at z steps) ≡ false) is out))
         (subst (λ (z : PageKey). Hits w.task (want.Store address size number) z row.frame (address % header.size) value e k.memory m2) same hits2) put
 
 -- it goes on with other pages
@@ -155,7 +154,7 @@ ended : (header : Header) (h : ℕ) (outside : Outside) (doing : Command) (past 
     → Tries header h (events ++ past) k ids w top → Ended (host_id h) w.task w.want top (address_in w.want % header.size) value k.memory m2 k.chains events after
     → PutsInOrder w.task.0 None k.waits.rows waits2.rows → Reaches header h outside doing past events (record k { memory = m2; waits = waits2 }) ids after
 ended header h outside doing past k ids w top events value m2 after waits2 t (AtOnce steps key row finds none out e hits told) put =
-    subst (λ (z : List Event). Reaches header h outside doing past events (record k { memory = m2; waits = waits2 }) ids z) (sym told) (hit header h outside doing past k ids w top events steps key row value e m2 waits2 t finds none hits put)
+    subst (λ (z : List Event). Reaches header h outside doing past events (record k { memory = m2; waits = waits2 }) ids z) (sym told) (hit header h outside doing past k ids w top events steps key row value e m2 waits2 t finds none out hits put)
 ended header h outside doing past k ids w top events value m2 after waits2 t (Raised steps key row finds stores out frame copied with_hit raises keeps e hits touched told) put =
     let moment = events ++ past in
     let raised : Event = event.Raised (host_id h) key.object key.page top.object top.page in
@@ -165,11 +164,11 @@ ended header h outside doing past k ids w top events value m2 after waits2 t (Ra
     let works1 = works_raised header h moment k ids key top row frame copied t.works to.referred finds.found finds.here raises keeps in
     let t1 = tries_on header h moment (raised ∷ moment) k ids w top copied t works1 in
     let one = goes_one header h outside doing past events raised t.works.matches.settled
-    (raised_follows header h outside doing moment k w.task.0 w.want top t.at store.address store.size store.value steps key row to s store.is (t.clear stores) finds (open_row header h moment k ids w top key row t finds.found)
+    (raised_follows header h outside doing moment k w.task.0 w.want top t.at store.address store.size store.value steps key row to s store.is (t.clear stores) finds out
     (suffices header h copied.frames (raised ∷ moment) works1.matches.frames)) in
     let row2 : PageRow = record (clean_row frame unlocked false) { dirty = true } in
     let there : Finds copied k.chains 0 top top row2 = record { walks = refl; found = row_put k.memory.resident copied.resident top.object.0 top.page.0 (Some row2) raises.row; here = refl } in
-    let two = hit header h outside doing past (record k { memory = copied }) ids w top (raised ∷ events) 0 top row2 value e with_hit waits2 t1 there (λ is. refl) hits put in
+    let two = hit header h outside doing past (record k { memory = copied }) ids w top (raised ∷ events) 0 top row2 value e with_hit waits2 t1 there (λ is. refl) (plain_open row2.lock (writes_at w.want 0) refl) hits put in
     subst (λ (z : List Event). Reaches header h outside doing past events (record k { memory = m2; waits = waits2 }) ids z) (sym told)
     (record {
       works = works_touched header h (e ∷ raised ∷ moment) (record k { memory = with_hit; waits = waits2 }) ids woken.Nobody row.frame m2 touched two.works;
@@ -186,7 +185,7 @@ ended header h outside doing past k ids w top events value m2 after waits2 t (Af
     (zeroed_follows header h outside doing moment k w.task.0 w.want top t.at (top_temporary header h moment k ids w top t sinks) to s t.clear sinks (suffices header h brought.frames (zeros ∷ moment) works1.matches.frames)) in
     let row2 : PageRow = clean_row frame unlocked false in
     let there : Finds brought k.chains 0 top top row2 = record { walks = refl; found = row_put k.memory.resident brought.resident top.object.0 top.page.0 (Some row2) brings.row; here = refl } in
-    let two = hit header h outside doing past (record k { memory = brought }) ids w top (zeros ∷ events) 0 top row2 value e m2 waits2 t1 there (λ is. refl) hits put in
+    let two = hit header h outside doing past (record k { memory = brought }) ids w top (zeros ∷ events) 0 top row2 value e m2 waits2 t1 there (λ is. refl) (plain_open row2.lock (writes_at w.want 0) refl) hits put in
     subst (λ (z : List Event). Reaches header h outside doing past events (record k { memory = m2; waits = waits2 }) ids z) (sym told)
     (record { works = two.works; goes = goes_both header h outside doing past events (zeros ∷ events) (e ∷ zeros ∷ events) one two.goes })
 
@@ -212,6 +211,26 @@ asked header h outside doing past k ids w top key events m2 after waits2 t a put
       works = works;
       goes = goes_one header h outside doing past events request t.works.matches.settled
           (request_follows header h outside doing moment k w.task.0 w.want top t.at a.steps key a.object to s t.clear a.comes a.ready (suffices header h m2.frames (request ∷ moment) works.matches.frames));
+    })
+
+-- an unlock of its page is asked for
+unlocked_by : (header : Header) (h : ℕ) (outside : Outside) (doing : Command) (past : List Event) (k : Parts) (ids : Ids) (w : Waiting) (top key : PageKey) (events : List Event) (m2 : HostParts) (after : List Event) (waits2 : WaitTable)
+    → Tries header h (events ++ past) k ids w top → AsksUnlock (host_id h) w.want top key k.memory m2 k.chains events after
+    → PutsInOrder w.task.0 (Some (with_on w (on.Page key))) k.waits.rows waits2.rows → Reaches header h outside doing past events (record k { memory = m2; waits = waits2 }) ids after
+unlocked_by header h outside doing past k ids w top key events m2 after waits2 t a put =
+    let moment = events ++ past in
+    let number = wanted_number w.want a.steps in
+    let unlock : Event = unlocking h key a.object.control number in
+    let to = leads_there header h moment k ids w top t in
+    let s = shown_at t.works.matches in
+    let place = place_of_walk k w top key a.steps t.at a.finds.walks in
+    let works = works_unlocked header h moment k ids w key a.row a.object number m2 waits2 t.works t.is t.now place a.finds.here (kept_anywhere a.row.lock w.want a.steps a.locked) a.none a.page a.plan put in
+    subst (λ (z : List Event). Reaches header h outside doing past events (record k { memory = m2; waits = waits2 }) ids z) (sym a.told)
+    (record {
+      works = works;
+      goes = goes_one header h outside doing past events unlock t.works.matches.settled
+          (unlock_follows header h outside doing moment k w.task.0 w.want top t.at a.steps key a.row a.object to s t.works.matches.replied t.works.referred t.works.matches.controls a.finds a.known (kept_anywhere a.row.lock w.want a.steps a.locked) a.none
+          (suffices header h m2.frames (unlock ∷ moment) works.matches.frames));
     })
 
 -- the region of a store has an object of its own first
@@ -333,7 +352,7 @@ ready_reaches header h outside doing past k ids w may object events new waits2 w
     (stays header h outside doing past k f.mid new waits2 f.comes.1
     (works_turned header h (f.mid.events ++ past) (with_state k f.mid) f.mid.ids w (on.Ready object) waits2 p.tries.works is now (key, place, same, told) put)) f.chains f.ids
 
--- its page is asked, and was asked for now or before
+-- its page is asked, or an unlock of it is outstanding; it was asked for now or before
 pub page_reaches : (header : Header) (h : ℕ) (outside : Outside) (doing : Command) (past : List Event) (k : Parts) (ids : Ids) (w : Waiting) (may : Bool) (answer : FaultStep) (key : PageKey) (events : List Event) (new : FaultState) (waits2 : WaitTable)
     → Works header h k ids woken.Nobody (events ++ past) → entry k.waits.rows w.task.0 ≡ Some w → runs_now w.on ≡ true → Faulted k.maps k.host w.task w.want may answer (state_of k ids events) new
     → (answer ≡ step.Ask key) ⊎ ((answer ≡ step.Unlock key) ⊎ (answer ≡ step.WaitAnswer key)) → PutsInOrder w.task.0 (Some (with_on w (on.Page key))) k.waits.rows waits2.rows
@@ -346,9 +365,8 @@ page_reaches header h outside doing past k ids w may answer key events new waits
 page_reaches header h outside doing past k ids w may answer key events new waits2 works is now faulted (inr (inl unlocks)) put =
     let f : Faulted k.maps k.host w.task w.want may (step.Unlock key) (state_of k ids events) new = subst (λ (z : FaultStep). Faulted k.maps k.host w.task w.want may z (state_of k ids events) new) unlocks faulted in
     let p = prepared header h outside doing past k ids w may (step.Unlock key) events new works is now f in
-    let a = f.comes in
-    let open_it = plain_open a.row.lock (writes_at w.want a.steps) (open_row header h (f.mid.events ++ past) (with_state k f.mid) f.mid.ids w f.top key a.row p.tries a.finds.found) in
-    absurd (let bad : false ≡ true = sym open_it ∙ a.locked in cc)
+    let named = subst (λ (z : HostId). AsksUnlock z w.want f.top key f.mid.parts new.parts f.mid.chains f.mid.events new.events) (named_host k.host h works.matches.host) f.comes in
+    settle header h outside doing past k events f.mid new waits2 p.goes (unlocked_by header h outside doing past (with_state k f.mid) f.mid.ids w f.top key f.mid.events new.parts new.events waits2 p.tries named put) f.chains f.ids
 page_reaches header h outside doing past k ids w may answer key events new waits2 works is now faulted (inr (inr joins)) put =
     settle header h outside doing past k events f.mid new waits2 p.goes (stays header h outside doing past k f.mid new waits2 f.comes.1 (by f.comes.0.why)) f.chains f.ids
   where
@@ -367,11 +385,11 @@ page_reaches header h outside doing past k ids w may answer key events new waits
     by : (Finds f.mid.parts f.mid.chains steps f.top key row × (keeps_out row.lock (writes_at w.want steps) ≡ true) × (row.unlock_sent ≡ true)) ⊎ StopsAsked f.mid.parts f.mid.chains steps f.top key row
         → Works header h (record (with_state k f.mid) { waits = waits2 }) f.mid.ids woken.Nobody (f.mid.events ++ past)
     by (inl locked) =
-        let open_it = plain_open row.lock (writes_at w.want steps) (open_row header h (f.mid.events ++ past) (with_state k f.mid) f.mid.ids w f.top key row p.tries locked.0.found) in
-        absurd (let bad : false ≡ true = sym open_it ∙ locked.1 in cc)
+        works_joined header h (f.mid.events ++ past) (with_state k f.mid) f.mid.ids w key waits2 p.tries.works is now (place_of_walk (with_state k f.mid) w f.top key steps p.tries.at locked.0.walks)
+        (inr (record { row = row; found = locked.0.found; here = locked.0.here; locked = kept_anywhere row.lock w.want steps locked.1; sent = locked.2 })) put
     by (inr stops) =
         works_joined header h (f.mid.events ++ past) (with_state k f.mid) f.mid.ids w key waits2 p.tries.works is now (place_of_walk (with_state k f.mid) w f.top key steps p.tries.at stops.walks)
-        (record { row = row; found = stops.found; away = stops.away }) put
+        (inl (record { row = row; found = stops.found; away = stops.away })) put
 
 -- it wants a frame: it joins the queue
 pub queued_reaches : (header : Header) (h : ℕ) (outside : Outside) (doing : Command) (past : List Event) (k : Parts) (ids : Ids) (w : Waiting) (may : Bool) (source : Option PageKey) (events : List Event) (new : FaultState) (waits2 : WaitTable)

@@ -1,5 +1,5 @@
 -- A load or store begins: its task waits, and the access is to be run.
-use Rattle.vm_kernel.proofs.Common.{Access, Asker, BeganInOrder, Bool, ChainTable, Code, Command, EndsNext, Entry, Event, FindsPage, Grows, HasWaiters, Header, Ids, IsAllowed, IsDone, IsLined, IsNextAccess, IsSizedWant, LegalEvents, List, Mapped, Matches, None, ObjectTable, Option, Outside, Parts, PutsEntry, Ran, Reason, ResidentTable, Rests, RunsFirst, Some, Starts, TaskId, WaitTable, Waiting, Want, Works, [], access_in, access_refusal, acting, acts_on, address_in, allows, ap, arith, begun_at, code_where, count_again, entries_in, entries_of, entry, entry_at, eqb_tells, false, host_of, if◌then◌else◌, inl, inr, is_none, is_some, length, lives_on, need_in, none_again, not, puts_cases, puts_elsewhere, refl, refusal, rows_in, subst, sym, true, waiting, waiting_in, ℕ, ◌%◌, ◌++◌, ◌+◌, ◌<◌, ◌==◌, ◌∙◌, ◌∷◌, ◌≡◌}
+use Rattle.vm_kernel.proofs.Common.{Access, Asker, BeganInOrder, Bool, ChainTable, Code, Command, EndsNext, Entry, Event, FindsPage, Grows, HasWaiters, Header, Ids, IsAllowed, IsDone, IsLined, IsNextAccess, IsSizedWant, LegalEvents, List, Mapped, Matches, None, ObjectTable, Option, Outside, Parts, PutsEntry, Ran, Reason, ResidentTable, Rests, RunsFirst, Some, Starts, TaskId, WaitTable, Waiting, Want, Works, [], access_in, access_refusal, acting, acts_on, address_in, allows, ap, arith, begun_at, code_where, count_again, entries_in, entries_of, entry, entry_at, eqb_tells, false, host_of, if◌then◌else◌, inl, inr, is_none, is_some, is_woken, length, lives_on, need_in, none_again, not, puts_cases, puts_elsewhere, refl, refusal, rows_in, subst, sym, true, waiting, waiting_in, ℕ, ◌%◌, ◌++◌, ◌+◌, ◌<◌, ◌==◌, ◌∙◌, ◌∷◌, ◌≡◌}
 use Rattle.vm_base.specs.declared.code.Code.TheVariants as code
 use Rattle.vm_base.specs.declared.ids.Access.{Access as Need}
 use Rattle.vm_model.specs.declared.event.Event.TheVariants as event
@@ -16,6 +16,7 @@ use Rattle.vm_kernel.proofs.Making.{idle_of}
 use Rattle.vm_kernel.proofs.Own.{lives_in, rows_here}
 use Rattle.vm_kernel.proofs.Uses.{uses_still, holds_waits}
 use Rattle.vm_kernel.proofs.Mine.{own_task}
+use Rattle.vm_kernel.proofs.Replied.{replied_behind}
 
 -- what tests find of an access that isn't refused
 
@@ -122,6 +123,7 @@ begun_matches header h k ids past waits task (want.Load address size) rows m liv
       homes = m.homes;
       files = m.files;
       settled = record { returned = refl; shut = λ region. refl };
+      replied = replied_behind tt m.replied;
       laundry = m.laundry;
       frames = m.frames;
     }
@@ -146,6 +148,7 @@ begun_matches header h k ids past waits task (want.Store address size value) row
       homes = m.homes;
       files = m.files;
       settled = record { returned = refl; shut = λ region. refl };
+      replied = replied_behind tt m.replied;
       laundry = m.laundry;
       frames = m.frames;
     }
@@ -171,8 +174,8 @@ begun_grows header h outside k ids past task (want.Store address size value) m f
 
 -- a task that didn't wait waits with an access that is to be run
 pub waits_begun : (maps : Mapped) (chains : ChainTable) (resident : ResidentTable) (objects : ObjectTable) (rows new : List Waiting) (task : TaskId) (what : Want) (was : ℕ → Option Access) (now : ℕ → Option Access)
-    → HasWaiters maps chains resident objects rows woken.Nobody was → PutsEntry task.0 (Some (begun_row task what)) rows new → entry rows task.0 ≡ None → IsAllowed maps task.0 (address_in what) (need_in what) → IsSizedWant what
-    → ((t : ℕ) → now t ≡ (if task.0 == t then Some (access_in what) else was t)) → HasWaiters maps chains resident objects new woken.Nobody now
+    → HasWaiters maps chains resident objects rows (is_woken woken.Nobody) was → PutsEntry task.0 (Some (begun_row task what)) rows new → entry rows task.0 ≡ None → IsAllowed maps task.0 (address_in what) (need_in what) → IsSizedWant what
+    → ((t : ℕ) → now t ≡ (if task.0 == t then Some (access_in what) else was t)) → HasWaiters maps chains resident objects new (is_woken woken.Nobody) now
 waits_begun maps chains resident objects rows new task what was now has puts none allowed sized is =
     record {
       is = λ t here. is t ∙ (both (task.0 == t) t here ∙ ap waiting_in (sym (puts.at t)));

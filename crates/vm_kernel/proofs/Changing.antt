@@ -1,5 +1,5 @@
 -- Commands that change a task's entries, from their beginning to their end.
-use Rattle.vm_kernel.proofs.Common.{Access, AllReferred, AllRows, AllUsed, ChainTable, ChangesOnly, Code, Entry, Event, HasEntries, HasHomes, HasKinds, HasPages, HasRegions, HasUse, HasWaiters, Header, Ids, Inherit, IsInside, List, Lowered, MapChange, Mapped, None, Option, Outside, Parts, Prot, Raised, Ran, RegionRow, Rests, Some, Starts, TaskId, Waiting, [], acting, all_tasks, ap, arith, backing_of, code_where, copy_target, count_by, count_on, entries_in, entries_in_row, entries_of, entry, eqb_tells, false, fills, has_entry, has_region, holds, home_of, host_of, if◌then◌else◌, in_use, inheritance, inherited, inl, inr, is_copied, is_none, is_range, is_some, length, local, marked_regions, meets_declared, most_entries, named, next_object, next_region, place_of, protected, protection, refl, refusal, region_at, region_entries, region_of, rows_in, rows_map, subst, suc, sym, tasks, true, unwrap_or, waiting, waiting_in, zero, ℕ, ◌&&◌, ◌*◌, ◌+◌, ◌-◌, ◌<◌, ◌==◌, ◌||◌, ◌∙◌, ◌∷◌, ◌≡◌, ◌≤◌}
+use Rattle.vm_kernel.proofs.Common.{Access, AllReferred, AllRows, AllUsed, ChainTable, ChangesOnly, Code, Entry, Event, HasEntries, HasHomes, HasKinds, HasPages, HasRegions, HasUse, HasWaiters, Header, Ids, Inherit, IsInside, List, Lowered, MapChange, Mapped, None, Option, Outside, Parts, Prot, Raised, Ran, RegionRow, Rests, Some, Starts, TaskId, Waiting, [], acting, all_tasks, ap, arith, backing_of, code_where, copy_target, count_by, count_on, entries_in, entries_in_row, entries_of, entry, eqb_tells, false, fills, has_entry, has_region, holds, home_of, host_of, if◌then◌else◌, in_use, inheritance, inherited, inl, inr, is_copied, is_none, is_range, is_some, is_woken, length, local, marked_regions, meets_declared, most_entries, named, next_object, next_region, place_of, protected, protection, refl, refusal, region_at, region_entries, region_of, rows_in, rows_map, subst, suc, sym, tasks, true, unwrap_or, waiting, waiting_in, zero, ℕ, ◌&&◌, ◌*◌, ◌+◌, ◌-◌, ◌<◌, ◌==◌, ◌||◌, ◌∙◌, ◌∷◌, ◌≡◌, ◌≤◌}
 use Rattle.vm_state.specs.Places.{known_local}
 use Rattle.std.proofs.Common.{not}
 use Rattle.std.proofs.lemmas.Bool.{or_parts}
@@ -22,6 +22,7 @@ use Rattle.vm_state.proofs.Waited.{waits_changed, told_changed}
 use Rattle.vm_kernel.proofs.Mine.{own_task}
 use Rattle.vm_kernel.proofs.Own.{rows_here}
 use Rattle.vm_kernel.proofs.Sharing.{kinds_recounted, shared_changed, shared_inherited, shared_protected}
+use Rattle.vm_kernel.proofs.Replied.{replied_behind}
 
 -- how many entries lead to a region
 
@@ -79,7 +80,7 @@ pub record Changed (header : Header) (h : ℕ) (past : List Event) (k : Parts) (
   pub pages : HasPages k.memory.frames k.memory.resident k.memory.objects (λ o p. known_local header o p (local header.size h (place_of o p) past))
   pub used : AllUsed chains
   pub referred : AllReferred chains k.memory.objects k.memory.resident
-  pub waits : HasWaiters maps chains k.memory.resident k.memory.objects k.waits.rows woken.Nobody (λ t. waiting t past)
+  pub waits : HasWaiters maps chains k.memory.resident k.memory.objects k.waits.rows (is_woken woken.Nobody) (λ t. waiting t past)
 
 pub changed_by : (header : Header) (h : ℕ) (past : List Event) (k : Parts) (ids : Ids) (maps : Mapped) (chains : ChainTable) (task : ℕ) (rows : Option (List Entry)) (lost : List Entry) (count : ℕ → ℕ) → Rests header h k ids past → waiting task past ≡ None
     → ChangesOnly k.maps maps task rows → entries_in task k.maps ≡ Some (rows_in task k.maps) → Cuts header.size k.chains (rows_in task k.maps) (unwrap_or rows []) lost → Recounts count k.chains chains
@@ -96,7 +97,7 @@ changed_by header h past k ids maps chains task rows lost count rests idle chang
       pages = m.pages;
       used = recount_used count k.chains chains is (λ r there some. let sum = sums r there in let kept = cuts.kept r in omega arith) rests.used;
       referred = recount_referred count k.chains chains k.memory.objects k.memory.resident is rests.referred;
-      waits = waits_changed k.maps maps k.chains chains k.memory.resident k.memory.objects k.waits.rows woken.Nobody (λ t. waiting t past) task rows rests.waits changes (not_there header h past k ids task old rests lives idle) (tops_recounted count k.chains chains is)
+      waits = waits_changed k.maps maps k.chains chains k.memory.resident k.memory.objects k.waits.rows (is_woken woken.Nobody) (λ t. waiting t past) task rows rests.waits changes (not_there header h past k ids task old rests lives idle) (tops_recounted count k.chains chains is)
           (told_changed k.maps maps k.waits.rows (λ t. waiting t past) task old rows rests.waits.is changes lives);
     }
 
@@ -193,6 +194,7 @@ ran_protect header h outside task address bytes prot past events k ids maps mid 
             homes = c.homes;
             files = m.files;
             settled = record { returned = refl; shut = λ region. refl };
+            replied = replied_behind tt m.replied;
             laundry = m.laundry;
             frames = m.frames;
           };
@@ -261,6 +263,7 @@ ran_inherit header h outside task address bytes inherit past events k ids maps m
             homes = c.homes;
             files = m.files;
             settled = record { returned = refl; shut = λ region. refl };
+            replied = replied_behind tt m.replied;
             laundry = m.laundry;
             frames = m.frames;
           };

@@ -4,13 +4,12 @@ use Rattle.std.proofs.Common.{◌∙◌, ap, arith, inl, inr, refl, subst, sym}
 use Rattle.std.proofs.lemmas.Bool.Decides.{eqb_tells, nat_tests}
 use Rattle.vm_base.specs.declared.ids.FrameNo.{FrameNo}
 use Rattle.vm_base.specs.declared.ids.HostId.{HostId}
-use Rattle.vm_base.specs.declared.ids.Lock.{Lock}
 use Rattle.vm_base.specs.declared.ids.ObjectId.{ObjectId}
 use Rattle.vm_base.specs.declared.ids.PageKey.{PageKey}
 use Rattle.vm_base.specs.declared.ids.RegionId.{RegionId}
 use Rattle.vm_base.specs.declared.ids.TaskId.{TaskId}
 use Rattle.vm_fault.specs.Faults.{AfterZeros, AtOnce, Ended, Faulted, FaultState, Hits, Prepares, Raised, References}
-use Rattle.vm_fault.specs.Walks.{is_storing, keeps_out, wanted_number}
+use Rattle.vm_fault.specs.Walks.{is_storing, wanted_number}
 use Rattle.vm_fault.specs.declared.step.FaultStep.{FaultStep}
 use Rattle.vm_fault.specs.declared.step.FaultStep.TheVariants as step
 use Rattle.vm_frames.specs.Frames.{free}
@@ -24,12 +23,12 @@ use Rattle.vm_model.specs.declared.message.Channel.TheVariants.{Up}
 use Rattle.vm_model.specs.declared.message.Message.TheVariants as message
 use Rattle.vm_objects.specs.Objects.{ObjectTable}
 use Rattle.vm_parts.proofs.Rows.{some_is}
-use Rattle.vm_parts.specs.Changes.{unlocked}
 use Rattle.vm_parts.specs.declared.parts.HostParts.{HostParts}
 use Rattle.vm_resident.specs.Resident.{ResidentTable, row_at}
 use Rattle.vm_shadow.specs.Chains.{ChainTable}
 use Rattle.vm_shadow.specs.declared.region_row.RegionRow.{RegionRow}
-use Rattle.vm_state.specs.Waiters.{HasWaiters, Reason, access_in}
+use Rattle.vm_state.proofs.Waiting.{awaited_row}
+use Rattle.vm_state.specs.Waiters.{HasWaiters, Reason, access_in, is_woken}
 use Rattle.vm_supply.specs.declared.woken.Woken.TheVariants as woken
 use Rattle.vm_waits.proofs.Entries.{puts_here}
 use Rattle.vm_waits.specs.Waits.{PutsEntry, WaitTable, entry, is_again, is_frame, queue_without, with_on}
@@ -38,8 +37,7 @@ use Rattle.vm_waits.specs.declared.waiting.On.TheVariants as on
 use Rattle.vm_waits.specs.declared.waiting.Waiting.{Waiting}
 use Rattle.vm_waits.specs.declared.waiting.Want.{Want}
 use Rattle.vm_waits.specs.declared.waiting.Want.TheVariants as want
-use Rattle.vm_kernel.specs.Fits.{ArePlain}
-use Rattle.vm_kernel.specs.Turns.{Bare, Did, ForAsked, ForCopy, ForZeros, Found, IsFront, Nothing, QueueAfter, RunsOnce, Shadow}
+use Rattle.vm_kernel.specs.Turns.{Bare, Did, ForAsked, ForCopy, ForUnlock, ForZeros, Found, IsFront, Nothing, QueueAfter, RunsOnce, Shadow}
 
 -- what stands first: the pages, their frames and their lists are as they were
 pub record Front (s mid : FaultState) : Type 0 where
@@ -205,16 +203,11 @@ waits_page answer reason key (inr (inl is)) at = subst (λ (z : FaultStep). Wait
 waits_page answer reason key (inr (inr is)) at = subst (λ (z : FaultStep). WaitsOn z reason) (sym is) at
 
 -- nobody waits for a page that has no row
-unasked : (maps : Mapped) (chains : ChainTable) (resident : ResidentTable) (objects : ObjectTable) (rows : List Waiting) (waiting_at : ℕ → Option Access) (key : PageKey) (t : ℕ) (v : Waiting) → HasWaiters maps chains resident objects rows woken.Nobody waiting_at
+unasked : (maps : Mapped) (chains : ChainTable) (resident : ResidentTable) (objects : ObjectTable) (rows : List Waiting) (waiting_at : ℕ → Option Access) (key : PageKey) (t : ℕ) (v : Waiting) → HasWaiters maps chains resident objects rows (is_woken woken.Nobody) waiting_at
     → row_at resident key.object.0 key.page.0 ≡ None → entry rows t ≡ Some v → v.on ≢ on.Page key
 unasked maps chains resident objects rows waiting_at key t v has absent found waits =
     let reason : Reason maps chains resident objects t v.want (on.Page key) = subst (λ (z : On). Reason maps chains resident objects t v.want z) waits (has.reasons t v found refl) in
-    let bad : None ≡ Some reason.1.row = sym absent ∙ reason.1.found in cc
-
--- no plain lock keeps an access out
-pub plain_open : (lock : Lock) (writes : Bool) → lock ≡ unlocked → keeps_out lock writes ≡ false
-plain_open lock true is = ap (λ z. keeps_out z true) is
-plain_open lock false is = ap (λ z. keeps_out z false) is
+    awaited_row resident v.want key.object.0 key.page.0 reason.1 (λ row there is. let bad : None ≡ Some row = sym absent ∙ there in absurd (cc))
 
 -- the access that a request names, as the history has it
 number_same : (what : Want) (steps : ℕ) → desired_access (access_in what) steps ≡ wanted_number what steps
@@ -228,21 +221,32 @@ number_same (want.Store address n value) (suc steps) = ap (λ (b : Bool). if b t
 
 -- an access waits for a word of a pager
 pub once_turned : (w : Waiting) (may : Bool) (answer : FaultStep) (reason : On) (maps : Mapped) (host : HostId) (s new : FaultState) (objects : ObjectTable) (waits waits2 : WaitTable) (waiting_at : ℕ → Option Access) → WaitsOn answer reason
-    → HasWaiters maps s.chains s.parts.resident objects waits.rows woken.Nobody waiting_at → ArePlain s.parts.resident → Faulted maps host w.task w.want may answer s new → (may ≡ false → free new.parts.frames ≡ free s.parts.frames)
+    → HasWaiters maps s.chains s.parts.resident objects waits.rows (is_woken woken.Nobody) waiting_at → Faulted maps host w.task w.want may answer s new → (may ≡ false → free new.parts.frames ≡ free s.parts.frames)
     → PutsEntry w.task.0 (Some (with_on w reason)) waits.rows waits2.rows → waits2.queue ≡ queue_without w.task.0 waits.queue → RunsOnce w may false waits waits2 s.events new.events
-once_turned w may (step.Done value) reason maps host s new objects waits waits2 waiting_at why has plain f kept put queue = absurd why
-once_turned w may (step.NeedFrame source) reason maps host s new objects waits waits2 waiting_at why has plain f kept put queue = absurd why
-once_turned w may (step.WaitReady object) reason maps host s new objects waits waits2 waiting_at why has plain f kept put queue =
+once_turned w may (step.Done value) reason maps host s new objects waits waits2 waiting_at why has f kept put queue = absurd why
+once_turned w may (step.NeedFrame source) reason maps host s new objects waits waits2 waiting_at why has f kept put queue = absurd why
+once_turned w may (step.WaitReady object) reason maps host s new objects waits waits2 waiting_at why has f kept put queue =
     stayed w may false s f.mid new waits waits2 (front_in f) f.comes.1.told (puts_rest w.task (Some (with_on w reason)) waits.rows waits2.rows put) queue
     (done_by w.task.0 (Some (with_on w reason)) waits.rows waits2.rows put (λ v. turned_done w v reason (ap is_again why)))
-once_turned w may (step.WaitAnswer key) reason maps host s new objects waits waits2 waiting_at why has plain f kept put queue =
+once_turned w may (step.WaitAnswer key) reason maps host s new objects waits waits2 waiting_at why has f kept put queue =
     stayed w may false s f.mid new waits waits2 (front_in f) f.comes.1.told (puts_rest w.task (Some (with_on w reason)) waits.rows waits2.rows put) queue
     (done_by w.task.0 (Some (with_on w reason)) waits.rows waits2.rows put (λ v. turned_done w v reason (ap is_again why)))
-once_turned w may (step.Unlock key) reason maps host s new objects waits waits2 waiting_at why has plain f kept put queue =
+once_turned w may (step.Unlock key) reason maps host s new objects waits waits2 waiting_at why has f kept put queue =
+    let first = front_in f in
     let asks = f.comes in
-    let there : row_at s.parts.resident key.object.0 key.page.0 ≡ Some asks.row = ap (λ z. row_at z key.object.0 key.page.0) (sym (front_in f).rows) ∙ asks.finds.found in
-    absurd (let bad : true ≡ false = sym asks.locked ∙ plain_open asks.row.lock _ (plain key.object.0 key.page.0 asks.row there).lock in cc)
-once_turned w may (step.Ask key) reason maps host s new objects waits waits2 waiting_at why has plain f kept put queue =
+    let e : Event = event.Sent (Up host key.object) (message.Unlock asks.object.control key.page (wanted_number w.want asks.steps)) in
+    record {
+      more = e ∷ first.front;
+      told = asks.told ∙ ap (λ (z : List Event). e ∷ z) first.told;
+      claims = false;
+      did = ForUnlock first.front first.is host key asks.object.control (wanted_number w.want asks.steps);
+      none = λ bar. refl;
+      nothing = λ bad. absurd (let clash : false ≡ true = bad in cc);
+      done = done_by w.task.0 (Some (with_on w reason)) waits.rows waits2.rows put (λ v. turned_done w v reason (ap is_again why));
+      rest = puts_rest w.task (Some (with_on w reason)) waits.rows waits2.rows put;
+      queue = queue;
+    }
+once_turned w may (step.Ask key) reason maps host s new objects waits waits2 waiting_at why has f kept put queue =
     let first = front_in f in
     let asked = f.comes in
     let absent : row_at s.parts.resident key.object.0 key.page.0 ≡ None = ap (λ z. row_at z key.object.0 key.page.0) (sym first.rows) ∙ asked.comes.absent in

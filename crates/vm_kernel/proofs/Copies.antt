@@ -1,5 +1,5 @@
 -- A task gets an entry on a symmetric copy of a region.
-use Rattle.vm_kernel.proofs.Common.{Access, AllReferred, AllRows, AllUsed, ArePlain, Backing, Bool, ChainTable, ChangesOnly, Command, Enters, Entry, Event, Fit, HasEntries, HasKinds, HasRegions, HasWaiters, Header, HostParts, Ids, Inside, IsAllowed, IsInside, List, Mapped, None, ObjectRow, ObjectTable, Option, Outside, Parts, Place, PutsEntries, PutsObject, Ran, Region, RegionRow, ResidentTable, Rests, SameMarks, Some, Starts, TaskId, Waiting, [], all_tasks, allows, ap, arith, code_where, count_again, count_by, count_on, entered, entering, entries_in, entries_of, entry, entry_at, eqb_tells, false, fit_objects, found_row, got, has_entry, head, holds, home_entered, home_of, home_stays, homes_next, host_of, if◌then◌else◌, in_use, inl, inr, is_none, is_on, is_range, is_ready, is_some, last_control, length, length_entered, live_control, lives_on, local_of_row, marked_regions, meets_range, most_entries, named, nat_le, nat_tests, next_object, next_region, object_at, one_case, page_at, page_below, pages_in, pages_of_row, place_at, refl, region_at, region_entries, region_of, region_pages, row_at, rows_entered, rows_in, rows_map, same_pages, some_is, subst, suc, sym, tasks, true, waiting, waiting_in, whole_entry, zero, ℕ, ◌%◌, ◌&&◌, ◌++◌, ◌+◌, ◌-◌, ◌/◌, ◌<◌, ◌==◌, ◌^◌, ◌||◌, ◌∙◌, ◌∷◌, ◌≡◌, ◌≤◌, ◌⊎◌}
+use Rattle.vm_kernel.proofs.Common.{Access, AllReferred, AllRows, AllUsed, ArePlain, Backing, Bool, ChainTable, ChangesOnly, Command, Enters, Entry, Event, Fit, HasEntries, HasKinds, HasRegions, HasWaiters, Header, HostParts, Ids, Inside, IsAllowed, IsInside, List, Mapped, None, ObjectRow, ObjectTable, Option, Outside, Parts, Place, PutsEntries, PutsObject, Ran, Region, RegionRow, ResidentTable, Rests, SameMarks, Some, Starts, TaskId, Waiting, [], all_tasks, allows, ap, arith, code_where, count_again, count_by, count_on, entered, entering, entries_in, entries_of, entry, entry_at, eqb_tells, false, fit_objects, found_row, got, has_entry, head, holds, home_entered, home_of, home_stays, homes_next, host_of, if◌then◌else◌, in_use, inl, inr, is_none, is_on, is_range, is_ready, is_some, is_woken, last_control, length, length_entered, live_control, lives_on, local_of_row, marked_regions, meets_range, most_entries, named, nat_le, nat_tests, next_object, next_region, object_at, one_case, page_at, page_below, pages_in, pages_of_row, place_at, refl, region_at, region_entries, region_of, region_pages, row_at, rows_entered, rows_in, rows_map, same_pages, some_is, subst, suc, sym, tasks, true, waiting, waiting_in, whole_entry, zero, ℕ, ◌%◌, ◌&&◌, ◌++◌, ◌+◌, ◌-◌, ◌/◌, ◌<◌, ◌==◌, ◌^◌, ◌||◌, ◌∙◌, ◌∷◌, ◌≡◌, ◌≤◌, ◌⊎◌}
 use Rattle.std.proofs.Common.{nat_lt, not}
 use Rattle.std.specs.Prelude.{IsSome}
 use Rattle.vm_base.specs.declared.code.Code.TheVariants as code
@@ -47,7 +47,9 @@ use Rattle.vm_kernel.proofs.Uses.{holds_rows, paged_temporary, unfilled, uses_en
 use Rattle.vm_kernel.proofs.After.{controls_stay, regions_behind}
 use Rattle.vm_kernel.proofs.Rewrites.{lives_below}
 use Rattle.vm_kernel.proofs.Strands.{controls_referred}
+use Rattle.vm_kernel.proofs.Replied.{replied_behind}
 use Rattle.std.proofs.lemmas.Bool.{and_parts, not-false, or_parts}
+use Rattle.vm_state.specs.References.{is_live_in}
 
 -- regions that count other entries
 
@@ -400,14 +402,14 @@ rests_copied header h outside doing task source offset row past k k2 ids ids2 be
     let rows_are : k2.memory.resident ≡ k.memory.resident = ap (λ (z : HostParts). z.resident) s.memory in
     let waits_at = λ (t : ℕ). waiting t past in
     let none = no_row (entry k.waits.rows task.0) (waiting task.0 past) (rests.waits.is task.0 (ap is_some lives)) may.idle in
-    let now_waits : HasWaiters k2.maps k2.chains k.memory.resident k2.memory.objects k.waits.rows woken.Nobody waits_at =
-    waits_referred k2.maps k2.chains k.memory.resident k.memory.objects k2.memory.objects k.waits.rows woken.Nobody waits_at top (s.known.references + 1) s.known
-    (waits_changed k.maps k2.maps k.chains k2.chains k.memory.resident k.memory.objects k.waits.rows woken.Nobody waits_at task.0 (Some (entered new (rows_in task.0 k.maps))) rests.waits s.maps none
+    let now_waits : HasWaiters k2.maps k2.chains k.memory.resident k2.memory.objects k.waits.rows (is_woken woken.Nobody) waits_at =
+    waits_referred k2.maps k2.chains k.memory.resident k.memory.objects k2.memory.objects k.waits.rows (is_woken woken.Nobody) waits_at top (s.known.references + 1) s.known
+    (waits_changed k.maps k2.maps k.chains k2.chains k.memory.resident k.memory.objects k.waits.rows (is_woken woken.Nobody) waits_at task.0 (Some (entered new (rows_in task.0 k.maps))) rests.waits s.maps none
     (places_copy source.0 s.copy.0 offset pages s.region k.chains s.mid k2.chains once) (told_changed k.maps k2.maps k.waits.rows waits_at task.0 (rows_in task.0 k.maps) (Some (entered new (rows_in task.0 k.maps))) rests.waits.is s.maps lives))
     s.object s.refers in
     let referred : AllReferred k2.chains k2.memory.objects k.memory.resident =
     referred_recounted s.mid k2.chains k2.memory.objects k.memory.resident recount
-    (referred_copied top (record s.known { references = s.known.references + 1 }) source.0 s.copy.0 offset pages s.region k.chains s.mid k.memory.objects k2.memory.objects k.memory.resident copies s.refers (omega arith) rests.referred) in
+    (referred_copied top (record s.known { references = s.known.references + 1 }) source.0 s.copy.0 offset pages s.region k.chains s.mid k.memory.objects k2.memory.objects k.memory.resident copies s.refers (omega arith) (λ is. sym (ap is_live_in s.object) ∙ is) rests.referred) in
     record {
       matches =
           record {
@@ -446,6 +448,7 @@ rests_copied header h outside doing task source offset row past k k2 ids ids2 be
                 (controls_referred top (s.known.references + 1) s.known k.memory.objects k2.memory.objects (λ o. last_control h o past) (λ o. live_control h o past) (λ o. is_ready h o past) s.object s.refers m.controls);
             homeless = homes_next header outside e (now ∷ past) (doing, enters) (homes_next header outside now past (doing, copy_cause header s.copy source offset pages past may.temporary may.from number) m.homeless);
             settled = record { returned = refl; shut = λ region. refl };
+            replied = replied_behind tt (replied_behind tt m.replied);
             laundry = rw (frames_are, rows_are, s.laundry) m.laundry;
             frames = rw frames_are m.frames;
           };

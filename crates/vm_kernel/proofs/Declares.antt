@@ -1,5 +1,5 @@
 -- The region of a declared object is made, and the object's pager is told of it: what that leaves of each table.
-use Rattle.vm_kernel.proofs.Common.{AllReferred, AllUsed, Bool, ChainTable, ChangesOnly, Entry, Event, Fit, HasControls, HasEntries, HasKinds, HasRegions, HasWaiters, HaveHomes, Header, HostParts, Ids, IfSome, IsInside, List, Mapped, None, ObjectId, ObjectRow, ObjectTable, Option, Parts, PutsObject, PutsRegion, RegionRow, ResidentTable, SameMarks, Some, Waiting, Without, [], all_tasks, ap, arith, backing_of, count_by, entered, eqb_tells, false, fit_within, has_entry, has_pager, if◌then◌else◌, inl, inr, is_ready_state, is_some, last_in, length, length_entered, live_in, most_entries, named, object_at, page_below, pages_in, pages_of_row, ready_in, refl, region_at, region_of, region_pages, rows_entered, rows_in, rows_map, shadow_at, some_is, subst, sym, true, ℕ, ◌%◌, ◌+◌, ◌-◌, ◌/◌, ◌<◌, ◌==◌, ◌^◌, ◌∙◌, ◌≡◌, ◌≤◌, ◌⊎◌}
+use Rattle.vm_kernel.proofs.Common.{AllReferred, AllUsed, Bool, ChainTable, ChangesOnly, Entry, Event, Fit, HasControls, HasEntries, HasKinds, HasRegions, HasWaiters, HaveHomes, Header, HostParts, Ids, IfSome, IsInside, List, Mapped, None, ObjectId, ObjectRow, ObjectTable, On, Option, Parts, PutsObject, PutsRegion, RegionRow, ResidentTable, SameMarks, Some, Waiting, Without, [], all_tasks, ap, arith, backing_of, count_by, entered, eqb_tells, false, fit_within, has_entry, has_pager, if◌then◌else◌, inl, inr, is_ready_state, is_some, last_in, length, length_entered, live_in, most_entries, named, object_at, page_below, pages_in, pages_of_row, ready_in, refl, region_at, region_of, region_pages, rows_entered, rows_in, rows_map, shadow_at, some_is, subst, sym, true, ℕ, ◌%◌, ◌+◌, ◌-◌, ◌/◌, ◌<◌, ◌==◌, ◌^◌, ◌∙◌, ◌≡◌, ◌≤◌, ◌⊎◌}
 use Rattle.std.specs.Prelude.{IsSome}
 use Rattle.vm_legal.specs.Outside.{kind_of}
 use Rattle.vm_model.specs.Named.{declared_pages}
@@ -16,7 +16,6 @@ use Rattle.vm_state.proofs.Knowing.{counts_still, known_cases, known_put, known_
 use Rattle.vm_state.proofs.Tallies.{tally_none, tally_put, tally_same}
 use Rattle.vm_state.proofs.Told.{told_all, waits_told}
 use Rattle.vm_state.specs.References.{is_backing, is_over, references_to, tally}
-use Rattle.vm_supply.specs.declared.woken.Woken.{Woken}
 use Rattle.vm_kernel.specs.Mapping.{Again, Holds}
 use Rattle.vm_kernel.proofs.Counts.{by_none, none_on, on_entered, one_on}
 use Rattle.vm_kernel.proofs.Regions.{apart_there, none_leads}
@@ -282,7 +281,7 @@ controls_opened header os os2 last_at live_at ready_at o new has declared known 
     was k apart = put.at k ∙ ap (λ b. if b then Some new else object_at os k) apart
 
 -- nobody waited for its pager
-pub waits_declared : (header : Header) (maps : Mapped) (cs : ChainTable) (rs : ResidentTable) (os os2 : ObjectTable) (rows : List Waiting) (who : Woken) (waiting_at : ℕ → Option Access) (o : ℕ) (new : ObjectRow)
+pub waits_declared : (header : Header) (maps : Mapped) (cs : ChainTable) (rs : ResidentTable) (os os2 : ObjectTable) (rows : List Waiting) (who : On → Bool) (waiting_at : ℕ → Option Access) (o : ℕ) (new : ObjectRow)
     → HasWaiters maps cs rs os rows who waiting_at → BecomesKnown header o (object_at os o) new → PutsObject o (Some new) os os2 → HasWaiters maps cs rs os2 rows who waiting_at
 waits_declared header maps cs rs os os2 rows who waiting_at o new has known put =
     waits_told maps cs rs os os2 rows who waiting_at has

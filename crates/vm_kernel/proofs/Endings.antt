@@ -1,5 +1,5 @@
 -- Tasks end, and ranges are unmapped.
-use Rattle.vm_kernel.proofs.Common.{Access, AllRows, Bool, ChainTable, ChangesOnly, Command, Entry, Event, HasTasks, HasUse, HasWaiters, Header, IsShared, Ids, IsDone, List, Lowered, MapChange, Mapped, None, ObjectTable, Option, Outside, Parts, Raised, Ran, ResidentTable, Rests, Some, Starts, Sweeps, TaskId, Waiting, Woken, [], ap, arith, count_on, entries_in, entries_of, eqb_tells, false, has_region, holds, host_of, if◌then◌else◌, in_use, inl, inr, is_on, length, most_entries, named, next_region, parts_for, refl, region_entries, removal, removed, rows_in, rows_rewritten, subst, sym, true, unwrap_or, waiting, ℕ, ◌++◌, ◌+◌, ◌-◌, ◌==◌, ◌∙◌, ◌∷◌, ◌≡◌, ◌≤◌}
+use Rattle.vm_kernel.proofs.Common.{Access, AllRows, Bool, ChainTable, ChangesOnly, Command, Entry, Event, HasTasks, HasUse, HasWaiters, Header, Ids, IsDone, IsShared, List, Lowered, MapChange, Mapped, None, ObjectTable, On, Option, Outside, Parts, Raised, Ran, ResidentTable, Rests, Some, Starts, Sweeps, TaskId, Waiting, [], ap, arith, count_on, entries_in, entries_of, eqb_tells, false, has_region, holds, host_of, if◌then◌else◌, in_use, inl, inr, is_on, is_woken, length, most_entries, named, next_region, parts_for, refl, region_entries, removal, removed, rows_in, rows_rewritten, subst, sym, true, unwrap_or, waiting, ℕ, ◌++◌, ◌+◌, ◌-◌, ◌==◌, ◌∙◌, ◌∷◌, ◌≡◌, ◌≤◌}
 use Rattle.std.proofs.Common.{is_some}
 use Rattle.vm_abroad.proofs.Home.{homes_next, object_stays}
 use Rattle.vm_kernel.proofs.After.{controls_stay, regions_moved}
@@ -16,6 +16,7 @@ use Rattle.vm_kernel.proofs.Rewrites.{recount_known, tasks_changed}
 use Rattle.vm_kernel.proofs.Sharing.{kinds_recounted, shared_changed}
 use Rattle.vm_kernel.proofs.Uses.{uses_cut, ApartFrom, elsewhere, holds_rows}
 use Rattle.vm_kernel.proofs.Mine.{own_task}
+use Rattle.vm_kernel.proofs.Replied.{replied_behind}
 
 -- a task ends
 
@@ -35,7 +36,7 @@ tasks_ended h size task maps new host_at rows_at has changes =
     }
 
 -- a task that ends didn't wait
-waits_ended : (maps : Mapped) (cs : ChainTable) (rs : ResidentTable) (os : ObjectTable) (rows : List Waiting) (who : Woken) (waiting_at : ℕ → Option Access) (task : ℕ) → HasWaiters maps cs rs os rows who waiting_at → entries_in task maps ≡ None
+waits_ended : (maps : Mapped) (cs : ChainTable) (rs : ResidentTable) (os : ObjectTable) (rows : List Waiting) (who : On → Bool) (waiting_at : ℕ → Option Access) (task : ℕ) → HasWaiters maps cs rs os rows who waiting_at → entries_in task maps ≡ None
     → HasWaiters maps cs rs os rows who (λ t. if task == t then None else waiting_at t)
 waits_ended maps cs rs os rows who waiting_at task has none =
     record {
@@ -71,8 +72,8 @@ sweeps_exit header h outside task past events k ids maps gone s value changes =
     (λ r there. let same = ap (count_on r) live.0 in omega arith) in
     let shown_tasks : HasTasks h header.size maps (λ t. host_of t (event.TaskEnded task ∷ past)) (λ t. entries_of header.size t (event.TaskEnded task ∷ past)) =
     tasks_ended h header.size task.0 k.maps maps (λ t. host_of t past) (λ t. entries_of header.size t past) m.tasks changes in
-    let shown_waits : HasWaiters maps k.chains k.memory.resident k.memory.objects k.waits.rows woken.Nobody (λ t. waiting t (event.TaskEnded task ∷ past)) =
-    waits_ended maps k.chains k.memory.resident k.memory.objects k.waits.rows woken.Nobody (λ t. waiting t past) task.0 c.waits changes.changed in
+    let shown_waits : HasWaiters maps k.chains k.memory.resident k.memory.objects k.waits.rows (is_woken woken.Nobody) (λ t. waiting t (event.TaskEnded task ∷ past)) =
+    waits_ended maps k.chains k.memory.resident k.memory.objects k.waits.rows (is_woken woken.Nobody) (λ t. waiting t past) task.0 c.waits changes.changed in
     record {
       runs = record {
         begins = s.begins;
@@ -97,6 +98,7 @@ sweeps_exit header h outside task past events k ids maps gone s value changes =
           homes = c.homes;
           files = m.files;
           settled = record { returned = refl; shut = λ region. refl };
+          replied = replied_behind tt m.replied;
           laundry = m.laundry;
           frames = m.frames;
         };
@@ -181,6 +183,7 @@ sweeps_removed header h outside task address bytes past events k ids maps mid hi
           homes = c.homes;
           files = m.files;
           settled = record { returned = refl; shut = λ region. refl };
+          replied = replied_behind tt m.replied;
           laundry = m.laundry;
           frames = m.frames;
         };

@@ -1,5 +1,5 @@
 -- Entries that have gone leave the counts.
-use Rattle.vm_kernel.proofs.Common.{AllUsed, ChainTable, Command, EndsRegion, Entry, Event, HasEntries, Header, Ids, IsInStep, List, Mapped, Outside, Parts, PutsEntries, RegionRow, Some, Sweeps, ap, arith, backing_of, count_on, drop, entries_in_row, eqb_tells, home_of, if◌then◌else◌, inl, inr, marked_regions, next_object, next_region, refl, region_at, region_entries, region_of, rows_in, slice_get, subst, suc, sym, waiting, zero, ℕ, ◌++◌, ◌+◌, ◌-◌, ◌<◌, ◌==◌, ◌∙◌, ◌∷◌, ◌≡◌, ◌≢◌, ◌≤◌}
+use Rattle.vm_kernel.proofs.Common.{AllUsed, ChainTable, Command, EndsRegion, Entry, Event, HasEntries, Header, Ids, IsInStep, List, Mapped, Outside, Parts, PutsEntries, RegionRow, Some, Sweeps, ap, arith, backing_of, count_on, drop, entries_in_row, eqb_tells, home_of, if◌then◌else◌, inl, inr, is_woken, marked_regions, next_object, next_region, refl, region_at, region_entries, region_of, rows_in, slice_get, subst, suc, sym, waiting, zero, ℕ, ◌++◌, ◌+◌, ◌-◌, ◌<◌, ◌==◌, ◌∙◌, ◌∷◌, ◌≡◌, ◌≢◌, ◌≤◌}
 use Rattle.vm_supply.specs.declared.woken.Woken.TheVariants as woken
 use Rattle.vm_kernel.proofs.Pages.{itself}
 use Rattle.vm_kernel.proofs.Recounts.{Recounts, entries_are, has_same, next_row, recounts_put, row_before}
@@ -73,10 +73,11 @@ runs_less header h outside doing past k ids entry rest events chains s put =
         homes = recount_homes count header h k.chains chains (λ r. home_of r moment) is m.homes;
         files = m.files;
         settled = m.settled;
+        replied = m.replied;
         laundry = m.laundry;
         frames = m.frames;
       };
-      waits = waits_kept k.maps k.maps k.chains chains k.memory.resident k.memory.objects k.waits.rows woken.Nobody (λ t. waiting t moment) s.waits (λ t w found. record { size = refl; entries = refl }) (tops_recounted count k.chains chains is) s.waits.is;
+      waits = waits_kept k.maps k.maps k.chains chains k.memory.resident k.memory.objects k.waits.rows (is_woken woken.Nobody) (λ t. waiting t moment) s.waits (λ t w found. record { size = refl; entries = refl }) (tops_recounted count k.chains chains is) s.waits.is;
       order = s.order;
       idle = s.idle;
       grows = s.grows;

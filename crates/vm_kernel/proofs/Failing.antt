@@ -15,6 +15,7 @@ use Rattle.vm_kernel.proofs.Uses.{holds_waits, uses_none}
 use Rattle.vm_kernel.proofs.Own.{lives_here, rows_here}
 use Rattle.vm_state.proofs.Waited.{AreTold}
 use Rattle.vm_kernel.proofs.Mine.{own_lives}
+use Rattle.vm_kernel.proofs.Replied.{replied_behind}
 
 -- who waits for the page
 pub waits_for : (key : PageKey) (reason : On) → woken_page key reason ≡ true → reason ≡ on.Page key
@@ -158,6 +159,7 @@ failed_one header h outside doing past old events key k ids w waits f found pass
                   homes = was.homes;
                   files = was.files;
                   settled = record { returned = refl; shut = λ region. refl };
+                  replied = replied_behind tt was.replied;
                   laundry = was.laundry;
                   frames = was.frames;
                 };

@@ -1,5 +1,5 @@
 -- An access that finds its page ends at once.
-use Rattle.vm_kernel.proofs.Common.{ArePlain, Backing, Bool, Comes, Command, EndsNext, Event, FindsPage, FrameNo, Header, HostId, HostParts, Ids, IsAt, IsNextAccess, IsTop, LegalEvents, List, Loading, ObjectRow, Option, Outside, PageKey, PageRow, Parts, RegionRow, Sight, Some, Storing, TaskId, ToRead, ToWrite, Waiting, Waits, Walks, Want, Works, [], access_in, address_in, ap, append_assoc, backing_of, count_again, entries_of, entry, entry_at, false, has_pager, inl, inr, is_again, is_known_absent, is_some, not, page_at, page_on, refl, region_of, sight, some_is, subst, suc, sym, true, zero, ℕ, ◌%◌, ◌&&◌, ◌++◌, ◌+◌, ◌∙◌, ◌∷◌, ◌≡◌, ◌⊎◌}
+use Rattle.vm_kernel.proofs.Common.{Backing, Bool, Comes, Command, EndsNext, Event, FindsPage, FrameNo, Header, HostId, HostParts, Ids, IsAt, IsNextAccess, IsTop, LegalEvents, List, Loading, ObjectRow, Option, Outside, PageKey, PageRow, Parts, RegionRow, Sight, Some, Storing, TaskId, ToRead, ToWrite, Waiting, Waits, Walks, Want, Works, [], access_in, address_in, ap, append_assoc, backing_of, count_again, entries_of, entry, entry_at, false, has_pager, inl, inr, is_again, is_known_absent, is_some, not, page_at, page_on, refl, region_of, sight, some_is, subst, suc, sym, true, zero, ℕ, ◌%◌, ◌&&◌, ◌++◌, ◌+◌, ◌∙◌, ◌∷◌, ◌≡◌, ◌⊎◌}
 use Rattle.vm_base.specs.declared.entry.Entry.{Entry}
 use Rattle.vm_fault.specs.Faults.{AfterZeros, AtOnce, Ended, FaultState, Faulted, Hits, Needs, Nowhere, Prepares, Raised, ToAsk, ToRaise}
 use Rattle.vm_fault.specs.Faults as fault
@@ -20,7 +20,8 @@ use Rattle.vm_supply.specs.declared.woken.Woken.TheVariants as woken
 use Rattle.vm_terminate.specs.Finishes.{IsReferred}
 use Rattle.vm_waits.specs.declared.waiting.Want.TheVariants as want
 use Rattle.vm_kernel.proofs.Shown.{shown_at}
-use Rattle.vm_kernel.proofs.Claiming.{plain_open}
+use Rattle.vm_state.proofs.Locks.{kept_anywhere, names_kept}
+use Rattle.vm_legal.specs.Accesses.{names}
 use Rattle.std.proofs.lemmas.Bool.{and_left, and_right}
 
 pub some_same : {A : Type 0} (x y : A) → Some x ≡ Some y → x ≡ y
@@ -60,13 +61,14 @@ record FindsAt (header : Header) (h : ℕ) (past : List Event) (what : Want) (to
   pub walks : Walks (λ k q. sight header h k q past) (λ k. backing_of header k past) steps top.object.0 top.page.0 object page
   pub here : (page_on header h object page past).here ≡ true
   pub first : is_storing what ≡ true → steps ≡ 0
+  pub open_to : names (page_on header h object page past).lock (is_storing what) ≡ false
 
 -- the access is the one that waits, on the host of its task, at the entry that holds its address
 
 -- a load
 read_at : (header : Header) (h : ℕ) (past : List Event) (k : Parts) (task address bytes object page : ℕ) (what : Want) (top : PageKey) (at : IsAt k.maps k.chains task what top) → Leads header h past k task what top at → (waits : Waits header task (Loading address bytes) past)
-    → Comes header waits.at.host waits.at.entry.region.0 (page_at header.size address waits.at.entry) object page past → (page_on header waits.at.host object page past).here ≡ true → FindsAt header h past what top
-read_at header h past k task address bytes object page what top at to waits comes here =
+    → Comes header waits.at.host waits.at.entry.region.0 (page_at header.size address waits.at.entry) object page past → (page_on header waits.at.host object page past).here ≡ true → names (page_on header waits.at.host object page past).lock false ≡ false → FindsAt header h past what top
+read_at header h past k task address bytes object page what top at to waits comes here open_to =
     by what refl
   where
     load_address : (a n a2 n2 : ℕ) → Some (Loading a n) ≡ Some (Loading a2 n2) → a ≡ a2
@@ -93,6 +95,7 @@ read_at header h past k task address bytes object page what top at to waits come
               (subst (λ (z : ℕ). Walks (λ k q. sight header h k q past) (λ k. backing_of header k past) comes2.steps comes2.top z object page) top_page comes2.walks);
           here = subst (λ (z : ℕ). (page_on header z object page past).here ≡ true) host here;
           first = λ stores. absurd (let bad : false ≡ true = sym (ap is_storing is) ∙ stores in cc);
+          open_to = ap (names (page_on header h object page past).lock) (ap is_storing is) ∙ subst (λ (z : ℕ). names (page_on header z object page past).lock false ≡ false) host open_to;
         }
 
 -- a store, and that its region has no mark
@@ -102,8 +105,8 @@ record WritesAt (header : Header) (h : ℕ) (past : List Event) (what : Want) (t
 
 write_at : (header : Header) (h : ℕ) (past : List Event) (k : Parts) (task address bytes value object page : ℕ) (what : Want) (top : PageKey) (at : IsAt k.maps k.chains task what top) → Leads header h past k task what top at
     → (waits : Waits header task (Storing address bytes value) past) → IsTop (region_of header waits.at.entry.region.0 past) (page_at header.size address waits.at.entry) object page → (region_of header waits.at.entry.region.0 past).mark ≡ false
-    → (page_on header waits.at.host object page past).here ≡ true → WritesAt header h past what top at.entry.region.0
-write_at header h past k task address bytes value object page what top at to waits is_top unmarked here =
+    → (page_on header waits.at.host object page past).here ≡ true → names (page_on header waits.at.host object page past).lock true ≡ false → WritesAt header h past what top at.entry.region.0
+write_at header h past k task address bytes value object page what top at to waits is_top unmarked here open_to =
     by what refl
   where
     store_address : (a n v a2 n2 v2 : ℕ) → Some (Storing a n v) ≡ Some (Storing a2 n2 v2) → a ≡ a2
@@ -127,6 +130,7 @@ write_at header h past k task address bytes value object page what top at to wai
             walks = (sym to.is_top.object ∙ top2.object, sym to.is_top.page ∙ top2.page);
             here = subst (λ (z : ℕ). (page_on header z object page past).here ≡ true) host here;
             first = λ stores. refl;
+            open_to = ap (names (page_on header h object page past).lock) (ap is_storing is) ∙ subst (λ (z : ℕ). names (page_on header z object page past).lock true ≡ false) host open_to;
           };
           unmarked = subst (λ (z : Entry). (region_of header z.region.0 past).mark ≡ false) entries unmarked;
         }
@@ -139,13 +143,13 @@ record FindsFirst (header : Header) (h : ℕ) (past : List Event) (what : Want) 
 finds_first : (header : Header) (h : ℕ) (past : List Event) (k : Parts) (task : ℕ) (what : Want) (top : PageKey) (at : IsAt k.maps k.chains task what top) → Leads header h past k task what top at → FindsPage header task past
     → FindsFirst header h past what top at.row
 finds_first header h past k task what top at to (ToRead address bytes object page waits comes here open_it) =
-    record { finds = read_at header h past k task address bytes object page what top at to waits comes here; bare = and_left (is_storing what) at.row.marked (loads what refl) }
+    record { finds = read_at header h past k task address bytes object page what top at to waits comes here open_it; bare = and_left (is_storing what) at.row.marked (loads what refl) }
   where
     loads : (want2 : Want) → what ≡ want2 → is_storing what ≡ false
     loads (want.Load a n) is = ap is_storing is
     loads (want.Store a n v) is = absurd (let bad : Some (Storing a n v) ≡ Some (Loading address bytes) = sym (to.waits ∙ ap (λ z. Some (access_in z)) is) ∙ waits.waits in cc)
 finds_first header h past k task what top at to (ToWrite address bytes value object page waits is_top unmarked here open_it) =
-    let writes = write_at header h past k task address bytes value object page what top at to waits is_top unmarked here in
+    let writes = write_at header h past k task address bytes value object page what top at to waits is_top unmarked here open_it in
     record { finds = writes.finds; bare = and_right (is_storing what) at.row.marked (sym to.marks ∙ writes.unmarked) }
 
 -- what the kernel's walk comes to is what the history's does
@@ -190,6 +194,21 @@ never_asked f n key row stops =
     let asks = asks_row f.shown key.object.0 key.page.0 row stops.found stops.away in
     never_stops f n key stops.walks (λ passes. (let bad : false ≡ true = sym passes.unasked ∙ asks.asked in cc)) asks.away
 
+-- and no lock keeps the access out where it is
+never_locked : {header : Header} {h : ℕ} {past : List Event} {parts : HostParts} {chains : ChainTable} {what : Want} {top : PageKey} → Found header h past parts chains what top → (n : ℕ) (key : PageKey) (row : PageRow) → Finds parts chains n top key row
+    → keeps_out row.lock (writes_at what n) ≡ true → ⊥
+never_locked {header = header} {h = h} {past = past} {what = what} {top = top} f n key row finds locked =
+    let shows = shows_row f.shown key.object.0 key.page.0 row finds.found finds.here in
+    let same = stop_same (λ k q. sight header h k q past) (λ k. backing_of header k past) n f.finds.steps top.object.0 top.page.0 key.object.0 key.page.0 f.finds.object f.finds.page (walks_of f.shown n top key finds.walks) f.finds.walks
+    (not_passed header h past key.object.0 key.page.0 shows.here) (not_passed header h past f.finds.object f.finds.page f.finds.here) in
+    let open_to : names (page_on header h key.object.0 key.page.0 past).lock (is_storing what) ≡ false =
+    subst (λ (z : ℕ). names (page_on header h z key.page.0 past).lock (is_storing what) ≡ false) (sym same.1)
+    (subst (λ (z : ℕ). names (page_on header h f.finds.object z past).lock (is_storing what) ≡ false) (sym same.2) f.finds.open_to) in
+    let names_it : names (page_on header h key.object.0 key.page.0 past).lock (is_storing what) ≡ true =
+    ap (λ z. names z (is_storing what)) shows.lock ∙ (names_kept row.lock (is_storing what) ∙ kept_anywhere row.lock what n locked) in
+    let bad : false ≡ true = sym open_to ∙ names_it in
+    cc
+
 -- a store finds it in the top place
 never_below : {header : Header} {h : ℕ} {past : List Event} {parts : HostParts} {chains : ChainTable} {what : Want} {top : PageKey} → Found header h past parts chains what top → (n : ℕ) (key : PageKey) (row : PageRow) → Finds parts chains (suc n) top key row
     → is_storing what ≡ true → ⊥
@@ -222,24 +241,21 @@ never_needs f (Nowhere sinks) = never_sinks f sinks
 never_needs f (ToAsk steps key object comes ready) = never_comes f steps key object comes (ap has_pager ready)
 never_needs f (ToRaise steps key row finds stores out) = never_below f steps key row finds stores
 
-comes_next : {header : Header} {h : ℕ} {past : List Event} {what : Want} {top : PageKey} (host : HostId) (task : TaskId) (may : Bool) (at : ℕ) (answer : FaultStep) (old new : FaultState) → ArePlain old.parts.resident → Found header h past old.parts old.chains what top
+comes_next : {header : Header} {h : ℕ} {past : List Event} {what : Want} {top : PageKey} (host : HostId) (task : TaskId) (may : Bool) (at : ℕ) (answer : FaultStep) (old new : FaultState) → Found header h past old.parts old.chains what top
     → fault.Comes host task what may top at answer old new → EndsNext task.0 old.events new.events
-comes_next host task may at (step.Done value) old new plain f comes = ended_next host task at value old.parts new.parts old.chains old.events new.events f comes
-comes_next host task may at (step.Ask key) old new plain f comes = never (never_comes f comes.steps key comes.object comes.comes (ap has_pager comes.ready))
-comes_next {what = what} host task may at (step.Unlock key) old new plain f comes =
-    let open_it = plain_open comes.row.lock (writes_at what comes.steps) (plain key.object.0 key.page.0 comes.row comes.finds.found).lock in
-    absurd (let bad : false ≡ true = sym open_it ∙ comes.locked in cc)
-comes_next host task may at (step.WaitReady object) old new plain f comes =
+comes_next host task may at (step.Done value) old new f comes = ended_next host task at value old.parts new.parts old.chains old.events new.events f comes
+comes_next host task may at (step.Ask key) old new f comes = never (never_comes f comes.steps key comes.object comes.comes (ap has_pager comes.ready))
+comes_next {what = what} host task may at (step.Unlock key) old new f comes =
+    never (never_locked f comes.steps key comes.row comes.finds comes.locked)
+comes_next host task may at (step.WaitReady object) old new f comes =
     let why = comes.0 in
     never (never_comes f why.0 why.1 why.2 why.3 (ap has_pager why.4))
-comes_next {what = what} {top = top} host task may at (step.WaitAnswer key) old new plain f comes = by comes.0.why
+comes_next {what = what} {top = top} host task may at (step.WaitAnswer key) old new f comes = by comes.0.why
   where
     by : (Finds old.parts old.chains comes.0.steps top key comes.0.row × (keeps_out comes.0.row.lock (writes_at what comes.0.steps) ≡ true) × (comes.0.row.unlock_sent ≡ true)) ⊎ StopsAsked old.parts old.chains comes.0.steps top key comes.0.row → EndsNext task.0 old.events new.events
-    by (inl locked) =
-        let open_it = plain_open comes.0.row.lock (writes_at what comes.0.steps) (plain key.object.0 key.page.0 comes.0.row locked.0.found).lock in
-        absurd (let bad : false ≡ true = sym open_it ∙ locked.1 in cc)
+    by (inl locked) = never (never_locked f comes.0.steps key comes.0.row locked.0 locked.1)
     by (inr stops) = never (never_asked f comes.0.steps key comes.0.row stops)
-comes_next host task may at (step.NeedFrame source) old new plain f comes = never (never_needs f comes.0)
+comes_next host task may at (step.NeedFrame source) old new f comes = never (never_needs f comes.0)
 
 -- an access that is run and finds its page ends
 pub ends_next : (header : Header) (h : ℕ) (past : List Event) (k : Parts) (ids : Ids) (w : Waiting) (may : Bool) (answer : FaultStep) (events : List Event) (new : FaultState) → Works header h k ids woken.Nobody (events ++ past) → entry k.waits.rows w.task.0 ≡ Some w
@@ -270,7 +286,7 @@ ends_next header h past k ids w may answer events new works is f finds =
         let referred = (leads_of header h k ids moment woken.Nobody w.task.0 w f.top works.matches works.waits is at_mid).referred in
         let comes : fault.Comes k.host w.task w.want may f.top (address_in w.want % k.memory.buffers.size) answer (state_of k ids events) new =
         subst (λ (z : FaultState). fault.Comes k.host w.task w.want may f.top (address_in w.want % k.memory.buffers.size) answer z new) same f.comes in
-        comes_next k.host w.task may (address_in w.want % k.memory.buffers.size) answer (state_of k ids events) new works.matches.fits.plain
+        comes_next k.host w.task may (address_in w.want % k.memory.buffers.size) answer (state_of k ids events) new
         (record { shown = shown_at works.matches; referred = referred; finds = found2.finds }) comes
 
 -- what comes later doesn't change that

@@ -22,6 +22,7 @@ use Rattle.vm_state.proofs.Referring.{refers_shadow, sole_region, sole_shadow, u
 use Rattle.vm_state.specs.Waiters.{Asker}
 use Rattle.vm_terminate.specs.Finishes.{Alone, CanFinish, ControlEnds, Downward, EndsWith, Finishes, FinishState, Further, GoesBack, IsDropped, IsTold, Itself, LosesUnder, Next, NoControl, NoMore, OverOne, PageLeaves, PagesLeave}
 use Rattle.vm_kernel.proofs.Untold.{matches_with}
+use Rattle.vm_state.proofs.Waiting.{away_awaited}
 
 -- no place of an access is in an object that ends with one to which nothing refers
 
@@ -67,7 +68,7 @@ can_finish header h outside doing past k ids rest object events e once =
     by_test : (o p : ℕ) (page : PageRow) → EndsWith k.chains k.memory.objects object o → row_at k.memory.resident o p ≡ Some page → (b : Bool) → page.here ≡ b → b ≡ true
     by_test o p page ends found true here = refl
     by_test o p page ends found false away =
-        let asker : Asker k.waits.rows o p = e.runs.waits.askers o p page found away in
+        let asker : Asker k.waits.rows o p = e.runs.waits.askers o p page found (away_awaited page away) in
         absurd (place_ends k.maps k.chains k.memory.objects ids _ _ _ _ _ object e.row e.runs.matches.regions e.known e.none o ends asker.task asker.row.want (page_key o p) (e.runs.waits.aims asker.task asker.row (page_key o p) asker.is asker.waits) refl)
 
 -- the kernel with this state; what buffers it has stands aside

@@ -8,6 +8,7 @@ use Rattle.vm_kernel.proofs.After.{Leaves, controls_after, homeless_after, regio
 use Rattle.vm_kernel.proofs.Counts.{by_none}
 use Rattle.vm_kernel.proofs.Own.{own_host}
 use Rattle.vm_kernel.proofs.Recounts.{more_taken}
+use Rattle.vm_kernel.proofs.Replied.{replied_none}
 
 no_claims : (n : ℕ) → count_claims (replicate n false) ≡ 0
 no_claims zero = refl
@@ -104,6 +105,7 @@ first_rests header h k count ranged known size host declared hosts start maps re
             homes = λ r row paged is. none_of (region_at k.chains r) row (regions r) is;
             files = λ o file. sym (ap is_some (objects o));
             settled = record { returned = refl; shut = λ region. refl };
+            replied = replied_none refl;
             laundry =
                 record {
                   count = sym (ap length held);
@@ -117,6 +119,7 @@ first_rests header h k count ranged known size host declared hosts start maps re
       referred = record {
         live = λ o row is. none_of (object_at k.memory.objects o) row (objects o) is;
         pages = λ o p row is. none_of (row_at k.memory.resident o p) row (rows o p) is;
+        locks = λ o p row is. none_of (row_at k.memory.resident o p) row (rows o p) is;
         shadows = λ o row is. none_of (shadow_at k.chains o) row (shadows o) is;
       };
       waits =
@@ -159,6 +162,7 @@ rests_line header h k ids line past rests =
             homes = m.homes;
             files = m.files;
             settled = record { returned = refl; shut = λ region. refl };
+            replied = replied_none refl;
             laundry = m.laundry;
             frames = m.frames;
           };

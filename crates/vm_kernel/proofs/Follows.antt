@@ -1,12 +1,15 @@
 -- The causes of what an access does: in the history in front of it stands what its event wants.
-use Rattle.vm_kernel.proofs.Common.{Command, Comes, Event, Header, Ids, IsAt, List, Matches, ObjectId, ObjectRow, Outside, PageKey, PageRow, Parts, Some, Suffice, TaskId, Up, Waits, Want, [], access_in, address_in, ap, arith, desired_access, entries_of, entry_at, false, host_id, if◌then◌else◌, inl, inr, is_store, little_endian, lock_number, named, nat_tests, number_at, page_at, page_in, page_of, refl, region_of, slice_range, subst, suc, sym, true, unlocked, zero, ℕ, ◌%◌, ◌+◌, ◌==◌, ◌∙◌, ◌∷◌, ◌≡◌, ◌≤◌}
+use Rattle.vm_kernel.proofs.Common.{Command, Comes, Event, Header, Ids, IsAt, List, Matches, ObjectId, ObjectRow, Outside, PageKey, PageRow, Parts, Some, Suffice, TaskId, Up, Waits, Want, [], access_in, address_in, ap, arith, desired_access, entries_of, entry_at, false, host_id, if◌then◌else◌, inl, inr, is_store, little_endian, named, nat_tests, number_at, page_at, page_in, page_of, refl, region_of, slice_range, subst, suc, sym, true, zero, ℕ, ◌%◌, ◌+◌, ◌==◌, ◌∙◌, ◌∷◌, ◌≡◌, ◌≤◌}
 use Rattle.vm_fault.specs.Walks.{Finds, MayCome, Sinks, WalksTo, is_storing, wanted_number}
 use Rattle.vm_kernel.proofs.Growing.{Follows}
-use Rattle.vm_kernel.proofs.Leading.{Leads, it_waits, storing_is, top_at}
+use Rattle.vm_fault.specs.Walks.{keeps_out}
+use Rattle.vm_state.proofs.Locks.{free_number, open_number, storing_is}
+use Rattle.vm_kernel.proofs.Leading.{Leads, it_waits, top_at}
 use Rattle.vm_kernel.proofs.Mine.{own_lives, own_named}
+use Rattle.vm_legal.specs.Licences.{HasPageLeft}
 use Rattle.vm_legal.specs.Walks.{IsTop}
 use Rattle.vm_model.specs.Regions.{Region}
-use Rattle.vm_model.specs.Waiting.{Loading, Storing}
+use Rattle.vm_model.specs.Waiting.{Loading, Storing, next_page}
 use Rattle.vm_model.specs.declared.event.Event.TheVariants as event
 use Rattle.vm_model.specs.declared.message.Message.TheVariants as message
 use Rattle.vm_objects.specs.declared.row.PagerState.TheVariants as state
@@ -15,6 +18,7 @@ use Rattle.vm_state.proofs.Declared.{marked_temporary}
 use Rattle.vm_state.proofs.Shown.{IsShown, may_ask, shows_row}
 use Rattle.vm_state.proofs.Walks.{sinks_of, walks_of}
 use Rattle.vm_waits.specs.declared.waiting.Want.TheVariants as want
+use Rattle.std.specs.Prelude.{◌⊎◌}
 
 -- a load, and a store, as the history has it
 
@@ -102,9 +106,13 @@ zeroed_follows header h outside doing past k task what top at temporary to s cle
       creates = tt;
     }
 
+-- the page may be read
+read_at : {seen number : ℕ} → seen ≡ number → (number ≡ 0) ⊎ (number ≡ 2) → (seen ≡ 0) ⊎ (seen ≡ 2)
+read_at same either = elim either [ inl none ↦ inl (same ∙ none) | inr some ↦ inr (same ∙ some) ]
+
 -- a page is copied up for a store
 pub raised_follows : (header : Header) (h : ℕ) (outside : Outside) (doing : Command) (past : List Event) (k : Parts) (task : ℕ) (what : Want) (top : PageKey) (at : IsAt k.maps k.chains task what top) (address size value : ℕ) (steps : ℕ) (key : PageKey) (row : PageRow)
-    → Leads header h past k task what top at → IsShown header h k.memory k.chains past → what ≡ want.Store address size value → at.row.marked ≡ false → Finds k.memory k.chains (suc steps) top key row → row.lock ≡ unlocked
+    → Leads header h past k task what top at → IsShown header h k.memory k.chains past → what ≡ want.Store address size value → at.row.marked ≡ false → Finds k.memory k.chains (suc steps) top key row → keeps_out row.lock false ≡ false
     → Suffice header h (event.Raised (host_id h) key.object key.page top.object top.page ∷ past) → Follows header h outside doing (event.Raised (host_id h) key.object key.page top.object top.page) past
 raised_follows header h outside doing past k task what top at address size value steps key row to s is clear finds open_it frames =
     let shows = shows_row s key.object.0 key.page.0 row finds.found finds.here in
@@ -123,7 +131,7 @@ raised_follows header h outside doing past k task what top at address size value
         walks = walks_of s (suc steps) top key finds.walks;
         here = shows.here;
       };
-      own_bytes = record { here = shows.here; unlocked = inl (shows.lock ∙ ap lock_number open_it) };
+      own_bytes = record { here = shows.here; unlocked = read_at shows.lock (open_number row.lock open_it) };
       frames = frames;
       inner = tt;
       said = tt;
@@ -133,7 +141,7 @@ raised_follows header h outside doing past k task what top at address size value
 
 -- a load ends
 pub loaded_follows : (header : Header) (h : ℕ) (outside : Outside) (doing : Command) (past : List Event) (k : Parts) (task : TaskId) (what : Want) (top : PageKey) (at : IsAt k.maps k.chains task.0 what top) (address size value : ℕ) (steps : ℕ) (key : PageKey) (row : PageRow)
-    → Leads header h past k task.0 what top at → IsShown header h k.memory k.chains past → what ≡ want.Load address size → Finds k.memory k.chains steps top key row → row.lock ≡ unlocked
+    → Leads header h past k task.0 what top at → IsShown header h k.memory k.chains past → what ≡ want.Load address size → Finds k.memory k.chains steps top key row → keeps_out row.lock false ≡ false
     → value ≡ little_endian (slice_range (page_in k.memory.frames row.frame.0) (address % header.size) (address % header.size + size)) → Suffice header h (event.Loaded task key.object key.page value ∷ past)
     → Follows header h outside doing (event.Loaded task key.object key.page value) past
 loaded_follows header h outside doing past k task what top at address size value steps key row to s is finds open_it number frames =
@@ -152,7 +160,7 @@ loaded_follows header h outside doing past k task what top at address size value
         address = address;
         bytes = size;
         waits = waits;
-        readable = record { here = shows.here; unlocked = inl (shows.lock ∙ ap lock_number open_it) };
+        readable = record { here = shows.here; unlocked = read_at shows.lock (open_number row.lock open_it) };
         number = number ∙ ap (λ z. number_at z header.size address size) (sym shows.bytes);
       };
       frames = frames;
@@ -164,7 +172,7 @@ loaded_follows header h outside doing past k task what top at address size value
 
 -- a store ends
 pub stored_follows : (header : Header) (h : ℕ) (outside : Outside) (doing : Command) (past : List Event) (k : Parts) (task : TaskId) (what : Want) (top : PageKey) (at : IsAt k.maps k.chains task.0 what top) (address size value : ℕ) (row : PageRow)
-    → Leads header h past k task.0 what top at → IsShown header h k.memory k.chains past → what ≡ want.Store address size value → at.row.marked ≡ false → Finds k.memory k.chains 0 top top row → row.lock ≡ unlocked
+    → Leads header h past k task.0 what top at → IsShown header h k.memory k.chains past → what ≡ want.Store address size value → at.row.marked ≡ false → Finds k.memory k.chains 0 top top row → keeps_out row.lock true ≡ false
     → Suffice header h (event.Stored task top.object top.page (address % header.size) size value ∷ past) → Follows header h outside doing (event.Stored task top.object top.page (address % header.size) size value) past
 stored_follows header h outside doing past k task what top at address size value row to s is clear finds open_it frames =
     let shows = shows_row s top.object.0 top.page.0 row finds.found finds.here in
@@ -182,7 +190,7 @@ stored_follows header h outside doing past k task what top at address size value
       own_bytes = record {
         address = address;
         waits = waits;
-        writable = record { here = shows.here; unlocked = shows.lock ∙ ap lock_number open_it };
+        writable = record { here = shows.here; unlocked = shows.lock ∙ free_number row.lock open_it };
         place = refl;
       };
       frames = frames;
@@ -193,7 +201,7 @@ stored_follows header h outside doing past k task what top at address size value
     }
 
 -- a request asks for what the history wants asked
-asks_for : (what : Want) (steps : ℕ) → wanted_number what steps ≡ desired_access (access_in what) steps
+pub asks_for : (what : Want) (steps : ℕ) → wanted_number what steps ≡ desired_access (access_in what) steps
 asks_for (want.Load address size) zero = refl
 asks_for (want.Load address size) (suc n) = refl
 asks_for (want.Store address size value) zero = refl
@@ -201,6 +209,10 @@ asks_for (want.Store address size value) (suc n) = ap (λ b. if b then 3 else 1)
   where
     later : (n : ℕ) → (suc n == 0) ≡ false
     later n = grind (arith, nat_tests)
+
+asks_left : (size next : ℕ) (what : Want) → HasPageLeft size (access_in what) next
+asks_left size next (want.Load address bytes) = tt
+asks_left size next (want.Store address bytes value) = tt
 
 -- a page is asked for
 pub request_follows : (header : Header) (h : ℕ) (outside : Outside) (doing : Command) (past : List Event) (k : Parts) (task : ℕ) (what : Want) (top : PageKey) (at : IsAt k.maps k.chains task what top) (steps : ℕ) (key : PageKey) (object : ObjectRow)
@@ -224,6 +236,7 @@ request_follows header h outside doing past k task what top at steps key object 
         away = may.away;
         unasked = may.unasked;
         known = may.known;
+        left = asks_left header.size (next_page task past) what;
       };
       own_bytes = tt;
       frames = frames;

@@ -1,5 +1,6 @@
 -- A command's events grow by one that has its cause, carries the right bytes and finds its frame.
 use Rattle.vm_kernel.proofs.Common.{AllInner, AllLicensed, Caused, Channel, Command, CreatesHere, EachIn, Err, Event, FrameTable, Grows, HasFrames, Header, IfSome, IsConsequence, IsInner, IsLined, IsMine, IsOnlyOfHost, IsPaid, IsSettled, KernelSays, LegalEvents, Licensed, List, MatchOption, MomentsIn, None, Ok, OnOk, Option, Outside, OwnBytes, Result, ReturnsOn, Suffice, [], absence_more, absence_taken, ap, append_assoc, arith, created, each_both, error_more, error_taken, frames_free, frames_held, frames_used, frames_wired, free, inner_both, licensed_both, moments_both, no_request, none_locked, none_of, of_both, refl, reverse, slice_get, subst, sym, taken_letter, taken_more, unwrap_or, ℕ, ◌++◌, ◌-◌, ◌∙◌, ◌∷◌, ◌≡◌, ◌≤◌}
+use Rattle.std.specs.Prelude.{IfOk}
 use Rattle.vm_kernel.proofs.Mine.{mine_of}
 
 pub suffices : (header : Header) (h : ℕ) (fs : FrameTable) (past : List Event) → HasFrames (slice_get (reverse header.frames.items) h) fs (frames_held header.size h past) (frames_wired h past) → Suffice header h past
@@ -132,3 +133,16 @@ paid_of header past events lined inner none =
 pub on_ok : {A B : Type 0} (r : Result A B) (P Q : Type 0) → (P → Q) → OnOk r P → OnOk r Q
 on_ok (Ok x) P Q f p = f p
 on_ok (Err e) P Q f p = tt
+
+-- and of its answer
+pub each_ok : {A B : Type 0} (r : Result A B) (P : Type 0) (Q : A → Type 0) → (P → (x : A) → Q x) → OnOk r P → IfOk r Q
+each_ok (Ok x) P Q f p = f p x
+each_ok (Err e) P Q f p = tt
+
+pub both_ok : {A B : Type 0} (r : Result A B) (P : Type 0) (Q R : A → Type 0) → (P → (x : A) → Q x → R x) → OnOk r P → IfOk r Q → IfOk r R
+both_ok (Ok x) P Q R f p q = f p x q
+both_ok (Err e) P Q R f p q = tt
+
+pub ok_of : {A B : Type 0} (r : Result A B) (P : A → Type 0) (Q : Type 0) → ((x : A) → P x → Q) → IfOk r P → OnOk r Q
+ok_of (Ok x) P Q f p = f x p
+ok_of (Err e) P Q f p = tt

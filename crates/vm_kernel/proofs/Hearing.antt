@@ -1,5 +1,5 @@
 -- A message of a pager is taken: what the kernel stands for behind it.
-use Rattle.vm_kernel.proofs.Common.{Access, AllReferred, ArePlain, Backing, Bool, Cancels, ChainTable, Changes, Command, Elsewhere, EndsNobody, Event, FailsNow, FailsPage, FillsPage, Fit, FrameTable, HasAsker, HasControls, HasFrames, HasHomes, HasKinds, HasLaundry, HasOrder, HasPages, HasRegions, HasTasks, HasUse, HasWaiters, Header, HostId, HostParts, Ids, IsAnswered, IsAsked, IsOfKind, IsPagerTold, IsReferred, IsSettled, Lacks, List, Local, LocalEffect, Mapped, Message, None, ObjectId, ObjectRow, ObjectTable, On, Option, Outside, PageNo, PageRow, Parts, PutsObject, PutsRow, Readies, Reason, Region, ResidentTable, Rests, SameMarks, SameObjects, Some, Supplies, TakesError, TakesNothing, TakesPage, Waiting, Want, Woken, Works, Zeroes, [], absent_at, added, ap, arith, asked_is, asked_row, away, backing_of, clean_row, count_released, entries_of, eqb_tells, false, frames_held, frames_wired, holds, home_of, host_id, host_of, if◌then◌else◌, in_use, inl, inr, is_control, is_on, is_ready, is_some, is_woken, key_of, last_control, last_in, live_control, live_in, local, local_after, local_of_row, lock_numbered, marked_regions, named, nat_lt, nat_tests, next_object, next_region, not, object_at, object_home, one_case, page_in, page_key, place_of, ready_in, refl, region_of, replicate, returns_out, reverse, row_at, row_cases, slice_get, some_is, subst, sym, true, unlocked, waiting, ℕ, ◌&&◌, ◌+◌, ◌-◌, ◌<◌, ◌==◌, ◌^◌, ◌∙◌, ◌∷◌, ◌≡◌, ◌≤◌, ◌⊎◌}
+use Rattle.vm_kernel.proofs.Common.{Access, AllReferred, ArePlain, Backing, Bool, Cancels, ChainTable, Changes, Command, Elsewhere, EndsNobody, Event, FailsNow, FailsPage, FillsPage, Fit, FrameTable, HasAsker, HasControls, HasFrames, HasHomes, HasKinds, HasLaundry, HasOrder, HasPages, HasRegions, HasTasks, HasUse, HasWaiters, Header, HostId, HostParts, Ids, IsAnswered, IsOfKind, IsPagerTold, IsReferred, IsSettled, Lacks, List, Local, LocalEffect, Mapped, Message, None, ObjectId, ObjectRow, ObjectTable, On, Option, Outside, PageNo, PageRow, Parts, PutsObject, PutsRow, Readies, Reason, Region, ResidentTable, Rests, SameMarks, SameObjects, Some, Supplies, TakesError, TakesNothing, TakesPage, Waiting, Want, Woken, Works, Zeroes, [], absent_at, added, ap, arith, asked_is, asked_row, away, backing_of, clean_row, count_released, entries_of, eqb_tells, false, frames_held, frames_wired, holds, home_of, host_id, host_of, if◌then◌else◌, in_use, inl, inr, is_control, is_on, is_ready, is_some, is_woken, key_of, last_control, last_in, live_control, live_in, local, local_after, local_of_row, lock_numbered, marked_regions, named, nat_lt, nat_tests, next_object, next_region, not, object_at, object_home, one_case, page_in, page_key, place_of, ready_in, refl, region_of, replicate, returns_out, reverse, row_at, row_cases, slice_get, some_is, subst, sym, true, unlocked, waiting, ℕ, ◌&&◌, ◌+◌, ◌-◌, ◌<◌, ◌==◌, ◌^◌, ◌∙◌, ◌∷◌, ◌≡◌, ◌≤◌, ◌⊎◌}
 use Rattle.vm_model.specs.declared.message.Message.TheVariants as message
 use Rattle.vm_objects.specs.declared.row.PagerState.TheVariants as state
 use Rattle.vm_supply.specs.declared.woken.Woken.TheVariants as woken
@@ -16,6 +16,12 @@ use Rattle.std.proofs.lemmas.Bool.{and_from}
 use Rattle.vm_kernel.proofs.Growing.{Follows, suffices}
 use Rattle.vm_kernel.proofs.Known.{known_at, known_on, nothing_known}
 use Rattle.vm_kernel.proofs.Mine.{own_named}
+use Rattle.vm_kernel.proofs.Replied.{replied_behind, replied_none}
+use Rattle.vm_kernel.specs.Matches.{IsReplied}
+use Rattle.vm_legal.specs.Licences.{lock_taken}
+use Rattle.vm_parts.specs.Locks.{lock_numbered, lock_of-prohibits}
+use Rattle.vm_state.proofs.Waiting.{IsAwaitedBy, IsUnawaited, awaited_apart, awaited_elsewhere, away_awaited, here_unawaited, none_unawaited}
+use Rattle.vm_state.specs.Waiters.{is_awaited}
 use Rattle.vm_legal.specs.Licences.{Fills}
 use Rattle.vm_model.specs.declared.event.Event.TheVariants as event
 use Rattle.vm_state.proofs.Declared.{kinds_marked, kinds_put, kinds_same}
@@ -25,15 +31,16 @@ use Rattle.vm_state.specs.Stands.{KnowsFiles}
 use Rattle.vm_supply.specs.Answers as supply
 use Rattle.vm_legal.specs.Living.{tasks as made_tasks}
 use Rattle.vm_abroad.proofs.Home.{object_stays}
+use Rattle.vm_state.specs.References.{MayLock, is_live_in}
 
 -- who waits, where rows of pages and objects are others
 
 waits_heard : (maps : Mapped) (cs : ChainTable) (rs rs2 : ResidentTable) (os os2 : ObjectTable) (rows : List Waiting) (who : Woken) (waiting_at : ℕ → Option Access)
-    → HasWaiters maps cs rs os rows woken.Nobody waiting_at
-    → ((o p : ℕ) → is_woken who (on.Page (page_key o p)) ≡ false → IsAsked rs o p → IsAsked rs2 o p)
+    → HasWaiters maps cs rs os rows (is_woken woken.Nobody) waiting_at
+    → ((what : Want) (o p : ℕ) → is_woken who (on.Page (page_key o p)) ≡ false → IsAwaitedBy rs what o p → IsAwaitedBy rs2 what o p)
     → ((object : ObjectId) → is_woken who (on.Ready object) ≡ false → IsPagerTold os object.0 → IsPagerTold os2 object.0)
-    → ((o p : ℕ) (row : PageRow) → row_at rs2 o p ≡ Some row → row.here ≡ false → row_at rs o p ≡ Some row) → ((o : ℕ) → ready_in (object_at os o) ≡ true → ready_in (object_at os2 o) ≡ true)
-    → HasWaiters maps cs rs2 os2 rows who waiting_at
+    → ((o p : ℕ) (row : PageRow) → row_at rs2 o p ≡ Some row → is_awaited row ≡ true → row_at rs o p ≡ Some row) → ((o : ℕ) → ready_in (object_at os o) ≡ true → ready_in (object_at os2 o) ≡ true)
+    → HasWaiters maps cs rs2 os2 rows (is_woken who) waiting_at
 waits_heard maps cs rs rs2 os os2 rows who waiting_at has asked told were ready =
     record {
       is = has.is;
@@ -41,14 +48,14 @@ waits_heard maps cs rs rs2 os os2 rows who waiting_at has asked told were ready 
       sized = has.sized;
       reasons = λ t w is still. by_reason t w.want w.on still (has.reasons t w is refl);
       aims = has.aims;
-      askers = λ o p row found away_now. has.askers o p row (were o p row found away_now) away_now;
-      ready = λ o p row found away_now. ready o (has.ready o p row (were o p row found away_now) away_now);
+      askers = λ o p row found awaits. has.askers o p row (were o p row found awaits) awaits;
+      ready = λ o p row found away_now. ready o (has.ready o p row (were o p row found (away_awaited row away_now)) away_now);
     }
   where
     by_reason : (t : ℕ) (what : Want) (reason : On) → is_woken who reason ≡ false → Reason maps cs rs os t what reason → Reason maps cs rs2 os2 t what reason
     by_reason t what on.Again still why = tt
     by_reason t what (on.Ready object) still why = (why.0, why.1, why.2, told object still why.3)
-    by_reason t what (on.Page key) still why = (why.0, asked key.object.0 key.page.0 still why.1)
+    by_reason t what (on.Page key) still why = (why.0, asked what key.object.0 key.page.0 still why.1)
     by_reason t what on.Frame still why = tt
 
 -- the kernel behind the message
@@ -66,7 +73,7 @@ pub record Changed (header : Header) (h : ℕ) (k : Parts) (ids : Ids) (who : Wo
   pub laundry : HasLaundry new.frames new.resident k.laundry (returns_out h past)
   pub frames : HasFrames (slice_get (reverse header.frames.items) h) new.frames (frames_held header.size h now) (frames_wired h past)
   pub referred : AllReferred k.chains new.objects new.resident
-  pub waits : HasWaiters k.maps k.chains new.resident new.objects k.waits.rows who (λ t. waiting t past)
+  pub waits : HasWaiters k.maps k.chains new.resident new.objects k.waits.rows (is_woken who) (λ t. waiting t past)
   pub fails : FailsNow header h who now
   pub fresh : EndsNobody who now
   pub asker : HasAsker who k.waits.rows
@@ -81,17 +88,18 @@ pub record Stays (header : Header) (h : ℕ) (k : Parts) (past now : List Event)
   pub leaves : Leaves header past now
   pub tasks : HasTasks h header.size k.maps (λ task. host_of task now) (λ task. entries_of header.size task now)
   pub uses : HasUse header k.maps (λ r. in_use header h r now) (made_tasks now) (λ task r. holds header.size task r now) (next_region header now)
-  pub waits : {who : Woken} {rs : ResidentTable} {os : ObjectTable} → HasWaiters k.maps k.chains rs os k.waits.rows who (λ t. waiting t past) → HasWaiters k.maps k.chains rs os k.waits.rows who (λ t. waiting t now)
+  pub waits : {who : On → Bool} {rs : ResidentTable} {os : ObjectTable} → HasWaiters k.maps k.chains rs os k.waits.rows who (λ t. waiting t past) → HasWaiters k.maps k.chains rs os k.waits.rows who (λ t. waiting t now)
   pub controls : {os : ObjectTable} → HasControls (named header) h os (λ o. last_control h o past) (λ o. live_control h o past) (λ o. is_ready h o now) (λ o. object_home o past)
       → HasControls (named header) h os (λ o. last_control h o now) (λ o. live_control h o now) (λ o. is_ready h o now) (λ o. object_home o now)
   pub homes : HasHomes header h k.chains (λ r. home_of r now)
   pub order : HasOrder k now
   pub settled : IsSettled now
+  pub replied : IsReplied now
   pub returned : returns_out h now ≡ returns_out h past
   pub wired : frames_wired h now ≡ frames_wired h past
 
-pub stays_heard : (header : Header) (h : ℕ) (k : Parts) (ids : Ids) (past : List Event) (object : ObjectId) (control : ℕ) (m : Message) → Rests header h k ids past → Stays header h k past (hears h object control m ∷ past)
-stays_heard header h k ids past object control m rests =
+pub stays_heard : (header : Header) (h : ℕ) (k : Parts) (ids : Ids) (past : List Event) (object : ObjectId) (control : ℕ) (m : Message) → Rests header h k ids past → lock_taken (hears h object control m ∷ past) ≡ None → Stays header h k past (hears h object control m ∷ past)
+stays_heard header h k ids past object control m rests none =
     let was = rests.matches in
     let leaves : Leaves header past (hears h object control m ∷ past) = record { regions_made = refl; objects_made = refl; region = λ r. refl; backing = λ o. refl; home = λ r. refl; made_for = λ o. refl; used = λ g r. refl; target = λ task. refl } in
     record {
@@ -103,6 +111,7 @@ stays_heard header h k ids past object control m rests =
       homes = was.homes;
       order = rests.order;
       settled = record { returned = refl; shut = λ region. refl };
+      replied = replied_none none;
       returned = refl;
       wired = refl;
     }
@@ -120,6 +129,7 @@ stays_zeroed header h k past now object page stays =
       homes = stays.homes;
       order = stays.order;
       settled = record { returned = refl; shut = λ region. refl };
+      replied = replied_behind tt stays.replied;
       returned = stays.returned;
       wired = stays.wired;
     }
@@ -149,6 +159,7 @@ works_of header h k ids who new past now rests stays fit same c =
             homes = stays.homes;
             files = λ o file. ap (is_on h) (stays.leaves.home o) ∙ c.files o file;
             settled = stays.settled;
+            replied = stays.replied;
             laundry = subst (λ (z : ℕ). HasLaundry new.frames new.resident k.laundry z) (sym stays.returned) c.laundry;
             frames = subst (λ (z : ℕ). HasFrames (slice_get (reverse header.frames.items) h) new.frames (frames_held header.size h now) z) (sym stays.wired) c.frames;
           };
@@ -202,11 +213,24 @@ controls_of os os2 last_at live_at ready_at ready_at2 has same ready =
       home = λ o row least found. has.home o row least (sym (same.at o) ∙ found);
     }
 
+pub may_lock : (os os2 : ObjectTable) (o : ℕ) (row : PageRow) → SameObjects os os2 → MayLock os o row → MayLock os2 o row
+may_lock os os2 o row same may = elim may [ inl open_now ↦ inl open_now | inr lives ↦ inr (ap is_live_in (same.at o) ∙ lives) ]
+
+-- the control that is named lives
+pub live_is : (control : ℕ) (known : Option ObjectRow) → is_control control (live_in known) ≡ true → is_live_in known ≡ true
+live_is control None is = absurd (let bad : false ≡ true = is in cc)
+live_is control (Some row) is = by row.live is
+  where
+    by : (b : Bool) → is_control control (if b then Some row.control else None) ≡ true → b ≡ true
+    by true is = refl
+    by false is = absurd (let bad : false ≡ true = is in cc)
+
 referred_of : (cs : ChainTable) (os os2 : ObjectTable) (rs : ResidentTable) → AllReferred cs os rs → SameObjects os os2 → AllReferred cs os2 rs
 referred_of cs os os2 rs referred same =
     record {
       live = λ o row found live. referred.live o row (sym (same.at o) ∙ found) live;
       pages = λ o p row found. still o (referred.pages o p row found);
+      locks = λ o p row found. may_lock os os2 o row same (referred.locks o p row found);
       shadows = λ o row found. still o (referred.shadows o row found);
     }
   where
@@ -341,9 +365,9 @@ changed_ready header h k ids events after past object control cache strategy who
       controls = rw (own_host h) (controls_ready k.memory.objects new.objects (λ o. last_control h o past) (λ o. live_control h o past) (λ o. is_ready h o past) object.0 control known was.controls readies.found live lives_now readies.ready);
       laundry = was.laundry;
       frames = was.frames;
-      referred = referred_controlled object.0 known (record known { state = state.Ready }) k.chains k.memory.objects new.objects k.memory.resident readies.found readies.ready refl (λ lives. rests.referred.live object.0 known readies.found live) rests.referred;
+      referred = referred_controlled object.0 known (record known { state = state.Ready }) k.chains k.memory.objects new.objects k.memory.resident readies.found readies.ready refl (λ lives. rests.referred.live object.0 known readies.found live) (λ is. is) rests.referred;
       waits = waits_heard k.maps k.chains k.memory.resident k.memory.resident k.memory.objects new.objects k.waits.rows (woken.ReadyOf object) (λ t. waiting t past) rests.waits
-          (λ o p still asked. asked)
+          (λ what o p still awaits. awaits)
           (λ other still told. told_ready k.memory.objects new.objects object.0 known other readies.ready still told)
           (λ o p row found away_now. found)
           (λ o is. ready_ready k.memory.objects new.objects object.0 known o readies.ready is);
@@ -382,80 +406,73 @@ test_of a b c d apart = elim (eqb_tells a c) [
   | inr other ↦ rw other.0 refl
 ]
 
-asked_other : (rs rs2 : ResidentTable) (o p o2 p2 : ℕ) (x : Option PageRow) → PutsRow o p x rs rs2 → (o2 == o && p2 == p) ≡ false → IsAsked rs o2 p2 → IsAsked rs2 o2 p2
-asked_other rs rs2 o p o2 p2 x put apart asked =
-    record {
-      row = asked.row;
-      found = elim (row_cases o p x rs rs2 put o2 p2) [
-        | inl now ↦ absurd (apart_of o2 p2 o p apart now.object now.page)
-        | inr other ↦ other.is ∙ asked.found
-      ];
-      away = asked.away;
-    }
+awaited_other : (rs rs2 : ResidentTable) (what : Want) (o p o2 p2 : ℕ) (x : Option PageRow) → PutsRow o p x rs rs2 → (o2 == o && p2 == p) ≡ false → IsAwaitedBy rs what o2 p2 → IsAwaitedBy rs2 what o2 p2
+awaited_other rs rs2 what o p o2 p2 x put apart awaits = elim (row_cases o p x rs rs2 put o2 p2) [
+  | inl now ↦ absurd (apart_of o2 p2 o p apart now.object now.page)
+  | inr other ↦ awaited_elsewhere o p x rs rs2 what o2 p2 other.is awaits
+]
 
-here_elsewhere : (rs rs2 : ResidentTable) (o p o2 p2 : ℕ) (x : Option PageRow) (r : PageRow) → PutsRow o p x rs rs2 → ((row : PageRow) → x ≡ Some row → row.here ≡ true) → row_at rs2 o2 p2 ≡ Some r → r.here ≡ false
+here_elsewhere : (rs rs2 : ResidentTable) (o p o2 p2 : ℕ) (x : Option PageRow) (r : PageRow) → PutsRow o p x rs rs2 → IsUnawaited x → row_at rs2 o2 p2 ≡ Some r → is_awaited r ≡ true
     → (row_at rs o2 p2 ≡ Some r) × ((o2 == o && p2 == p) ≡ false)
-here_elsewhere rs rs2 o p o2 p2 x r put here is away_now = elim (row_cases o p x rs rs2 put o2 p2) [
-  | inl now ↦ absurd (let bad : true ≡ false = sym (here r (sym now.is ∙ is)) ∙ away_now in cc)
+here_elsewhere rs rs2 o p o2 p2 x r put none is awaits = elim (row_cases o p x rs rs2 put o2 p2) [
+  | inl now ↦ awaited_apart x r none (sym now.is ∙ is) awaits
   | inr other ↦ (sym other.is ∙ is, test_of o2 p2 o p other.apart)
 ]
 
 -- what holds of who waits, where the row of a page that is asked is another
 record Waits (k : Parts) (who : Woken) (new : HostParts) (past : List Event) : Type 0 where
-  waits : HasWaiters k.maps k.chains new.resident new.objects k.waits.rows who (λ t. waiting t past)
+  waits : HasWaiters k.maps k.chains new.resident new.objects k.waits.rows (is_woken who) (λ t. waiting t past)
   answered : IsAnswered who new.resident
 
 waits_page : (header : Header) (h : ℕ) (k : Parts) (ids : Ids) (past : List Event) (o p : ℕ) (x : Option PageRow) (who : Woken) (new : HostParts) → Rests header h k ids past
-    → ((o2 p2 : ℕ) → is_woken who (on.Page (page_key o2 p2)) ≡ (o2 == o && p2 == p)) → PutsRow o p x k.memory.resident new.resident → ((row : PageRow) → x ≡ Some row → row.here ≡ true) → SameObjects k.memory.objects new.objects
+    → ((o2 p2 : ℕ) → is_woken who (on.Page (page_key o2 p2)) ≡ (o2 == o && p2 == p)) → PutsRow o p x k.memory.resident new.resident → IsUnawaited x → SameObjects k.memory.objects new.objects
     → Waits k who new past
 waits_page header h k ids past o p x who new rests test put here same =
     record {
       waits = waits_heard k.maps k.chains k.memory.resident new.resident k.memory.objects new.objects k.waits.rows who (λ t. waiting t past) rests.waits
-          (λ o2 p2 still asked. asked_other k.memory.resident new.resident o p o2 p2 x put (sym (test o2 p2) ∙ still) asked)
+          (λ what o2 p2 still awaits. awaited_other k.memory.resident new.resident what o p o2 p2 x put (sym (test o2 p2) ∙ still) awaits)
           (λ other still told. told_of k.memory.objects new.objects other.0 same told)
-          (λ o2 p2 row found away_now. (here_elsewhere k.memory.resident new.resident o p o2 p2 x row put here found away_now).0)
+          (λ o2 p2 row found awaits. (here_elsewhere k.memory.resident new.resident o p o2 p2 x row put here found awaits).0)
           (λ o2 is. ap ready_in (same.at o2) ∙ is);
-      answered = record { at = λ o2 p2 row found away_now. test o2 p2 ∙ (here_elsewhere k.memory.resident new.resident o p o2 p2 x row put here found away_now).1 };
+      answered = record { at = λ o2 p2 row found awaits. test o2 p2 ∙ (here_elsewhere k.memory.resident new.resident o p o2 p2 x row put here found awaits).1 };
     }
 
 pub changed_supplied : (header : Header) (h : ℕ) (k : Parts) (ids : Ids) (events after past : List Event) (object : ObjectId) (control : ℕ) (page : PageNo) (lock : ℕ) (precious : Bool) (bytes : List ℕ) (who : Woken) (new : HostParts)
-    → Rests header h k ids past → Supplies (key_of object page) lock precious bytes who k.memory new events after → lives h object control past ≡ true → lock ≡ 0 → precious ≡ false
+    → Rests header h k ids past → Supplies (key_of object page) lock precious bytes who k.memory new events after → lives h object control past ≡ true → lock < 4
     → Changed header h k ids who new past (hears h object control (message.Supply page lock precious bytes) ∷ past)
-changed_supplied header h k ids events after past object control page lock precious bytes who new rests supplies lives_now none cheap =
+changed_supplied header h k ids events after past object control page lock precious bytes who new rests supplies lives_now few =
     let was = rests.matches in
     let key = key_of object page in
     let row = supplies.was in
     let asked = asked_is (row_at k.memory.resident object.0 page.0) row supplies.asked in
     let same : SameObjects k.memory.objects new.objects = record { at = λ o. ap (λ z. object_at z o) supplies.objects } in
-    let now : PageRow = clean_row row.frame unlocked false in
+    let now : PageRow = clean_row row.frame (lock_numbered lock) precious in
     let lacked = absent_at k.memory.objects object.0 page.0 in
-    let comes : Changes key row.frame (Some row) (Some now) true bytes (added row.frame.0 k.memory.queues) k.memory new =
-    subst (λ (z : Bool). FillsPage key row unlocked z bytes k.memory new) cheap (subst (λ (z : ℕ). FillsPage key row (lock_numbered z) precious bytes k.memory new) none supplies.page) in
-    let here : (r : PageRow) → Some now ≡ Some r → r.here ≡ true = λ r is. ap (λ z. z.here) (sym (some_is now r is)) in
+    let comes : Changes key row.frame (Some row) (Some now) true bytes (added row.frame.0 k.memory.queues) k.memory new = supplies.page in
+    let here : IsUnawaited (Some now) = here_unawaited (Some now) now refl refl refl in
     let waits = waits_page header h k ids past object.0 page.0 (Some now) (woken.Page key) new rests (λ o2 p2. refl) comes.row here same in
-    let shows = ap (local_after header.size (TakesPage 0 false bytes)) (asked_shows k.memory.frames row lacked (was.fits.plain object.0 page.0 row asked.0) asked.1)
-    ∙ ap (λ z. record away { here = true; bytes = z; absent = lacked }) (sym (bytes_now key row.frame _ _ _ _ _ k.memory new comes)) in
+    let shows = ap (local_after header.size (TakesPage lock precious bytes)) (asked_shows k.memory.frames row lacked (was.fits.plain object.0 page.0 row asked.0 asked.1) asked.1)
+    ∙ (ap (λ z. record away { here = true; bytes = z; lock = lock; precious = precious; absent = lacked }) (sym (bytes_now key row.frame _ _ _ _ _ k.memory new comes))
+    ∙ ap (λ z. record away { here = true; bytes = page_in new.frames row.frame.0; lock = z; precious = precious; absent = lacked }) (sym (lock_of-prohibits lock few))) in
     let local_at = λ (o p : ℕ). local header.size h (place_of o p) past in
-    let pages = known_on header header.size key (TakesPage 0 false bytes) local_at tt
-    (pages_moved header.size (TakesPage 0 false bytes) key row.frame _ _ _ _ _ k.memory new k.memory.objects (λ o p. known_local header o p (local_at o p)) was.fits.parts was.pages comes shows (λ o p apart. refl)) in
-    let moves : (o p : ℕ) → local header.size h (place_of o p) (hears h object control (message.Supply page lock precious bytes) ∷ past) ≡ effect_on header.size key (TakesPage 0 false bytes) (λ o2 p2. local header.size h (place_of o2 p2) past) o p =
+    let pages = known_on header header.size key (TakesPage lock precious bytes) local_at tt
+    (pages_moved header.size (TakesPage lock precious bytes) key row.frame _ _ _ _ _ k.memory new k.memory.objects (λ o p. known_local header o p (local_at o p)) was.fits.parts was.pages comes shows (λ o p apart. refl)) in
+    let moves : (o p : ℕ) → local header.size h (place_of o p) (hears h object control (message.Supply page lock precious bytes) ∷ past) ≡ effect_on header.size key (TakesPage lock precious bytes) (λ o2 p2. local header.size h (place_of o2 p2) past) o p =
     λ o p. rw (own_host h) (ap (λ z. local_after header.size z (local header.size h (place_of o p) past))
-    (on_page object.0 o (lives h object control past) (is_control control (live_control h o past)) (page.0 == p) (TakesPage lock precious bytes) Elsewhere lives_now (λ e. ap (λ z. is_control control (live_control h z past)) (sym e))))
-    ∙ (ap (λ z. effect_on header.size key (TakesPage z precious bytes) (λ o2 p2. local header.size h (place_of o2 p2) past) o p) none
-    ∙ ap (λ z. effect_on header.size key (TakesPage 0 z bytes) (λ o2 p2. local header.size h (place_of o2 p2) past) o p) cheap) in
+    (on_page object.0 o (lives h object control past) (is_control control (live_control h o past)) (page.0 == p) (TakesPage lock precious bytes) Elsewhere lives_now (λ e. ap (λ z. is_control control (live_control h z past)) (sym e)))) in
     subst (λ (z : Woken). Changed header h k ids z new past (hears h object control (message.Supply page lock precious bytes) ∷ past)) (sym supplies.woken)
     (record {
-      plain = plain_changed key row.frame _ _ _ _ _ k.memory new was.fits.plain comes (record { lock = refl; precious = refl; unlock_sent = refl });
+      plain = plain_changed key row.frame _ _ _ _ _ k.memory new was.fits.plain comes (λ gone. absurd (let bad : true ≡ false = gone in cc));
       regions = regions_of k.chains k.memory.objects new.objects ids (λ r. region_of header r past) (λ o. backing_of header o past) (next_region header past) (next_object header past) (marked_regions header past) was.regions same;
       kinds = kinds_same header k.memory.objects new.objects k.chains same (same_marks k.memory.objects new.objects supplies.objects) was.kinds;
       files = files_same header h k.memory.objects new.objects (λ o. home_of o past) same was.files;
-      pages = pages_eq new.frames new.resident new.objects (λ o p. known_local header o p (effect_on header.size key (TakesPage 0 false bytes) local_at o p))
+      pages = pages_eq new.frames new.resident new.objects (λ o p. known_local header o p (effect_on header.size key (TakesPage lock precious bytes) local_at o p))
           (λ o p. known_local header o p (local header.size h (place_of o p) (hears h object control (message.Supply page lock precious bytes) ∷ past)))
-          (subst (λ (z : ObjectTable). HasPages new.frames new.resident z (λ o p. known_local header o p (effect_on header.size key (TakesPage 0 false bytes) local_at o p))) (sym supplies.objects) pages) (λ o p. ap (known_local header o p) (moves o p));
+          (subst (λ (z : ObjectTable). HasPages new.frames new.resident z (λ o p. known_local header o p (effect_on header.size key (TakesPage lock precious bytes) local_at o p))) (sym supplies.objects) pages) (λ o p. ap (known_local header o p) (moves o p));
       controls = controls_of k.memory.objects new.objects (λ o. last_control h o past) (λ o. live_control h o past) (λ o. is_ready h o past) (λ o. is_ready h o past) was.controls same (λ o live is. refl);
       laundry = laundry_changed key row.frame _ _ _ _ _ k.memory new k.laundry (returns_out h past) was.laundry comes;
       frames = frames_changed (slice_get (reverse header.frames.items) h) key row.frame _ _ _ _ _ k.memory new (frames_held header.size h past) (frames_held header.size h past) (frames_wired h past) was.frames comes (λ held. let kept = comes.claims in omega arith);
-      referred = referred_of k.chains k.memory.objects new.objects new.resident (referred_row object.0 page.0 (Some now) k.chains k.memory.objects k.memory.resident new.resident comes.row (λ r is. rests.referred.pages object.0 page.0 row asked.0) rests.referred) same;
+      referred = referred_of k.chains k.memory.objects new.objects new.resident (referred_row object.0 page.0 (Some now) k.chains k.memory.objects k.memory.resident new.resident comes.row (λ r is. (rests.referred.pages object.0 page.0 row asked.0, inr (live_is control (object_at k.memory.objects object.0) (subst (λ (z : Option ℕ). is_control control z ≡ true) (was.controls.live object.0) lives_now)))) rests.referred) same;
       waits = waits.waits;
       fails = refl;
       fresh = tt;
@@ -484,11 +501,11 @@ changed_ended header h k ids past object control page m effect who row new rests
     let was = rests.matches in
     let key = key_of object page in
     let asked = asked_is (row_at k.memory.resident object.0 page.0) row is_asked in
-    let waits = waits_page header h k ids past object.0 page.0 None who new rests is.test ends.row (λ r bad. absurd (let no : None ≡ Some r = bad in cc)) same in
+    let waits = waits_page header h k ids past object.0 page.0 None who new rests is.test ends.row (none_unawaited None refl) same in
     let local_at = λ (o p : ℕ). local header.size h (place_of o p) past in
     let pages = known_at header header.size key effect local_at is.known
     (pages_moved header.size effect key row.frame _ _ _ _ _ k.memory new new.objects (λ o p. known_local header o p (local_at o p)) was.fits.parts was.pages ends
-    (ap (local_after header.size effect) (asked_shows k.memory.frames row (absent_at k.memory.objects object.0 page.0) (was.fits.plain object.0 page.0 row asked.0) asked.1) ∙ left.here) left.others) in
+    (ap (local_after header.size effect) (asked_shows k.memory.frames row (absent_at k.memory.objects object.0 page.0) (was.fits.plain object.0 page.0 row asked.0 asked.1) asked.1) ∙ left.here) left.others) in
     record {
       plain = plain_changed key row.frame _ _ _ _ _ k.memory new was.fits.plain ends tt;
       regions = regions_of k.chains k.memory.objects new.objects ids (λ r. region_of header r past) (λ o. backing_of header o past) (next_region header past) (next_object header past) (marked_regions header past) was.regions same;
@@ -549,7 +566,7 @@ changed_failed header h k ids events after past object control page reason who n
       fails = rw counts_now refl;
       fresh = λ t. refl;
       test = λ o p. refl;
-      asker = rests.waits.askers object.0 page.0 fails.was asked.0 asked.1;
+      asker = rests.waits.askers object.0 page.0 fails.was asked.0 (away_awaited fails.was asked.1);
     }))
 
 -- a page of zeros has come, where the pager of a declared object has none
@@ -595,12 +612,12 @@ changed_zeroed header h k ids host after past object control page who new rests 
     let lacked = absent_at k.memory.objects object.0 page.0 in
     let comes : Changes key row.frame (Some row) (Some now) true (replicate header.size 0) (added row.frame.0 k.memory.queues) k.memory new =
     subst (λ (z : ℕ). FillsPage key row unlocked false (replicate z 0) k.memory new) (was.fits.buffers ∙ was.size) zeroes.page in
-    let here : (r : PageRow) → Some now ≡ Some r → r.here ≡ true = λ r is. ap (λ z. z.here) (sym (some_is now r is)) in
+    let here : IsUnawaited (Some now) = here_unawaited (Some now) now refl refl refl in
     let waits = waits_page header h k ids past object.0 page.0 (Some now) (woken.Page key) new rests (λ o2 p2. refl) comes.row here same in
     let local_at = λ (o p : ℕ). known_local header o p (local header.size h (place_of o p) past) in
     let local_now = λ (o p : ℕ). known_local header o p (local header.size h (place_of o p) (zeros h object page ∷ hears h object control (message.Unavailable page) ∷ past)) in
     let shows : local_at object.0 page.0 ≡ local_of_row k.memory.frames (Some row) lacked → local_now object.0 page.0 ≡ local_of_row new.frames (Some now) lacked = λ is.
-    rw (own_host h, own_host object.0, own_host page.0, lives_now) (zeroed_shows header object.0 page.0 header.size (local header.size h (place_of object.0 page.0) past) lacked declared (is ∙ asked_shows k.memory.frames row lacked (was.fits.plain object.0 page.0 row asked.0) asked.1))
+    rw (own_host h, own_host object.0, own_host page.0, lives_now) (zeroed_shows header object.0 page.0 header.size (local header.size h (place_of object.0 page.0) past) lacked declared (is ∙ asked_shows k.memory.frames row lacked (was.fits.plain object.0 page.0 row asked.0 asked.1) asked.1))
     ∙ (ap (λ z. record away { here = true; bytes = z }) (sym (bytes_now key row.frame _ _ _ _ _ k.memory new comes))
     ∙ ap (λ z. record away { here = true; bytes = page_in new.frames row.frame.0; absent = z }) (sym (was.kinds.present object.0 page.0 declared))) in
     let others : (o p : ℕ) → (object.0 == o && page.0 == p) ≡ false → (local_now o p ≡ local_at o p) × (absent_at k.memory.objects o p ≡ absent_at k.memory.objects o p) = λ o p apart. (
@@ -614,7 +631,7 @@ changed_zeroed header h k ids host after past object control page who new rests 
     let some = count_released k.memory.frames.claims row.frame.0 comes.had in
     subst (λ (z : Woken). Changed header h k ids z new past (zeros h object page ∷ hears h object control (message.Unavailable page) ∷ past)) (sym zeroes.woken)
     (record {
-      plain = plain_changed key row.frame _ _ _ _ _ k.memory new was.fits.plain comes (record { lock = refl; precious = refl; unlock_sent = refl });
+      plain = plain_changed key row.frame _ _ _ _ _ k.memory new was.fits.plain comes (λ gone. absurd (let bad : true ≡ false = gone in cc));
       regions = regions_of k.chains k.memory.objects new.objects ids (λ r. region_of header r past) (λ o. backing_of header o past) (next_region header past) (next_object header past) (marked_regions header past) was.regions same;
       kinds = kinds_same header k.memory.objects new.objects k.chains same (same_marks k.memory.objects new.objects zeroes.objects) was.kinds;
       files = files_same header h k.memory.objects new.objects (λ o. home_of o past) same was.files;
@@ -624,7 +641,7 @@ changed_zeroed header h k ids host after past object control page who new rests 
       frames = rw (own_host h, lacks.counts)
           (frames_changed (slice_get (reverse header.frames.items) h) key row.frame _ _ _ _ _ k.memory new (frames_held header.size h past) (frames_held header.size h past - 1 + 1) (frames_wired h past) was.frames comes
           (λ held. let kept = comes.claims in omega (arith, held, kept, some)));
-      referred = referred_of k.chains k.memory.objects new.objects new.resident (referred_row object.0 page.0 (Some now) k.chains k.memory.objects k.memory.resident new.resident comes.row (λ r is. rests.referred.pages object.0 page.0 row asked.0) rests.referred) same;
+      referred = referred_of k.chains k.memory.objects new.objects new.resident (referred_row object.0 page.0 (Some now) k.chains k.memory.objects k.memory.resident new.resident comes.row (λ r is. (rests.referred.pages object.0 page.0 row asked.0, inl (ap (λ (z : PageRow). z.lock) (sym (some_is now r is))))) rests.referred) same;
       waits = waits.waits;
       fails = refl;
       fresh = tt;

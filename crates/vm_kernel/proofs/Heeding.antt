@@ -1,38 +1,47 @@
 -- A lock request that a host took is done, and paid.
-use Rattle.vm_kernel.proofs.Common.{AllInner, Bool, Command, Event, Fit, FailsNow, Header, HostId, HostParts, Ids, IsAbsencePaid, IsBrought, LaundryList, LegalEvents, List, Message, None, ObjectId, ObjectRow, Option, Outside, PageNo, Parts, Plays, Rests, RunsNoneYet, Some, Still, Works, [], absence_more, ap, append_assoc, arith, before_more, before_step, eqb_tells, error_more, false, host_id, if◌then◌else◌, inl, inr, is_control, live_in, no_request, not, object_at, paging, refl, returns_out, since_more, some_is, subst, sym, true, ℕ, ◌++◌, ◌<◌, ◌∙◌, ◌∷◌, ◌≡◌}
-use Rattle.vm_kernel.proofs.Answers.{hears}
+use Rattle.vm_kernel.proofs.Common.{AllInner, Bool, Command, Event, Fit, FailsNow, Header, HostId, HostParts, Ids, IsAbsencePaid, IsBrought, LaundryList, LegalEvents, List, Message, None, ObjectId, ObjectRow, Option, Outside, PageNo, Parts, Plays, Rests, RunsNoneYet, Some, Still, Works, [], absence_more, ap, append_assoc, arith, eqb_tells, error_more, false, host_id, if◌then◌else◌, inl, inr, is_control, live_in, no_request, object_at, paging, refl, returns_out, some_is, subst, sym, true, ℕ, ◌++◌, ◌<◌, ◌∙◌, ◌∷◌, ◌≡◌}
+use Rattle.std.specs.Prelude.{map, ◌⊎◌}
+use Rattle.vm_kernel.proofs.Answers.{hears, nothing_dead}
 use Rattle.vm_kernel.proofs.Growing.{goes_none}
 use Rattle.vm_kernel.proofs.Heard.{no_absence}
 use Rattle.vm_kernel.proofs.Holding.{room_once}
 use Rattle.vm_kernel.proofs.Locked.{Done, IsTaken, Request, done, inner_of, request_at, wanted_at}
-use Rattle.vm_kernel.proofs.Locking.{asks, rests_locked, rests_roomier}
+use Rattle.vm_kernel.proofs.Hearing.{changed_none, stays_heard}
+use Rattle.vm_kernel.proofs.Hearing.{works_of as heard_works}
+use Rattle.vm_kernel.proofs.Locking.{asks}
+use Rattle.vm_kernel.proofs.Requesting.{mid_taken}
+use Rattle.vm_kernel.proofs.Untold.{matches_with}
 use Rattle.vm_kernel.proofs.Own.{named_host}
 use Rattle.vm_kernel.proofs.Turning.{unrun}
-use Rattle.vm_kernel.specs.Taking.{IsLockPaid, IsPlainWord, is_lock_request}
+use Rattle.vm_kernel.specs.Taking.{HasEnded, IsLockPaid, IsWord, KeepsAskers, is_lock_request, is_unlocked}
 use Rattle.vm_legal.proofs.Paying.{lock_more, locked_more}
 use Rattle.vm_legal.specs.Debts.{HasLocked}
-use Rattle.vm_legal.specs.Licences.{LockRequest, gives_back, lock_taken}
-use Rattle.vm_legal.specs.Steps.{completes, drops_page, returns_page}
-use Rattle.vm_legal.specs.Walks.{page_on}
+use Rattle.vm_legal.specs.Licences.{LockRequest, lock_taken}
+use Rattle.vm_model.specs.Controls.{live_control}
 use Rattle.vm_locks.specs.Obeys.{CanLock, LockState, Obeys, PagesObey, Replies, lock_state}
 use Rattle.vm_locks.specs.Requests.{IsLockRequest}
 use Rattle.vm_locks.specs.declared.request.LockRequest.{LockRequest as Wanted}
 use Rattle.vm_model.specs.declared.message.Message.TheVariants as message
 use Rattle.vm_queues.specs.Queues.{EachOnce}
+use Rattle.vm_supply.specs.declared.woken.Woken.{Woken}
 use Rattle.vm_supply.specs.declared.woken.Woken.TheVariants as woken
+use Rattle.vm_waits.specs.Waits as waits
+use Rattle.vm_waits.specs.Waits.{WaitTable}
+use Rattle.vm_waits.specs.declared.waiting.Waiting.{Waiting}
 
--- the message is a lock request that leaves all locks as they are
+-- the message is a lock request
 pub record IsLock (m : Message) : Type 0 where
   pub page : PageNo
   pub count : ℕ
   pub returns : ℕ
   pub flush : Bool
+  pub lock : ℕ
   pub reply : Bool
-  pub is : m ≡ message.Lock page count returns flush 8 reply
-  pub few : returns < 3
+  pub is : m ≡ message.Lock page count returns flush lock reply
+  pub asks : (returns < 3) × ((lock < 4) ⊎ (lock ≡ 8))
 
-pub lock_of : (size : ℕ) (m : Message) → IsPlainWord size m → is_lock_request m ≡ true → IsLock m
-lock_of size (message.Lock page count returns flush lock reply) word asks = record { page = page; count = count; returns = returns; flush = flush; reply = reply; is = ap (λ z. message.Lock page count returns flush z reply) word.1; few = word.0 }
+pub lock_of : (size : ℕ) (m : Message) → IsWord size m → is_lock_request m ≡ true → IsLock m
+lock_of size (message.Lock page count returns flush lock reply) word asks = record { page = page; count = count; returns = returns; flush = flush; lock = lock; reply = reply; is = refl; asks = word }
 lock_of size other word asks = absurd (let bad : false ≡ true = asks in cc)
 
 -- the control of an object lives
@@ -54,7 +63,7 @@ live_of (Some known) control lives = by known.live refl lives
     by false live same = absurd (let bad : false ≡ true = same in cc)
 
 -- so it can be done
-pub can_lock : (header : Header) (h : ℕ) (k : Parts) (ids : Ids) (past : List Event) (object : ObjectId) (control : ℕ) (m : Message) (events : List Event) → Rests header h k ids past → IsPlainWord k.size m → is_lock_request m ≡ true → is_control control (live_in (object_at k.memory.objects object.0)) ≡ true
+pub can_lock : (header : Header) (h : ℕ) (k : Parts) (ids : Ids) (past : List Event) (object : ObjectId) (control : ℕ) (m : Message) (events : List Event) → Rests header h k ids past → IsWord k.size m → is_lock_request m ≡ true → is_control control (live_in (object_at k.memory.objects object.0)) ≡ true
     → EachOnce (k.memory.queues.inactive ++ k.memory.queues.active) → CanLock (lock_state k.memory k.laundry.held k.laundry.room events) object.0 m
 can_lock header h k ids past object control m events rests word asks lives once =
     let is = lock_of k.size m word asks in
@@ -62,7 +71,7 @@ can_lock header h k ids past object control m events rests word asks lives once 
     let m2 = rests.matches in
     record {
       fit = m2.fits.parts;
-      asks = subst IsLockRequest (sym is.is) (is.few, inr refl);
+      asks = subst IsLockRequest (sym is.is) is.asks;
       row = live.known;
       known = live.is;
       live = live.live;
@@ -79,31 +88,38 @@ pub record Heeds (header : Header) (h : ℕ) (outside : Outside) (doing : Comman
   pub locked : IsLockPaid header (after ++ past)
   pub plays : Plays header past [] (paging k) after (paging new)
 
-works_of : {header : Header} {h : ℕ} {k : Parts} {ids : Ids} {past : List Event} → Rests header h k ids past → Works header h k ids woken.Nobody past
-works_of rests = record { matches = rests.matches; used = rests.used; referred = rests.referred; waits = rests.waits; order = rests.order }
-
 -- it was for another control
-heeds_dead : (header : Header) (h : ℕ) (outside : Outside) (doing : Command) (k : Parts) (ids : Ids) (past : List Event) (object : ObjectId) (control : ℕ) (page : PageNo) (count returns : ℕ) (flush reply : Bool) → Rests header h k ids past
-    → is_control control (live_in (object_at k.memory.objects object.0)) ≡ false → Heeds header h outside doing k k ids (asks h object control page count returns flush reply ∷ past) []
-heeds_dead header h outside doing k ids past object control page count returns flush reply rests dead =
-    let now = asks h object control page count returns flush reply ∷ past in
+heeds_dead : (header : Header) (h : ℕ) (outside : Outside) (doing : Command) (k : Parts) (ids : Ids) (past : List Event) (object : ObjectId) (control : ℕ) (page : PageNo) (count returns : ℕ) (flush : Bool) (lock : ℕ) (reply : Bool) → Rests header h k ids past
+    → is_control control (live_in (object_at k.memory.objects object.0)) ≡ false → Heeds header h outside doing k k ids (asks h object control page count returns flush lock reply ∷ past) []
+heeds_dead header h outside doing k ids past object control page count returns flush lock reply rests dead =
+    let now = asks h object control page count returns flush lock reply ∷ past in
+    let m = message.Lock page count returns flush lock reply in
+    let dead_now : is_control control (live_control h object.0 past) ≡ false = ap (is_control control) (rests.matches.controls.live object.0) ∙ dead in
+    let none : lock_taken now ≡ None = ap (λ b. if b then Some (record { host = h; object = object.0; control = control; page = page.0; count = count; returns = returns; flush = flush; lock = lock; reply = reply }) else None) dead_now in
     record {
-      works = works_of (rests_locked header h k ids past object control page count returns flush reply rests);
+      works = heard_works header h k ids woken.Nobody k.memory past now rests (stays_heard header h k ids past object control m rests none) rests.matches.fits.parts refl (changed_none header h k ids past object control m rests (nothing_dead header h object control m past dead_now));
       fails = refl;
       goes = goes_none header h outside doing now [];
       early = unrun [] tt;
       zeroed = no_absence header now refl;
-      locked = λ request is. no_request request now (ap (λ b. if b then Some (record { host = h; object = object.0; control = control; page = page.0; count = count; returns = returns; flush = flush; lock = 8; reply = reply }) else None) (ap (is_control control) (rests.matches.controls.live object.0) ∙ dead)) is;
+      locked = λ request is. no_request request now none is;
       plays = Still;
     }
 
--- or it was done
-heeds_live : (header : Header) (h : ℕ) (outside : Outside) (doing : Command) (k : Parts) (ids : Ids) (past : List Event) (object : ObjectId) (control : ℕ) (page : PageNo) (count returns : ℕ) (flush reply : Bool) (memory : HostParts) (laundry : LaundryList) (after : List Event) → Rests header h k ids past
-    → returns < 3 → is_control control (live_in (object_at k.memory.objects object.0)) ≡ true → Obeys k.host object (message.Lock page count returns flush 8 reply) (lock_state k.memory k.laundry.held k.laundry.room []) (lock_state memory laundry.held laundry.room after)
-    → Fit memory → memory.buffers.size ≡ k.memory.buffers.size → Heeds header h outside doing k (record k { memory = memory; laundry = laundry }) ids (asks h object control page count returns flush reply ∷ past) after
-heeds_live header h outside doing k ids past object control page count returns flush reply memory laundry after rests few lives obeys fit size =
+-- a kernel works with other buffers of the same size
+works_roomier : {header : Header} {h : ℕ} (k : Parts) {ids : Ids} {past : List Event} (memory : HostParts) (laundry : LaundryList) → Works header h (record k { memory = record memory { buffers = k.memory.buffers }; laundry = laundry }) ids woken.Nobody past → Fit memory → memory.buffers.size ≡ k.memory.buffers.size
+    → Works header h (record k { memory = memory; laundry = laundry }) ids woken.Nobody past
+works_roomier k memory laundry works fit size =
+    record { matches = matches_with memory.queues memory.buffers k.waits fit size works.matches; used = works.used; referred = works.referred; waits = works.waits; order = works.order }
+
+-- or it was done, and those are to be run again that waited for unlocks under it
+heeds_live : (header : Header) (h : ℕ) (outside : Outside) (doing : Command) (k : Parts) (ids : Ids) (past : List Event) (object : ObjectId) (control : ℕ) (page : PageNo) (count returns : ℕ) (flush : Bool) (lock : ℕ) (reply : Bool) (memory : HostParts) (laundry : LaundryList) (waits2 : WaitTable) (after : List Event) → Rests header h k ids past
+    → (returns < 3) × ((lock < 4) ⊎ (lock ≡ 8)) → is_control control (live_in (object_at k.memory.objects object.0)) ≡ true → waits2.rows ≡ map (waits.woken (is_unlocked k.memory.resident object.0 page.0 count)) k.waits.rows
+    → Obeys k.host object (message.Lock page count returns flush lock reply) (lock_state k.memory k.laundry.held k.laundry.room []) (lock_state memory laundry.held laundry.room after)
+    → Fit memory → memory.buffers.size ≡ k.memory.buffers.size → Heeds header h outside doing k (record k { memory = memory; laundry = laundry; waits = waits2 }) ids (asks h object control page count returns flush lock reply ∷ past) after
+heeds_live header h outside doing k ids past object control page count returns flush lock reply memory laundry waits2 after rests few lives woke obeys fit size =
     record {
-      works = works_of (rests_roomier header h k ids memory laundry (after ++ now) its.rests fit size);
+      works = works_roomier (record k { waits = waits2 }) memory laundry its.works fit size;
       fails = error_more header.size after now inner;
       goes = its.goes;
       early = unrun after its.quiet;
@@ -113,20 +129,40 @@ heeds_live header h outside doing k ids past object control page count returns f
     }
   where
     now : List Event
-    now = asks h object control page count returns flush reply ∷ past
+    now = asks h object control page count returns flush lock reply ∷ past
 
     live : IsLive (object_at k.memory.objects object.0) control
     live = live_of (object_at k.memory.objects object.0) control lives
 
+    lives_now : is_control control (live_control h object.0 past) ≡ true
+    lives_now = ap (is_control control) (rests.matches.controls.live object.0) ∙ lives
+
     r : Request
-    r = record { header = header; host = h; outside = outside; command = doing; ids = ids; kernel = k; past = asks h object control page count returns flush reply ∷ past; object = object; known = live.known; page = page; count = count; returns = returns; flush = flush; reply = reply }
+    r = record {
+      header = header;
+      host = h;
+      outside = outside;
+      command = doing;
+      ids = ids;
+      kernel = record k { waits = waits2 };
+      past = asks h object control page count returns flush lock reply ∷ past;
+      object = object;
+      known = live.known;
+      page = page;
+      count = count;
+      returns = returns;
+      flush = flush;
+      lock = lock;
+      reply = reply;
+    }
 
     taken : IsTaken r
     taken = record {
-      rests = rests_locked header h k ids past object control page count returns flush reply rests;
-      taken = ap (λ b. if b then Some (record { host = h; object = object.0; control = control; page = page.0; count = count; returns = returns; flush = flush; lock = 8; reply = reply }) else None) (ap (is_control control) (rests.matches.controls.live object.0) ∙ lives)
+      rests = mid_taken header h k ids past object control page count returns lock flush reply waits2 rests lives_now live.known live.is live.live few.1 woke;
+      taken = ap (λ b. if b then Some (record { host = h; object = object.0; control = control; page = page.0; count = count; returns = returns; flush = flush; lock = lock; reply = reply }) else None) lives_now
           ∙ ap (λ c. Some (record (request_at r) { control = c })) (sym live.number);
-      few = few;
+      few = few.0;
+      lock = few.1;
       found = live.is;
       live = live.live;
       first = λ test. refl;
@@ -161,26 +197,48 @@ heeds_live header h outside doing k ids past object control page count returns f
 
 -- from the start of the call
 
-pub heeds_none : (header : Header) (h : ℕ) (outside : Outside) (doing : Command) (k : Parts) (ids : Ids) (past front after : List Event) (object : ObjectId) (control : ℕ) (m : Message) → Rests header h k ids past → front ≡ hears h object control m ∷ [] → IsPlainWord k.size m → is_lock_request m ≡ true
+pub heeds_none : (header : Header) (h : ℕ) (outside : Outside) (doing : Command) (k : Parts) (ids : Ids) (past front after : List Event) (object : ObjectId) (control : ℕ) (m : Message) → Rests header h k ids past → front ≡ hears h object control m ∷ [] → IsWord k.size m → is_lock_request m ≡ true
     → after ≡ [] → is_control control (live_in (object_at k.memory.objects object.0)) ≡ false → Heeds header h outside doing k k ids (front ++ past) after
 heeds_none header h outside doing k ids past front after object control m rests told word asked nothing dead =
     let is = lock_of k.size m word asked in
     subst (λ (z : List Event). Heeds header h outside doing k k ids (front ++ past) z) (sym nothing)
     (subst (λ (z : List Event). Heeds header h outside doing k k ids (z ++ past) []) (sym told)
     (subst (λ (z : Message). Heeds header h outside doing k k ids (hears h object control z ∷ past) []) (sym is.is)
-    (heeds_dead header h outside doing k ids past object control is.page is.count is.returns is.flush is.reply rests dead)))
+    (heeds_dead header h outside doing k ids past object control is.page is.count is.returns is.flush is.lock is.reply rests dead)))
 
-pub heeds_done : (header : Header) (h : ℕ) (outside : Outside) (doing : Command) (k : Parts) (ids : Ids) (past front before after : List Event) (object : ObjectId) (control : ℕ) (m : Message) (memory : HostParts) (laundry : LaundryList) → Rests header h k ids past → front ≡ hears h object control m ∷ [] → IsPlainWord k.size m → is_lock_request m ≡ true
-    → before ≡ [] → is_control control (live_in (object_at k.memory.objects object.0)) ≡ true → Obeys k.host object m (lock_state k.memory k.laundry.held k.laundry.room before) (lock_state memory laundry.held laundry.room after)
-    → Fit memory → memory.buffers.size ≡ k.memory.buffers.size → Heeds header h outside doing k (record k { memory = memory; laundry = laundry }) ids (front ++ past) after
-heeds_done header h outside doing k ids past front before after object control m memory laundry rests told word asked nothing lives obeys fit size =
-    let is = lock_of k.size m word asked in
-    let new = record k { memory = memory; laundry = laundry } in
+-- the range of a message
+pub record IsRange (m : Message) (page : PageNo) (count : ℕ) : Type 0 where
+  pub returns : ℕ
+  pub flush : Bool
+  pub lock : ℕ
+  pub reply : Bool
+  pub is : m ≡ message.Lock page count returns flush lock reply
+
+pub heeds_done : (header : Header) (h : ℕ) (outside : Outside) (doing : Command) (k : Parts) (ids : Ids) (past front before after : List Event) (object : ObjectId) (control : ℕ) (m : Message) (page : PageNo) (count : ℕ) (memory : HostParts) (laundry : LaundryList) (waits2 : WaitTable) → Rests header h k ids past → front ≡ hears h object control m ∷ [] → IsWord k.size m
+    → IsRange m page count → before ≡ [] → is_control control (live_in (object_at k.memory.objects object.0)) ≡ true → waits2.rows ≡ map (waits.woken (is_unlocked k.memory.resident object.0 page.0 count)) k.waits.rows
+    → Obeys k.host object m (lock_state k.memory k.laundry.held k.laundry.room before) (lock_state memory laundry.held laundry.room after)
+    → Fit memory → memory.buffers.size ≡ k.memory.buffers.size → Heeds header h outside doing k (record k { memory = memory; laundry = laundry; waits = waits2 }) ids (front ++ past) after
+heeds_done header h outside doing k ids past front before after object control m page count memory laundry waits2 rests told word range nothing lives woke obeys fit size =
+    let new = record k { memory = memory; laundry = laundry; waits = waits2 } in
+    let asks_it : (range.returns < 3) × ((range.lock < 4) ⊎ (range.lock ≡ 8)) = subst (IsWord k.size) range.is word in
     subst (λ (z : List Event). Heeds header h outside doing k new ids (z ++ past) after) (sym told)
-    (subst (λ (z : Message). Heeds header h outside doing k new ids (hears h object control z ∷ past) after) (sym is.is)
-    (heeds_live header h outside doing k ids past object control is.page is.count is.returns is.flush is.reply memory laundry after rests is.few lives
-    (subst (λ (z : Message). Obeys k.host object z (lock_state k.memory k.laundry.held k.laundry.room []) (lock_state memory laundry.held laundry.room after)) is.is
+    (subst (λ (z : Message). Heeds header h outside doing k new ids (hears h object control z ∷ past) after) (sym range.is)
+    (heeds_live header h outside doing k ids past object control page count range.returns range.flush range.lock range.reply memory laundry waits2 after rests asks_it lives woke
+    (subst (λ (z : Message). Obeys k.host object z (lock_state k.memory k.laundry.held k.laundry.room []) (lock_state memory laundry.held laundry.room after)) range.is
     (subst (λ (z : List Event). Obeys k.host object m (lock_state k.memory k.laundry.held k.laundry.room z) (lock_state memory laundry.held laundry.room after)) nothing obeys)) fit size))
+
+-- who is to be ended waits still
+pub askers_kept : (who : Woken) (old new : WaitTable) → new ≡ old → KeepsAskers who old.rows new.rows
+askers_kept (woken.Fails key) old new same = ap (λ (z : WaitTable). z.rows) same
+askers_kept woken.Nobody old new same = tt
+askers_kept (woken.ReadyOf object) old new same = tt
+askers_kept (woken.Page key) old new same = tt
+
+pub ended_still : (who : Woken) (old new : List Waiting) (past : List Event) → KeepsAskers who old new → HasEnded who new past → HasEnded who old past
+ended_still (woken.Fails key) old new past same ended = subst (λ (z : List Waiting). HasEnded (woken.Fails key) z past) same ended
+ended_still woken.Nobody old new past same ended = tt
+ended_still (woken.ReadyOf object) old new past same ended = tt
+ended_still (woken.Page key) old new past same ended = tt
 
 -- what was paid stays paid
 

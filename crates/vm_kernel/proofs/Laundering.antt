@@ -5,6 +5,7 @@ use Rattle.vm_model.specs.declared.message.Message.TheVariants as message
 use Rattle.vm_state.specs.Places.{known_local}
 use Rattle.vm_kernel.proofs.After.{Leaves, controls_after, homeless_after, regions_after}
 use Rattle.vm_kernel.proofs.Own.{own_host}
+use Rattle.vm_kernel.proofs.Replied.{replied_none}
 use Rattle.vm_state.specs.Places.{known_local}
 
 -- no frame of the list is this one
@@ -93,6 +94,7 @@ rests_taken header h k ids past object control page dirty bytes f fs laundry res
             homes = was.homes;
             files = was.files;
             settled = record { returned = refl; shut = λ region. refl };
+            replied = replied_none refl;
             laundry = rw (own_host h) (laundry_less k.memory.frames fs k.memory.resident k.laundry laundry (returns_out h past) f was.laundry held room washed.claimed releases);
             frames = rw (own_host h) (frames_less (slice_get (reverse header.frames.items) h) k.memory.frames fs f.0 (frames_held header.size h past) (frames_wired h past) was.frames releases);
           };

@@ -1,9 +1,9 @@
 -- Where a waiting access leads: its entry, its region, and the top place of its page; and that it can be run.
-use Rattle.vm_kernel.proofs.Common.{ChainTable, Entry, Event, FoundRow, HasWaits, Header, Ids, IsAt, IsInside, IsTop, List, Matches, PageKey, Parts, RegionRow, Some, Waiting, Waits, Want, Woken, Works, [], access_in, address_in, ap, arith, entries_of, entry, entry_at, found_row, has_region, host_of, is_some, is_store, length, named, next_page, page_at, page_of, pages_in, refl, region_at, region_of, region_pages, rows_in, subst, sym, true, waiting, waiting_in, ℕ, ◌<◌, ◌^◌, ◌∙◌, ◌≡◌, ◌≤◌}
+use Rattle.vm_kernel.proofs.Common.{ChainTable, Entry, Event, FoundRow, HasWaits, Header, Ids, IsAt, IsInside, IsTop, List, Matches, PageKey, Parts, RegionRow, Some, Waiting, Waits, Want, Woken, Works, [], access_in, address_in, ap, arith, entries_of, entry, entry_at, found_row, has_region, host_of, is_some, next_page, page_at, page_of, pages_in, region_at, region_of, region_pages, rows_in, subst, sym, true, waiting, waiting_in, ℕ, ◌<◌, ◌^◌, ◌∙◌, ◌≡◌, ◌≤◌}
 use Rattle.std.specs.Prelude.{◌-◌}
 use Rattle.vm_fault.specs.Faults.{CanFault}
 use Rattle.vm_fault.specs.Sources.{CanWalk}
-use Rattle.vm_fault.specs.Walks.{is_storing, top_place}
+use Rattle.vm_fault.specs.Walks.{top_place}
 use Rattle.vm_kernel.proofs.Own.{lives_here, rows_here}
 use Rattle.vm_kernel.proofs.Regions.{region_row}
 use Rattle.vm_model.specs.Regions.{Region}
@@ -12,7 +12,6 @@ use Rattle.vm_state.proofs.Marks.{marked_some}
 use Rattle.vm_state.proofs.Referring.{objects_below, refers_region, small_region}
 use Rattle.vm_state.proofs.Walks.{top_of}
 use Rattle.vm_terminate.specs.Finishes.{IsReferred}
-use Rattle.vm_waits.specs.declared.waiting.Want.TheVariants as want
 use Rattle.vm_kernel.proofs.Shown.{shown_at, want_address}
 
 pub region_is : (cs : ChainTable) (r : ℕ) (row : RegionRow) → region_at cs r ≡ Some row → has_region cs r ≡ true
@@ -74,11 +73,6 @@ can_fault header h past k ids who w events works is =
   where
     below_last : (n : ℕ) → n ≤ 8192 → n < 2 ^ 32 - 1
     below_last n less = omega arith
-
--- it stores as the history has it
-pub storing_is : (what : Want) → is_store (access_in what) ≡ is_storing what
-storing_is (want.Load address n) = refl
-storing_is (want.Store address n value) = refl
 
 -- where the access of a task leads, after a history
 pub record Leads (header : Header) (h : ℕ) (past : List Event) (k : Parts) (task : ℕ) (what : Want) (top : PageKey) (at : IsAt k.maps k.chains task what top) : Type 0 where

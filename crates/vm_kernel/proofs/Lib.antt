@@ -43,6 +43,7 @@ pub mod Ordering
 pub mod Own
 pub mod Pageout
 pub mod Pages
+pub mod Pending
 pub mod Playing
 pub mod Prompting
 pub mod Ranged
@@ -51,6 +52,8 @@ pub mod Reclaims
 pub mod Recounts
 pub mod Refusals
 pub mod Regions
+pub mod Replied
+pub mod Requesting
 pub mod Returning
 pub mod Rewrites
 pub mod Rooms
@@ -61,6 +64,7 @@ pub mod Shares
 pub mod Sharing
 pub mod Shown
 pub mod Sources
+pub mod Sparing
 pub mod Stopping
 pub mod Strands
 pub mod Supplying
@@ -68,7 +72,9 @@ pub mod Tasks
 pub mod Terminating
 pub mod Turning
 pub mod Uncopied
+pub mod Unlocking
 pub mod Untold
 pub mod Uses
+pub mod Waked
 pub mod Washing
 pub mod Wires

@@ -1,10 +1,11 @@
 -- A page obeys a lock request: what the kernel stands for behind that.
-use Rattle.vm_kernel.proofs.Common.{AllReferred, ArePlain, Bool, Caused, ChainTable, Changes, Command, Discards, Does, Drops, Elsewhere, Event, Fit, FrameTable, HasControls, HasFrames, HasHomes, HasKinds, HasLaundry, HasOrder, HasPages, HasTasks, HasUse, HasWaiters, Header, HostParts, Ids, IfSome, IsPlainRow, IsReferred, IsSettled, LaundryList, List, Local, LocalEffect, Matches, None, ObjectId, ObjectRow, ObjectTable, Option, Outside, PageKey, PageNo, PageRow, Parts, PartsFit, PutsAbsent, Queues, ResidentTable, Rests, Returns, SameObjects, Some, Suffice, TakesLock, Up, [], absent_at, ap, arith, away, entries_of, false, fit_objects, frame_count, frame_here, frames_held, frames_wired, holds, home_of, host_id, host_of, if◌then◌else◌, in_use, inr, is_control, is_on, is_ready, is_some, last_control, live_control, live_in, local, local_after, local_of_row, named, nat_tests, next_region, not, object_at, object_home, page_in, pages_of_row, paging, place_of, queues_except, ready_in, refl, returns_out, reverse, row_at, slice_get, some_is, subst, sym, true, waiting, ℕ, ◌&&◌, ◌++◌, ◌+◌, ◌-◌, ◌<◌, ◌==◌, ◌||◌, ◌∙◌, ◌∷◌, ◌≡◌}
+use Rattle.vm_kernel.proofs.Common.{AllReferred, Bool, Caused, ChainTable, Changes, Command, Discards, Does, Drops, Elsewhere, Event, Fit, HasControls, HasFrames, HasHomes, HasKinds, HasLaundry, HasOrder, HasPages, HasTasks, HasUse, HasWaiters, Header, HostParts, Ids, IfSome, IsReferred, IsSettled, LaundryList, List, Local, LocalEffect, None, ObjectId, ObjectRow, ObjectTable, Option, Outside, PageKey, PageNo, PageRow, Parts, PartsFit, PutsAbsent, Queues, ResidentTable, Returns, SameObjects, Some, Suffice, Up, [], absent_at, ap, arith, away, entries_of, false, fit_objects, frame_count, frame_here, frames_held, frames_wired, holds, home_of, host_id, host_of, if◌then◌else◌, in_use, inl, inr, is_on, is_ready, is_some, is_woken, last_control, live_control, live_in, local, local_after, local_of_row, named, nat_tests, next_region, not, object_at, object_home, page_in, pages_of_row, paging, place_of, queues_except, ready_in, refl, returns_out, reverse, row_at, slice_get, some_is, subst, sym, true, waiting, ℕ, ◌&&◌, ◌++◌, ◌+◌, ◌-◌, ◌<◌, ◌==◌, ◌||◌, ◌∙◌, ◌∷◌, ◌≡◌, AreShared, HasEntries, HasRegions, AllUsed, HasWaits, IsRanged, Works, backing_of, marked_regions, next_object, region_of, length, HaveHomes}
+use Rattle.vm_state.specs.Stands.{KnowsFiles}
 use Rattle.vm_kernel.proofs.After.{Leaves, controls_after, homeless_after, regions_after}
-use Rattle.vm_kernel.proofs.Answers.{IsNothing, hears}
-use Rattle.vm_kernel.proofs.Brings.{plain_changed}
+use Rattle.vm_kernel.proofs.Answers.{hears}
+use Rattle.vm_kernel.proofs.Brings.{plain_changed, plain_here, IsPlainAway}
 use Rattle.vm_kernel.proofs.Growing.{Follows, suffices}
-use Rattle.vm_kernel.proofs.Hearing.{regions_of}
+use Rattle.vm_kernel.proofs.Hearing.{may_lock, regions_of}
 use Rattle.vm_kernel.proofs.Known.{IsOther, known_on, other_nested, pages_known}
 use Rattle.vm_kernel.proofs.Losing.{IsSeen, seen_here}
 use Rattle.vm_kernel.proofs.Mine.{own_named}
@@ -17,7 +18,6 @@ use Rattle.vm_kernel.proofs.Washing.{laundry_returned}
 use Rattle.vm_kernel.specs.Plays.{AsLocked, DepartsLocked}
 use Rattle.vm_legal.specs.Licences.{Flushed, IsLocked, Wanted, gives_back}
 use Rattle.vm_legal.specs.Living.{tasks as made_tasks}
-use Rattle.vm_model.specs.Words.{in_range}
 use Rattle.vm_model.specs.declared.event.Event.TheVariants as event
 use Rattle.vm_model.specs.declared.message.Message.TheVariants as message
 use Rattle.vm_parts.proofs.Fitting.{fit_changed}
@@ -25,41 +25,72 @@ use Rattle.vm_parts.specs.Changes.{Relocks, Removes, relocked}
 use Rattle.vm_state.proofs.Declared.{kinds_marked}
 use Rattle.vm_state.proofs.Referred.{referred_row}
 use Rattle.vm_state.proofs.Told.{told_all, waits_told}
-use Rattle.vm_state.proofs.Waiting.{IsNotAsked, here_not_asked, none_not_asked, waiters_page}
+use Rattle.vm_state.proofs.Waiting.{IsUnawaited, here_unawaited, none_unawaited, waiters_page}
 use Rattle.vm_state.specs.Places.{known_local}
 use Rattle.vm_supply.specs.declared.woken.Woken.TheVariants as woken
+use Rattle.vm_state.specs.References.{MayLock}
+use Rattle.vm_kernel.proofs.Accessing.{same_lock}
+use Rattle.vm_kernel.specs.Matches.{IsReplied}
 
--- the request alone changes nothing: no unlock is outstanding, and it leaves all locks as they are
+-- The kernel while it does a lock request: it matches its history, but that the reply may be owed.
+pub record Mid (header : Header) (h : ℕ) (k : Parts) (ids : Ids) (past : List Event) : Type 0 where
+  pub ranged : IsRanged header
+  pub known : h < length header.frames.items
+  pub size : k.size ≡ header.size
+  pub host : k.host.0 ≡ h
+  pub declared : k.declared.items ≡ header.objects.items
+  pub fits : PartsFit k
+  pub tasks : HasTasks h header.size k.maps (λ task. host_of task past) (λ task. entries_of header.size task past)
+  pub regions : HasRegions k.chains k.memory.objects ids (λ r. region_of header r past) (λ o. backing_of header o past) (next_region header past) (next_object header past) (marked_regions header past)
+  pub kinds : HasKinds header k.memory.objects k.chains
+  pub homes : HasHomes header h k.chains (λ r. home_of r past)
+  pub files : KnowsFiles header h k.memory.objects (λ o. home_of o past)
+  pub entries : HasEntries header.size k.maps k.chains []
+  pub shared : AreShared (named header) k.maps
+  pub pages : HasPages k.memory.frames k.memory.resident k.memory.objects (λ o p. known_local header o p (local header.size h (place_of o p) past))
+  pub uses : HasUse header k.maps (λ r. in_use header h r past) (made_tasks past) (λ task r. holds header.size task r past) (next_region header past)
+  pub controls : HasControls (named header) h k.memory.objects (λ o. last_control h o past) (λ o. live_control h o past) (λ o. is_ready h o past) (λ o. object_home o past)
+  pub homeless : HaveHomes header past
+  pub settled : IsSettled past
+  pub laundry : HasLaundry k.memory.frames k.memory.resident k.laundry (returns_out h past)
+  pub frames : HasFrames (slice_get (reverse header.frames.items) h) k.memory.frames (frames_held header.size h past) (frames_wired h past)
+  pub used : AllUsed k.chains
+  pub referred : AllReferred k.chains k.memory.objects k.memory.resident
+  pub waits : HasWaits k woken.Nobody past
+  pub order : HasOrder k past
 
-unlocks_none : (fs : FrameTable) (rs : ResidentTable) (o p : ℕ) (lacked : Bool) → ArePlain rs → (local_of_row fs (row_at rs o p) lacked).unlocking ≡ false
-unlocks_none fs rs o p lacked plain = by (row_at rs o p) refl
-  where
-    by : (x : Option PageRow) → row_at rs o p ≡ x → (local_of_row fs x lacked).unlocking ≡ false
-    by None is = refl
-    by (Some row) is = (plain o p row is).unlock_sent
-
-lock_stays : (size : ℕ) (flush object page : Bool) (was : Local) → was.unlocking ≡ false → local_after size (if object then (if page then TakesLock 8 flush else Elsewhere) else Elsewhere) was ≡ was
-lock_stays size flush true true was none = by flush was.here
-  where
-    by : (f there : Bool) → (if there then record was { lock = if f || 8 == 8 then was.lock else 8; unlocking = false } else was) ≡ was
-    by f false = refl
-    by true true = ap (λ z. record was { unlocking = z }) (sym none)
-    by false true = ap (λ z. record was { unlocking = z }) (sym none)
-lock_stays size flush true false was none = refl
-lock_stays size flush false page was none = refl
-
-pub nothing_locked : (header : Header) (h : ℕ) (k : Parts) (ids : Ids) (past : List Event) (object : ObjectId) (control : ℕ) (page : PageNo) (count returns : ℕ) (flush reply : Bool) → Rests header h k ids past
-    → IsNothing header h object control (message.Lock page count returns flush 8 reply) past
-nothing_locked header h k ids past object control page count returns flush reply rests =
-    let m = rests.matches in
+-- with the reply it is as it was
+pub works_mid : {header : Header} {h : ℕ} {k : Parts} {ids : Ids} {past : List Event} → Mid header h k ids past → IsReplied past → Works header h k ids woken.Nobody past
+works_mid m replied =
     record {
-      pages = λ o p.
-          rw (own_host h) (lock_stays header.size flush (object.0 == o && is_control control (live_control h o past)) (in_range p page.0 count) (local header.size h (place_of o p) past)
-          (ap (λ z. z.unlocking) (m.pages.shown o p) ∙ unlocks_none k.memory.frames k.memory.resident o p (absent_at k.memory.objects o p) m.fits.plain));
-      held = refl;
-      ready = λ o live is. refl;
-      error = refl;
-      absence = refl;
+      matches =
+          record {
+            ranged = m.ranged;
+            known = m.known;
+            size = m.size;
+            host = m.host;
+            declared = m.declared;
+            fits = m.fits;
+            tasks = m.tasks;
+            regions = m.regions;
+            kinds = m.kinds;
+            homes = m.homes;
+            files = m.files;
+            entries = m.entries;
+            shared = m.shared;
+            pages = m.pages;
+            uses = m.uses;
+            controls = m.controls;
+            homeless = m.homeless;
+            settled = m.settled;
+            replied = replied;
+            laundry = m.laundry;
+            frames = m.frames;
+          };
+      used = m.used;
+      referred = m.referred;
+      waits = m.waits;
+      order = m.order;
     }
 
 -- what is not of pages stays behind an event
@@ -70,13 +101,13 @@ pub record Quiet (header : Header) (h : ℕ) (k : Parts) (past now : List Event)
   pub homes : HasHomes header h k.chains (λ r. home_of r now)
   pub controls : {os : ObjectTable} → HasControls (named header) h os (λ o. last_control h o past) (λ o. live_control h o past) (λ o. is_ready h o past) (λ o. object_home o past)
       → HasControls (named header) h os (λ o. last_control h o now) (λ o. live_control h o now) (λ o. is_ready h o now) (λ o. object_home o now)
-  pub waits : {rs : ResidentTable} {os : ObjectTable} → HasWaiters k.maps k.chains rs os k.waits.rows woken.Nobody (λ t. waiting t past) → HasWaiters k.maps k.chains rs os k.waits.rows woken.Nobody (λ t. waiting t now)
+  pub waits : {rs : ResidentTable} {os : ObjectTable} → HasWaiters k.maps k.chains rs os k.waits.rows (is_woken woken.Nobody) (λ t. waiting t past) → HasWaiters k.maps k.chains rs os k.waits.rows (is_woken woken.Nobody) (λ t. waiting t now)
   pub order : HasOrder k now
   pub settled : IsSettled now
 
-quiet_none : {header : Header} {h : ℕ} {k : Parts} {ids : Ids} {past : List Event} → Rests header h k ids past → Quiet header h k past past
+quiet_none : {header : Header} {h : ℕ} {k : Parts} {ids : Ids} {past : List Event} → Mid header h k ids past → Quiet header h k past past
 quiet_none rests =
-    let m = rests.matches in
+    let m = rests in
     record {
       leaves = record { regions_made = refl; objects_made = refl; region = λ r. refl; backing = λ o. refl; home = λ r. refl; made_for = λ o. refl; used = λ g r. refl; target = λ task. refl };
       tasks = m.tasks;
@@ -92,9 +123,9 @@ quiet_none rests =
 abbrev pub drops : ℕ → PageKey → Event
 drops h key = event.Dropped (host_id h) key.object key.page
 
-quiet_dropped : {header : Header} {h : ℕ} {k : Parts} {ids : Ids} {past : List Event} (key : PageKey) → Rests header h k ids past → Quiet header h k past (drops h key ∷ past)
+quiet_dropped : {header : Header} {h : ℕ} {k : Parts} {ids : Ids} {past : List Event} (key : PageKey) → Mid header h k ids past → Quiet header h k past (drops h key ∷ past)
 quiet_dropped {header = header} {h = h} {past = past} key rests =
-    let m = rests.matches in
+    let m = rests in
     let leaves : Leaves header past (drops h key ∷ past) = record { regions_made = refl; objects_made = refl; region = λ r. refl; backing = λ o. refl; home = λ r. refl; made_for = λ o. refl; used = λ g r. refl; target = λ task. refl } in
     record { leaves = leaves; tasks = m.tasks; uses = m.uses; homes = m.homes; controls = λ has. controls_after leaves has; waits = λ has. has; order = rests.order; settled = record { returned = refl; shut = λ region. refl } }
 
@@ -102,9 +133,9 @@ quiet_dropped {header = header} {h = h} {past = past} key rests =
 abbrev pub gives : ℕ → PageKey → ℕ → Bool → Bool → List ℕ → Event
 gives h key control dirty keep bytes = event.Sent (Up (host_id h) key.object) (message.Return control key.page dirty keep bytes)
 
-quiet_given : {header : Header} {h : ℕ} {k : Parts} {ids : Ids} {past : List Event} (key : PageKey) (control : ℕ) (dirty keep : Bool) (bytes : List ℕ) → Rests header h k ids past → Quiet header h k past (gives h key control dirty keep bytes ∷ past)
+quiet_given : {header : Header} {h : ℕ} {k : Parts} {ids : Ids} {past : List Event} (key : PageKey) (control : ℕ) (dirty keep : Bool) (bytes : List ℕ) → Mid header h k ids past → Quiet header h k past (gives h key control dirty keep bytes ∷ past)
 quiet_given {header = header} {h = h} {past = past} key control dirty keep bytes rests =
-    let m = rests.matches in
+    let m = rests in
     let leaves : Leaves header past (gives h key control dirty keep bytes ∷ past) = record { regions_made = refl; objects_made = refl; region = λ r. refl; backing = λ o. refl; home = λ r. refl; made_for = λ o. refl; used = λ g r. refl; target = λ task. refl } in
     record { leaves = leaves; tasks = m.tasks; uses = m.uses; homes = m.homes; controls = λ has. controls_after leaves has; waits = λ has. has; order = rests.order; settled = record { returned = refl; shut = λ region. refl } }
 
@@ -112,9 +143,9 @@ quiet_given {header = header} {h = h} {past = past} key control dirty keep bytes
 abbrev pub completed : ℕ → ObjectId → ℕ → PageNo → ℕ → Event
 completed h object control page count = event.Sent (Up (host_id h) object) (message.Completed control page count)
 
-pub quiet_completed : {header : Header} {h : ℕ} {k : Parts} {ids : Ids} {past : List Event} (object : ObjectId) (control : ℕ) (page : PageNo) (count : ℕ) → Rests header h k ids past → Quiet header h k past (completed h object control page count ∷ past)
+pub quiet_completed : {header : Header} {h : ℕ} {k : Parts} {ids : Ids} {past : List Event} (object : ObjectId) (control : ℕ) (page : PageNo) (count : ℕ) → Mid header h k ids past → Quiet header h k past (completed h object control page count ∷ past)
 quiet_completed {header = header} {h = h} {past = past} object control page count rests =
-    let m = rests.matches in
+    let m = rests in
     let leaves : Leaves header past (completed h object control page count ∷ past) = record { regions_made = refl; objects_made = refl; region = λ r. refl; backing = λ o. refl; home = λ r. refl; made_for = λ o. refl; used = λ g r. refl; target = λ task. refl } in
     record { leaves = leaves; tasks = m.tasks; uses = m.uses; homes = m.homes; controls = λ has. controls_after leaves has; waits = λ has. has; order = rests.order; settled = record { returned = refl; shut = λ region. refl } }
 
@@ -127,49 +158,47 @@ pub record Moved (header : Header) (h : ℕ) (k : Parts) (memory : HostParts) (l
   pub washed : HasLaundry memory.frames memory.resident laundry (returns_out h now)
   pub frames : HasFrames (slice_get (reverse header.frames.items) h) memory.frames (frames_held header.size h now) (frames_wired h now)
   pub referred : AllReferred k.chains memory.objects memory.resident
-  pub waits : HasWaiters k.maps k.chains memory.resident memory.objects k.waits.rows woken.Nobody (λ t. waiting t past)
+  pub waits : HasWaiters k.maps k.chains memory.resident memory.objects k.waits.rows (is_woken woken.Nobody) (λ t. waiting t past)
 
-pub rests_moved : (header : Header) (h : ℕ) (k : Parts) (ids : Ids) (memory : HostParts) (laundry : LaundryList) (past now : List Event) → Rests header h k ids past → Quiet header h k past now → Moved header h k memory laundry past now
-    → Rests header h (record k { memory = memory; laundry = laundry }) ids now
+pub rests_moved : (header : Header) (h : ℕ) (k : Parts) (ids : Ids) (memory : HostParts) (laundry : LaundryList) (past now : List Event) → Mid header h k ids past → Quiet header h k past now → Moved header h k memory laundry past now
+    → Mid header h (record k { memory = memory; laundry = laundry }) ids now
 rests_moved header h k ids memory laundry past now rests quiet moved =
-    let m = rests.matches in
+    let m = rests in
     record {
-      matches =
-          record {
-            ranged = m.ranged;
-            declared = m.declared;
-            kinds = moved.kinds;
-            shared = m.shared;
-            known = m.known;
-            size = m.size;
-            host = m.host;
-            fits = moved.fits;
-            tasks = quiet.tasks;
-            regions = regions_after quiet.leaves (regions_of k.chains k.memory.objects memory.objects ids _ _ _ _ _ m.regions moved.objects);
-            homes = quiet.homes;
-            files = λ o is. ap (λ z. is_on h z) (quiet.leaves.home o) ∙ (m.files o is ∙ ap is_some (sym (moved.objects.at o)));
-            entries = m.entries;
-            pages = moved.pages;
-            uses = quiet.uses;
-            controls = quiet.controls (controls_same k.memory.objects memory.objects _ _ _ m.controls moved.objects.at);
-            homeless = homeless_after quiet.leaves m.homeless;
-            settled = quiet.settled;
-            laundry = moved.washed;
-            frames = moved.frames;
-          };
+      ranged = m.ranged;
+      declared = m.declared;
+      kinds = moved.kinds;
+      shared = m.shared;
+      known = m.known;
+      size = m.size;
+      host = m.host;
+      fits = moved.fits;
+      tasks = quiet.tasks;
+      regions = regions_after quiet.leaves (regions_of k.chains k.memory.objects memory.objects ids _ _ _ _ _ m.regions moved.objects);
+      homes = quiet.homes;
+      files = λ o is. ap (λ z. is_on h z) (quiet.leaves.home o) ∙ (m.files o is ∙ ap is_some (sym (moved.objects.at o)));
+      entries = m.entries;
+      pages = moved.pages;
+      uses = quiet.uses;
+      controls = quiet.controls (controls_same k.memory.objects memory.objects _ _ _ m.controls moved.objects.at);
+      homeless = homeless_after quiet.leaves m.homeless;
+      settled = quiet.settled;
+      laundry = moved.washed;
+      frames = moved.frames;
       used = rests.used;
       referred = moved.referred;
       waits = quiet.waits moved.waits;
       order = quiet.order;
-      idle = rests.idle;
     }
 
--- the row of a page that is here is another, plain and of a page that is here too, or it has none
+-- the row of a page that is here is another, of a page that is here too, or it has none; no unlock of it was outstanding, nor is
 pub record Rerows (header : Header) (k : Parts) (key : PageKey) (row : PageRow) (now : Option PageRow) (held : Bool) (lists : Queues) (memory : HostParts) : Type 0 where
   pub changes : Changes key row.frame (Some row) now held (page_in k.memory.frames row.frame.0) lists k.memory memory
   pub here : row.here ≡ true
-  pub plain : IfSome now IsPlainRow
-  pub unasked : IsNotAsked now
+  pub unsent : row.unlock_sent ≡ false
+  pub plain : IfSome now IsPlainAway
+  pub unasked : IsUnawaited now
+  pub locks : (z : PageRow) → now ≡ Some z → MayLock k.memory.objects key.object.0 z
   pub kept : is_some now ≡ true → held ≡ true
   pub same : lists.frames ≡ k.memory.queues.frames
   pub objects : SameObjects k.memory.objects memory.objects
@@ -190,6 +219,7 @@ referred_same : (cs : ChainTable) (os os2 : ObjectTable) (rs : ResidentTable) �
 referred_same cs os os2 rs same all = record {
   live = λ o known found. all.live o known (sym (same.at o) ∙ found);
   pages = λ o p row found. still o (all.pages o p row found);
+  locks = λ o p row found. may_lock os os2 o row same (all.locks o p row found);
   shadows = λ o row found. still o (all.shadows o row found);
 }
   where
@@ -197,11 +227,11 @@ referred_same cs os os2 rs same all = record {
     still o is = record { row = is.row; known = same.at o ∙ is.known; some = is.some }
 
 -- so only what the page shows, the returns and the frames are left to be shown
-moved_of : (header : Header) (h : ℕ) (k : Parts) (ids : Ids) (memory : HostParts) (laundry : LaundryList) (key : PageKey) (row : PageRow) (x : Option PageRow) (held : Bool) (lists : Queues) (past now : List Event) → Rests header h k ids past → Rerows header k key row x held lists memory
+moved_of : (header : Header) (h : ℕ) (k : Parts) (ids : Ids) (memory : HostParts) (laundry : LaundryList) (key : PageKey) (row : PageRow) (x : Option PageRow) (held : Bool) (lists : Queues) (past now : List Event) → Mid header h k ids past → Rerows header k key row x held lists memory
     → HasPages memory.frames memory.resident memory.objects (λ o p. known_local header o p (local header.size h (place_of o p) now)) → HasLaundry memory.frames memory.resident laundry (returns_out h now)
     → HasFrames (slice_get (reverse header.frames.items) h) memory.frames (frames_held header.size h now) (frames_wired h now) → Moved header h k memory laundry past now
 moved_of header h k ids memory laundry key row x held lists past now rests r pages washed frames =
-    let m = rests.matches in
+    let m = rests in
     let c = r.changes in
     let o = key.object.0 in
     let p = key.page.0 in
@@ -216,25 +246,25 @@ moved_of header h k ids memory laundry key row x held lists past now rests r pag
       pages = pages;
       washed = washed;
       frames = frames;
-      referred = referred_same k.chains k.memory.objects memory.objects memory.resident r.objects (referred_row o p x k.chains k.memory.objects k.memory.resident memory.resident c.row (λ z is. rests.referred.pages o p row c.found) rests.referred);
-      waits = waits_told k.maps k.chains memory.resident k.memory.objects memory.objects k.waits.rows woken.Nobody _
-          (waiters_page k.maps k.chains k.memory.resident memory.resident k.memory.objects k.waits.rows woken.Nobody _ o p x rests.waits c.row (here_not_asked (row_at k.memory.resident o p) row c.found r.here) r.unasked)
+      referred = referred_same k.chains k.memory.objects memory.objects memory.resident r.objects (referred_row o p x k.chains k.memory.objects k.memory.resident memory.resident c.row (λ z is. (rests.referred.pages o p row c.found, r.locks z is)) rests.referred);
+      waits = waits_told k.maps k.chains memory.resident k.memory.objects memory.objects k.waits.rows (is_woken woken.Nobody) _
+          (waiters_page k.maps k.chains k.memory.resident memory.resident k.memory.objects k.waits.rows (is_woken woken.Nobody) _ o p x rests.waits c.row (inl (here_unawaited (row_at k.memory.resident o p) row c.found r.here r.unsent)) r.unasked)
           (told_all k.maps k.chains k.memory.objects memory.objects (λ o2 told. record { row = told.row; found = r.objects.at o2 ∙ told.found; sent = told.sent })) (λ o2 p2 r2 there is. ap ready_in (r.objects.at o2) ∙ is);
     }
 
 -- what the history has of the page
-seen_of : (header : Header) (h : ℕ) (k : Parts) (ids : Ids) (key : PageKey) (row : PageRow) (past : List Event) → Rests header h k ids past → row_at k.memory.resident key.object.0 key.page.0 ≡ Some row → row.here ≡ true
+seen_of : (header : Header) (h : ℕ) (k : Parts) (ids : Ids) (key : PageKey) (row : PageRow) (past : List Event) → Mid header h k ids past → row_at k.memory.resident key.object.0 key.page.0 ≡ Some row → row.here ≡ true
     → IsSeen (known_local header key.object.0 key.page.0 (local header.size h (place_of key.object.0 key.page.0) past)) row (page_in k.memory.frames row.frame.0)
 seen_of header h k ids key row past rests found here =
-    let m = rests.matches in
+    let m = rests in
     let o = key.object.0 in
     let p = key.page.0 in
     seen_here k.memory.frames row (absent_at k.memory.objects o p) (known_local header o p (local header.size h (place_of o p) past))
-    (m.pages.shown o p ∙ ap (λ z. local_of_row k.memory.frames z (absent_at k.memory.objects o p)) found) here (m.fits.plain o p row found)
+    (m.pages.shown o p ∙ ap (λ z. local_of_row k.memory.frames z (absent_at k.memory.objects o p)) found) here
 
 -- what a page comes to with an event: the kernel rests, the event has its cause, and the lists of pages are as it says
 pub record ComesTo (header : Header) (h : ℕ) (outside : Outside) (doing : Command) (ids : Ids) (e : Event) (k k2 : Parts) (past : List Event) : Type 0 where
-  pub rests : Rests header h k2 ids (e ∷ past)
+  pub rests : Mid header h k2 ids (e ∷ past)
   pub follows : Follows header h outside doing e past
   pub does : Does header past e (paging k) (paging k2)
 
@@ -253,17 +283,17 @@ departs k key row held bytes memory laundry locked is_here c =
     }
 
 -- it is dropped
-pub comes_dropped : (header : Header) (h : ℕ) (outside : Outside) (doing : Command) (ids : Ids) (k : Parts) (memory : HostParts) (key : PageKey) (row : PageRow) (past : List Event) (returns : ℕ) → Rests header h k ids past → IsLocked h key.object.0 key.page.0 returns true past
-    → gives_back returns row.dirty false ≡ false → row.here ≡ true → Discards key row k.memory memory → memory.objects ≡ k.memory.objects → memory.buffers ≡ k.memory.buffers → ComesTo header h outside doing ids (drops h key) k (record k { memory = memory }) past
-comes_dropped header h outside doing ids k memory key row past returns rests locked spared here c objects buffers =
+pub comes_dropped : (header : Header) (h : ℕ) (outside : Outside) (doing : Command) (ids : Ids) (k : Parts) (memory : HostParts) (key : PageKey) (row : PageRow) (past : List Event) (returns : ℕ) → Mid header h k ids past → IsLocked h key.object.0 key.page.0 returns true past
+    → gives_back returns row.dirty row.precious ≡ false → row.here ≡ true → row.unlock_sent ≡ false → Discards key row k.memory memory → memory.objects ≡ k.memory.objects → memory.buffers ≡ k.memory.buffers → ComesTo header h outside doing ids (drops h key) k (record k { memory = memory }) past
+comes_dropped header h outside doing ids k memory key row past returns rests locked spared here unsent c objects buffers =
     record {
       rests = rests_moved header h k ids memory k.laundry past (drops h key ∷ past) rests (quiet_dropped key rests) (moved_of header h k ids memory k.laundry key row None false _ past (drops h key ∷ past) rests r pages2 washed frames2);
       follows = record { consequence = tt; cause = cause; own_bytes = tt; frames = suffices header h memory.frames (drops h key ∷ past) frames2; inner = tt; said = tt; own = own_named h; creates = tt };
       does = AsLocked (departs k key row false _ memory k.laundry locked here c);
     }
   where
-    m : Matches header h k ids [] past
-    m = rests.matches
+    m : Mid header h k ids past
+    m = rests
 
     o : ℕ
     o = key.object.0
@@ -279,7 +309,9 @@ comes_dropped header h outside doing ids k memory key row past returns rests loc
       changes = c;
       here = here;
       plain = tt;
-      unasked = none_not_asked None refl;
+      unasked = none_unawaited None refl;
+      unsent = unsent;
+      locks = λ z is. absurd (let bad : None ≡ Some z = is in cc);
       kept = λ some. absurd (let bad : false ≡ true = some in cc);
       same = refl;
       objects = record { at = λ o2. ap (λ z. object_at z o2) objects };
@@ -306,28 +338,8 @@ comes_dropped header h outside doing ids k memory key row past returns rests loc
     cause = record { here = seen.here; why = Flushed returns locked clean }
 
 -- the request is taken
-abbrev pub asks : ℕ → ObjectId → ℕ → PageNo → ℕ → ℕ → Bool → Bool → Event
-asks h object control page count returns flush reply = hears h object control (message.Lock page count returns flush 8 reply)
-
-pub rests_locked : (header : Header) (h : ℕ) (k : Parts) (ids : Ids) (past : List Event) (object : ObjectId) (control : ℕ) (page : PageNo) (count returns : ℕ) (flush reply : Bool) → Rests header h k ids past
-    → Rests header h k ids (asks h object control page count returns flush reply ∷ past)
-rests_locked header h k ids past object control page count returns flush reply rests =
-    let m = rests.matches in
-    let nothing = nothing_locked header h k ids past object control page count returns flush reply rests in
-    let now = asks h object control page count returns flush reply ∷ past in
-    let leaves : Leaves header past now = record { regions_made = refl; objects_made = refl; region = λ r. refl; backing = λ o. refl; home = λ r. refl; made_for = λ o. refl; used = λ g r. refl; target = λ task. refl } in
-    rests_moved header h k ids k.memory k.laundry past now rests
-    (record { leaves = leaves; tasks = m.tasks; uses = m.uses; homes = m.homes; controls = λ has. controls_after leaves has; waits = λ has. has; order = rests.order; settled = record { returned = refl; shut = λ region. refl } })
-    (record {
-      fits = m.fits;
-      objects = record { at = λ o. refl };
-      kinds = m.kinds;
-      pages = record { shown = λ o p. ap (known_local header o p) (nothing.pages o p) ∙ m.pages.shown o p };
-      washed = m.laundry;
-      frames = m.frames;
-      referred = rests.referred;
-      waits = rests.waits;
-    })
+abbrev pub asks : ℕ → ObjectId → ℕ → PageNo → ℕ → ℕ → Bool → ℕ → Bool → Event
+asks h object control page count returns flush lock reply = hears h object control (message.Lock page count returns flush lock reply)
 
 -- what the history has of the other pages where one is returned
 
@@ -342,7 +354,7 @@ other_returns false = tt
 present_here : (o p : ℕ) (os os2 : ObjectTable) → PutsAbsent o p false os os2 → false ≡ absent_at os2 o p
 present_here o p os os2 put = sym (put.at o p ∙ rw (itself o, itself p) refl)
 
-pages_given : (header : Header) (h : ℕ) (k : Parts) (ids : Ids) (key : PageKey) (row : PageRow) (x : Option PageRow) (held keep : Bool) (lists : Queues) (memory : HostParts) (control : ℕ) (dirty : Bool) (bytes : List ℕ) (past : List Event) → Matches header h k ids [] past
+pages_given : (header : Header) (h : ℕ) (k : Parts) (ids : Ids) (key : PageKey) (row : PageRow) (x : Option PageRow) (held keep : Bool) (lists : Queues) (memory : HostParts) (control : ℕ) (dirty : Bool) (bytes : List ℕ) (past : List Event) → Mid header h k ids past
     → Changes key row.frame (Some row) x held (page_in k.memory.frames row.frame.0) lists k.memory memory → PutsAbsent key.object.0 key.page.0 false k.memory.objects memory.objects
     → local_after header.size (Returns keep) (local_of_row k.memory.frames (Some row) (absent_at k.memory.objects key.object.0 key.page.0)) ≡ local_of_row memory.frames x (absent_at memory.objects key.object.0 key.page.0)
     → HasPages memory.frames memory.resident memory.objects (λ o p. known_local header o p (local header.size h (place_of o p) (gives h key control dirty keep bytes ∷ past)))
@@ -373,14 +385,14 @@ changed_due returns false false wanted = absurd (none (returns == 1) (returns ==
     none false false is = let bad : false ≡ true = is in cc
 
 -- a return has its cause, and its bytes are those of the page
-given_follows : (header : Header) (h : ℕ) (outside : Outside) (doing : Command) (ids : Ids) (k : Parts) (key : PageKey) (row : PageRow) (known : ObjectRow) (keep flush : Bool) (past : List Event) (returns : ℕ) → Rests header h k ids past → IsLocked h key.object.0 key.page.0 returns flush past
-    → keep ≡ not flush → gives_back returns row.dirty false ≡ true → row_at k.memory.resident key.object.0 key.page.0 ≡ Some row → row.here ≡ true → row.frame.0 < frame_count k.memory.frames → object_at k.memory.objects key.object.0 ≡ Some known → known.live ≡ true
+given_follows : (header : Header) (h : ℕ) (outside : Outside) (doing : Command) (ids : Ids) (k : Parts) (key : PageKey) (row : PageRow) (known : ObjectRow) (keep flush : Bool) (past : List Event) (returns : ℕ) → Mid header h k ids past → IsLocked h key.object.0 key.page.0 returns flush past
+    → keep ≡ not flush → gives_back returns row.dirty row.precious ≡ true → row_at k.memory.resident key.object.0 key.page.0 ≡ Some row → row.here ≡ true → row.frame.0 < frame_count k.memory.frames → object_at k.memory.objects key.object.0 ≡ Some known → known.live ≡ true
     → Suffice header h (gives h key known.control row.dirty keep (page_in k.memory.frames row.frame.0) ∷ past) → Follows header h outside doing (gives h key known.control row.dirty keep (page_in k.memory.frames row.frame.0)) past
 given_follows header h outside doing ids k key row known keep flush past returns rests locked kept wanted found here inside object live frames =
     record { consequence = tt; cause = cause; own_bytes = tt; frames = frames; inner = tt; said = (refl, m.fits.parts.all_sized row.frame.0 inside ∙ (m.fits.buffers ∙ m.size)); own = own_named h; creates = tt }
   where
-    m : Matches header h k ids [] past
-    m = rests.matches
+    m : Mid header h k ids past
+    m = rests
 
     o : ℕ
     o = key.object.0
@@ -405,19 +417,19 @@ given_follows header h outside doing ids k key row known keep flush past returns
     }
 
 -- it is returned, and goes
-pub comes_returned : (header : Header) (h : ℕ) (outside : Outside) (doing : Command) (ids : Ids) (k : Parts) (memory : HostParts) (laundry : LaundryList) (key : PageKey) (row : PageRow) (known : ObjectRow) (past : List Event) (returns : ℕ) → Rests header h k ids past
-    → IsLocked h key.object.0 key.page.0 returns true past → gives_back returns row.dirty false ≡ true → row.here ≡ true → object_at k.memory.objects key.object.0 ≡ Some known → known.live ≡ true → Removes key row k.memory memory → SameObjects k.memory.objects memory.objects
+pub comes_returned : (header : Header) (h : ℕ) (outside : Outside) (doing : Command) (ids : Ids) (k : Parts) (memory : HostParts) (laundry : LaundryList) (key : PageKey) (row : PageRow) (known : ObjectRow) (past : List Event) (returns : ℕ) → Mid header h k ids past
+    → IsLocked h key.object.0 key.page.0 returns true past → gives_back returns row.dirty row.precious ≡ true → row.here ≡ true → object_at k.memory.objects key.object.0 ≡ Some known → known.live ≡ true → row.unlock_sent ≡ false → Removes key row k.memory memory → SameObjects k.memory.objects memory.objects
     → PutsAbsent key.object.0 key.page.0 false k.memory.objects memory.objects → memory.buffers ≡ k.memory.buffers → laundry.held ≡ k.laundry.held ++ row.frame ∷ [] → laundry.room + 1 ≡ k.laundry.room
     → ComesTo header h outside doing ids (gives h key known.control row.dirty false (page_in k.memory.frames row.frame.0)) k (record k { memory = memory; laundry = laundry }) past
-comes_returned header h outside doing ids k memory laundry key row known past returns rests locked wanted here object live c objects absent buffers held room =
+comes_returned header h outside doing ids k memory laundry key row known past returns rests locked wanted here object live unsent c objects absent buffers held room =
     record {
       rests = rests_moved header h k ids memory laundry past (e ∷ past) rests (quiet_given key known.control row.dirty false (page_in k.memory.frames row.frame.0) rests) (moved_of header h k ids memory laundry key row None true _ past (e ∷ past) rests r pages2 washed frames2);
       follows = given_follows header h outside doing ids k key row known false true past returns rests locked refl wanted c.found here c.inside object live (suffices header h memory.frames (e ∷ past) frames2);
       does = inr (inr (departs k key row true _ memory laundry locked here c));
     }
   where
-    m : Matches header h k ids [] past
-    m = rests.matches
+    m : Mid header h k ids past
+    m = rests
 
     o : ℕ
     o = key.object.0
@@ -433,7 +445,9 @@ comes_returned header h outside doing ids k memory laundry key row known past re
       changes = c;
       here = here;
       plain = tt;
-      unasked = none_not_asked None refl;
+      unasked = none_unawaited None refl;
+      unsent = unsent;
+      locks = λ z is. absurd (let bad : None ≡ Some z = is in cc);
       kept = λ some. refl;
       same = refl;
       objects = objects;
@@ -453,28 +467,23 @@ comes_returned header h outside doing ids k memory laundry key row known past re
 
 -- what it shows with another row, here too, in the same frame
 
-shown_relocked : (key : PageKey) (row : PageRow) (saved lacked : Bool) (lists : Queues) (old new : HostParts) → IsPlainRow row → Changes key row.frame (Some row) (Some (relocked None saved row)) true (page_in old.frames row.frame.0) lists old new → row.here ≡ true
+shown_relocked : (key : PageKey) (row : PageRow) (saved lacked : Bool) (lists : Queues) (old new : HostParts) → row.unlock_sent ≡ false → Changes key row.frame (Some row) (Some (relocked None saved row)) true (page_in old.frames row.frame.0) lists old new → row.here ≡ true
     → record (local_of_row old.frames (Some row) lacked) { dirty = not saved && row.dirty; precious = not saved && row.precious } ≡ local_of_row new.frames (Some (relocked None saved row)) lacked
-shown_relocked key row saved lacked lists old new plain c here =
+shown_relocked key row saved lacked lists old new unsent c here =
     ap (λ (z : Local). record z { dirty = not saved && row.dirty; precious = not saved && row.precious })
     (shown_same old.frames new.frames (Some row) lacked (λ r is. subst (λ (z : PageRow). page_in new.frames z.frame.0 ≡ page_in old.frames z.frame.0) (some_is row r is) (bytes_now key row.frame _ _ _ _ _ old new c)))
-    ∙ (ap (λ z. record (local_of_row new.frames (Some row) lacked) { dirty = not saved && row.dirty; precious = not saved && row.precious; unlocking = z }) plain.unlock_sent
+    ∙ (ap (λ z. record (local_of_row new.frames (Some row) lacked) { dirty = not saved && row.dirty; precious = not saved && row.precious; unlocking = z }) unsent
     ∙ ap (λ b. record (local_of_row new.frames (Some row) lacked) { dirty = if b then not saved && row.dirty else false; precious = not saved && row.precious; unlocking = false }) (sym here))
 
-relocked_plain : (saved : Bool) (row : PageRow) → IsPlainRow row → IsPlainRow (relocked None saved row)
-relocked_plain saved row plain = record { lock = plain.lock; precious = by saved; unlock_sent = refl }
-  where
-    by : (b : Bool) → (not b && row.precious) ≡ false
-    by true = refl
-    by false = plain.precious
-
-rerows_relocked : (header : Header) (h : ℕ) (k : Parts) (ids : Ids) (key : PageKey) (row : PageRow) (saved : Bool) (memory : HostParts) (past : List Event) → Rests header h k ids past → row.here ≡ true → Relocks key row None saved k.memory memory → SameObjects k.memory.objects memory.objects
+rerows_relocked : (header : Header) (h : ℕ) (k : Parts) (ids : Ids) (key : PageKey) (row : PageRow) (saved : Bool) (memory : HostParts) (past : List Event) → Mid header h k ids past → row.here ≡ true → row.unlock_sent ≡ false → Relocks key row None saved k.memory memory → SameObjects k.memory.objects memory.objects
     → HasKinds header memory.objects k.chains → memory.buffers ≡ k.memory.buffers → Rerows header k key row (Some (relocked None saved row)) true k.memory.queues memory
-rerows_relocked header h k ids key row saved memory past rests here c objects kinds buffers = record {
+rerows_relocked header h k ids key row saved memory past rests here unsent c objects kinds buffers = record {
   changes = c;
   here = here;
-  plain = relocked_plain saved row (rests.matches.fits.plain key.object.0 key.page.0 row c.found);
-  unasked = here_not_asked (Some (relocked None saved row)) (relocked None saved row) refl here;
+  unsent = unsent;
+  plain = plain_here (relocked None saved row) here;
+  unasked = here_unawaited (Some (relocked None saved row)) (relocked None saved row) refl here refl;
+  locks = λ z is. same_lock k.memory.objects key.object.0 row (relocked None saved row) z refl is (rests.referred.locks key.object.0 key.page.0 row c.found);
   kept = λ some. refl;
   same = refl;
   objects = objects;
@@ -487,20 +496,20 @@ lists_stay : (k : Parts) (key : PageKey) (row : PageRow) (saved : Bool) (memory 
 lists_stay k key row saved memory laundry c = same_paging _ _ _ _ (frames_kept k.memory.resident memory.resident key.object.0 key.page.0 (Some (relocked None saved row)) c.row (sym (ap frame_here c.found))) c.queues
 
 -- it is returned, and a copy stays
-pub comes_saved : (header : Header) (h : ℕ) (outside : Outside) (doing : Command) (ids : Ids) (k : Parts) (memory : HostParts) (key : PageKey) (row : PageRow) (known : ObjectRow) (past : List Event) (returns : ℕ) → Rests header h k ids past
-    → IsLocked h key.object.0 key.page.0 returns false past → gives_back returns row.dirty false ≡ true → row.here ≡ true → object_at k.memory.objects key.object.0 ≡ Some known → known.live ≡ true → Relocks key row None true k.memory memory → SameObjects k.memory.objects memory.objects
+pub comes_saved : (header : Header) (h : ℕ) (outside : Outside) (doing : Command) (ids : Ids) (k : Parts) (memory : HostParts) (key : PageKey) (row : PageRow) (known : ObjectRow) (past : List Event) (returns : ℕ) → Mid header h k ids past
+    → IsLocked h key.object.0 key.page.0 returns false past → gives_back returns row.dirty row.precious ≡ true → row.here ≡ true → object_at k.memory.objects key.object.0 ≡ Some known → known.live ≡ true → row.unlock_sent ≡ false → Relocks key row None true k.memory memory → SameObjects k.memory.objects memory.objects
     → PutsAbsent key.object.0 key.page.0 false k.memory.objects memory.objects → memory.buffers ≡ k.memory.buffers
     → ComesTo header h outside doing ids (gives h key known.control row.dirty true (page_in k.memory.frames row.frame.0)) k (record k { memory = memory }) past
-comes_saved header h outside doing ids k memory key row known past returns rests locked wanted here object live c objects absent buffers =
+comes_saved header h outside doing ids k memory key row known past returns rests locked wanted here object live unsent c objects absent buffers =
     record {
       rests = rests_moved header h k ids memory k.laundry past (e ∷ past) rests (quiet_given key known.control row.dirty true (page_in k.memory.frames row.frame.0) rests)
-          (moved_of header h k ids memory k.laundry key row _ true _ past (e ∷ past) rests (rerows_relocked header h k ids key row true memory past rests here c objects kinds buffers) pages2 washed frames2);
+          (moved_of header h k ids memory k.laundry key row _ true _ past (e ∷ past) rests (rerows_relocked header h k ids key row true memory past rests here unsent c objects kinds buffers) pages2 washed frames2);
       follows = given_follows header h outside doing ids k key row known true false past returns rests locked refl wanted c.found here c.inside object live (suffices header h memory.frames (e ∷ past) frames2);
       does = lists_stay k key row true memory k.laundry c;
     }
   where
-    m : Matches header h k ids [] past
-    m = rests.matches
+    m : Mid header h k ids past
+    m = rests
 
     o : ℕ
     o = key.object.0
@@ -516,7 +525,7 @@ comes_saved header h outside doing ids k memory key row known past returns rests
 
     pages2 : HasPages memory.frames memory.resident memory.objects (λ o2 p2. known_local header o2 p2 (local header.size h (place_of o2 p2) (e ∷ past)))
     pages2 = pages_given header h k ids key row (Some (relocked None true row)) true true k.memory.queues memory known.control row.dirty (page_in k.memory.frames row.frame.0) past m c absent
-        (shown_relocked key row true false k.memory.queues k.memory memory (m.fits.plain o p row c.found) c here ∙ ap (local_of_row memory.frames (Some (relocked None true row))) (present_here o p k.memory.objects memory.objects absent))
+        (shown_relocked key row true false k.memory.queues k.memory memory unsent c here ∙ ap (local_of_row memory.frames (Some (relocked None true row))) (present_here o p k.memory.objects memory.objects absent))
 
     washed : HasLaundry memory.frames memory.resident k.laundry (returns_out h (e ∷ past))
     washed = rw (own_host h) (laundry_changed key row.frame _ _ _ _ _ k.memory memory k.laundry (returns_out h past) m.laundry c)
@@ -526,22 +535,21 @@ comes_saved header h outside doing ids k memory key row known past returns rests
 
 -- or it stays as it is
 pub record StaysPut (header : Header) (h : ℕ) (ids : Ids) (k k2 : Parts) (past : List Event) : Type 0 where
-  pub rests : Rests header h k2 ids past
+  pub rests : Mid header h k2 ids past
   pub same : paging k2 ≡ paging k
 
-pub comes_still : (header : Header) (h : ℕ) (ids : Ids) (k : Parts) (memory : HostParts) (key : PageKey) (row : PageRow) (past : List Event) → Rests header h k ids past → row.here ≡ true → Relocks key row None false k.memory memory → memory.objects ≡ k.memory.objects → memory.buffers ≡ k.memory.buffers
+pub comes_still : (header : Header) (h : ℕ) (ids : Ids) (k : Parts) (memory : HostParts) (key : PageKey) (row : PageRow) (past : List Event) → Mid header h k ids past → row.here ≡ true → row.unlock_sent ≡ false → Relocks key row None false k.memory memory → memory.objects ≡ k.memory.objects → memory.buffers ≡ k.memory.buffers
     → StaysPut header h ids k (record k { memory = memory }) past
-comes_still header h ids k memory key row past rests here c objects buffers =
-    let m = rests.matches in
+comes_still header h ids k memory key row past rests here unsent c objects buffers =
+    let m = rests in
     let o = key.object.0 in
     let p = key.page.0 in
-    let plain = m.fits.plain o p row c.found in
     let same : SameObjects k.memory.objects memory.objects = record { at = λ o2. ap (λ z. object_at z o2) objects } in
     record {
       rests = rests_moved header h k ids memory k.laundry past past rests (quiet_none rests)
-          (moved_of header h k ids memory k.laundry key row _ true _ past past rests (rerows_relocked header h k ids key row false memory past rests here c same (rw objects m.kinds) buffers)
+          (moved_of header h k ids memory k.laundry key row _ true _ past past rests (rerows_relocked header h k ids key row false memory past rests here unsent c same (rw objects m.kinds) buffers)
           (pages_changed key row.frame _ _ _ _ _ k.memory memory memory.objects (λ o2 p2. known_local header o2 p2 (local header.size h (place_of o2 p2) past)) (λ o2 p2. known_local header o2 p2 (local header.size h (place_of o2 p2) past)) m.fits.parts m.pages c
-          (λ was. was ∙ (ap (λ b. record (local_of_row k.memory.frames (Some row) (absent_at k.memory.objects o p)) { dirty = if b then row.dirty else false }) here ∙ (shown_relocked key row false (absent_at k.memory.objects o p) k.memory.queues k.memory memory plain c here
+          (λ was. was ∙ (ap (λ b. record (local_of_row k.memory.frames (Some row) (absent_at k.memory.objects o p)) { dirty = if b then row.dirty else false }) here ∙ (shown_relocked key row false (absent_at k.memory.objects o p) k.memory.queues k.memory memory unsent c here
           ∙ ap (λ z. local_of_row memory.frames (Some (relocked None false row)) (absent_at z o p)) (sym objects))))
           (λ o2 p2 apart. (refl, ap (λ z. absent_at z o2 p2) objects)))
           (laundry_changed key row.frame _ _ _ _ _ k.memory memory k.laundry (returns_out h past) m.laundry c)
@@ -550,10 +558,10 @@ comes_still header h ids k memory key row past rests here c objects buffers =
     }
 
 -- with other buffers of the same size
-pub rests_roomier : (header : Header) (h : ℕ) (k : Parts) (ids : Ids) (memory : HostParts) (laundry : LaundryList) (past : List Event) → Rests header h (record k { memory = record memory { buffers = k.memory.buffers }; laundry = laundry }) ids past → Fit memory → memory.buffers.size ≡ k.memory.buffers.size
-    → Rests header h (record k { memory = memory; laundry = laundry }) ids past
+pub rests_roomier : (header : Header) (h : ℕ) (k : Parts) (ids : Ids) (memory : HostParts) (laundry : LaundryList) (past : List Event) → Mid header h (record k { memory = record memory { buffers = k.memory.buffers }; laundry = laundry }) ids past → Fit memory → memory.buffers.size ≡ k.memory.buffers.size
+    → Mid header h (record k { memory = memory; laundry = laundry }) ids past
 rests_roomier header h k ids memory laundry past rests fit size =
-    let m = rests.matches in
+    let m = rests in
     rests_moved header h (record k { memory = record memory { buffers = k.memory.buffers }; laundry = laundry }) ids memory laundry past past rests (quiet_none rests)
     (record {
       fits = record { parts = fit; plain = m.fits.plain; buffers = size ∙ m.fits.buffers };

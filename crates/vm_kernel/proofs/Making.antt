@@ -1,5 +1,5 @@
 -- A task is made: it doesn't wait, and who waits goes on waiting; and an object is made, which has no control yet.
-use Rattle.vm_kernel.proofs.Common.{Access, Bool, ChainTable, ChangesOnly, Event, HasControls, HasWaiters, Header, HostId, Ids, List, Mapped, None, ObjectRow, ObjectTable, Option, Outside, Parts, PutsObject, Ran, ResidentTable, Rests, Some, Starts, TaskId, Temp, Waiting, Without, Woken, [], ap, arith, entries_in, entry, eqb_tells, false, holds, host_id, inl, inr, is_some, last_in, live_in, next_region, object_at, one_case, ready_in, refl, rows_in, some_is, subst, sym, tasks, true, waiting, waiting_in, ℕ, ◌∙◌, ◌∷◌, ◌≡◌, ◌<◌}
+use Rattle.vm_kernel.proofs.Common.{Access, Bool, ChainTable, ChangesOnly, Event, HasControls, HasWaiters, Header, HostId, Ids, List, Mapped, None, ObjectRow, ObjectTable, On, Option, Outside, Parts, PutsObject, Ran, ResidentTable, Rests, Some, Starts, TaskId, Temp, Waiting, Without, [], ap, arith, entries_in, entry, eqb_tells, false, holds, host_id, inl, inr, is_some, last_in, live_in, next_region, object_at, one_case, ready_in, refl, rows_in, some_is, subst, sym, tasks, true, waiting, waiting_in, ℕ, ◌<◌, ◌∙◌, ◌∷◌, ◌≡◌}
 use Rattle.std.proofs.lemmas.Bool.Decides.{eqb_tells}
 use Rattle.std.specs.Prelude.{unwrap_or}
 use Rattle.vm_base.specs.declared.entry.Entry.{Entry}
@@ -17,6 +17,7 @@ use Rattle.vm_kernel.proofs.Uses.{uses_made}
 use Rattle.vm_state.proofs.Waited.{tops_same, waits_changed}
 use Rattle.vm_kernel.proofs.Own.{named_host}
 use Rattle.vm_kernel.proofs.Mine.{own_new}
+use Rattle.vm_kernel.proofs.Replied.{replied_behind}
 
 -- who doesn't wait in the history has no row
 pub idle_of : (x : Option Waiting) (w : Option Access) → w ≡ waiting_in x → is_some w ≡ false → x ≡ None
@@ -24,7 +25,7 @@ idle_of None w is none = refl
 idle_of (Some row) w is none = absurd (let bad : true ≡ false = sym (ap is_some is) ∙ none in cc)
 
 -- who waits lives
-pub no_waiter : (maps : Mapped) (cs : ChainTable) (rs : ResidentTable) (os : ObjectTable) (rows : List Waiting) (who : Woken) (waiting_at : ℕ → Option Access) (task : ℕ)
+pub no_waiter : (maps : Mapped) (cs : ChainTable) (rs : ResidentTable) (os : ObjectTable) (rows : List Waiting) (who : On → Bool) (waiting_at : ℕ → Option Access) (task : ℕ)
     → HasWaiters maps cs rs os rows who waiting_at → entries_in task maps ≡ None → entry rows task ≡ None
 no_waiter maps cs rs os rows who waiting_at task has free = by_entry (entry rows task) refl
   where
@@ -33,7 +34,7 @@ no_waiter maps cs rs os rows who waiting_at task has free = by_entry (entry rows
     by_entry (Some w) is = absurd (let bad : None ≡ Some (rows_in task maps) = sym free ∙ (has.allowed task w is).lives in cc)
 
 -- a new task doesn't wait
-pub waits_made : (maps new : Mapped) (cs : ChainTable) (rs : ResidentTable) (os : ObjectTable) (rows : List Waiting) (who : Woken) (task : TaskId) (host : HostId) (past : List Event)
+pub waits_made : (maps new : Mapped) (cs : ChainTable) (rs : ResidentTable) (os : ObjectTable) (rows : List Waiting) (who : On → Bool) (task : TaskId) (host : HostId) (past : List Event)
     → HasWaiters maps cs rs os rows who (λ t. waiting t past) → entries_in task.0 maps ≡ None → ChangesOnly maps new task.0 (Some [])
     → HasWaiters new cs rs os rows who (λ t. waiting t (event.TaskMade task host ∷ past))
 waits_made maps new cs rs os rows who task host past has free changes =
@@ -82,6 +83,7 @@ rests_made header h task past k ids maps rests changes free below =
             homes = m.homes;
             files = m.files;
             settled = record { returned = refl; shut = λ region. refl };
+            replied = replied_behind tt m.replied;
             laundry = m.laundry;
             frames = m.frames;
           };

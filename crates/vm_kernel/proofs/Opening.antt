@@ -1,5 +1,5 @@
 -- A declared object is mapped: a task gets an entry on its region, which counts one more or is made, and then the object's pager is told of it.
-use Rattle.vm_kernel.proofs.Common.{Bool, ChainTable, ChangesOnly, Command, EachOf, Enters, Entry, Event, HasControls, HasPages, Header, Ids, IfSome, IsInside, IsReferred, IsSome, List, MapChange, Mapped, Matches, None, ObjectId, ObjectRow, ObjectTable, Option, Outside, Parts, Plays, PutsObject, PutsRegion, QueueIsStill, Ran, RegionRow, Rests, RunsNone, SameMarks, Shares, Some, Starts, TaskId, Temp, Up, Begins, Elsewhere, [], all_tasks, ap, arith, code_where, entered, entering, entries_in, entries_in_row, entries_of, entry, entry_at, eqb_tells, false, get_or, got, has_pager, head, holds, home_of, homes_next, homes_stay, host_id, host_of, if◌then◌else◌, in_use, inl, inr, is_none, is_on, is_range, is_ready, is_some, last_control, length, live_control, live_in, lives_on, local, marked_regions, meets_range, most_entries, named, nat_tests, next_object, next_region, object_at, object_home, page_below, pages_in, paging, place_of, refl, region_at, region_entries, region_of, region_pages, reverse, rows_in, slice_get, some_is, subst, sym, tasks, true, waiting, with_entries, ℕ, ◌%◌, ◌&&◌, ◌+◌, ◌-◌, ◌/◌, ◌<◌, ◌==◌, ◌^◌, ◌||◌, ◌∙◌, ◌∷◌, ◌≡◌, ◌≤◌, ◌⊎◌}
+use Rattle.vm_kernel.proofs.Common.{Begins, Bool, ChainTable, ChangesOnly, Command, EachOf, Elsewhere, Enters, Entry, Event, HasControls, HasPages, Header, Ids, IfSome, IsInside, IsReferred, IsSome, List, MapChange, Mapped, Matches, None, ObjectId, ObjectRow, ObjectTable, Option, Outside, Parts, Plays, PutsObject, PutsRegion, QueueIsStill, Ran, RegionRow, Rests, RunsNone, SameMarks, Shares, Some, Starts, TaskId, Temp, Up, [], all_tasks, ap, arith, code_where, entered, entering, entries_in, entries_in_row, entries_of, entry, entry_at, eqb_tells, false, get_or, got, has_pager, head, holds, home_of, homes_next, homes_stay, host_id, host_of, if◌then◌else◌, in_use, inl, inr, is_none, is_on, is_range, is_ready, is_some, is_woken, last_control, length, live_control, live_in, lives_on, local, marked_regions, meets_range, most_entries, named, nat_tests, next_object, next_region, object_at, object_home, page_below, pages_in, paging, place_of, refl, region_at, region_entries, region_of, region_pages, reverse, rows_in, slice_get, some_is, subst, sym, tasks, true, waiting, with_entries, ℕ, ◌%◌, ◌&&◌, ◌+◌, ◌-◌, ◌/◌, ◌<◌, ◌==◌, ◌^◌, ◌||◌, ◌∙◌, ◌∷◌, ◌≡◌, ◌≤◌, ◌⊎◌}
 use Rattle.std.proofs.Common.{nat_le, nat_lt, not}
 use Rattle.std.proofs.lemmas.Bool.{not-false, or_parts}
 use Rattle.std.proofs.lemmas.List.{length-reverse}
@@ -51,6 +51,7 @@ use Rattle.vm_kernel.proofs.Shares.{MayShare, few_entries, rests_shared, unfille
 use Rattle.vm_kernel.proofs.Sharing.{shared_entered}
 use Rattle.vm_kernel.proofs.Tasks.{tasks_entered}
 use Rattle.vm_kernel.proofs.Uses.{holds_rows, uses_entered}
+use Rattle.vm_kernel.proofs.Replied.{replied_behind}
 
 -- what a mapping that isn't refused has
 pub record MayMap (header : Header) (h : ℕ) (k : Parts) (task address bytes : ℕ) (object : ObjectId) (offset : ℕ) (past : List Event) : Type 0 where
@@ -308,14 +309,15 @@ rests_opened header h outside doing task address bytes object offset pages new p
                 homes_next header outside begins (enters ∷ past) (doing, map_opens header h task address bytes object offset new past k ids rests may o.known)
                 (homes_next header outside enters past (doing, map_enters header h task address bytes object offset past k ids rests may) m.homeless);
             settled = record { returned = refl; shut = λ region. refl };
+            replied = replied_behind tt (replied_behind tt m.replied);
             laundry = m.laundry;
             frames = m.frames;
           };
       used = used_declared object pages k.chains chains o.region rests.used;
-      referred = referred_put object.0 new object.0 (Some (own_region object pages)) k.chains chains k.memory.objects objects k.memory.resident o.region o.put (let single = o.known.references in omega (arith, single)) rests.referred;
+      referred = referred_put object.0 new object.0 (Some (own_region object pages)) k.chains chains k.memory.objects objects k.memory.resident o.region o.put (let single = o.known.references in omega (arith, single)) (λ is. o.known.live) rests.referred;
       waits =
-          waits_declared header maps chains k.memory.resident k.memory.objects objects k.waits.rows woken.Nobody waits_at object.0 new
-          (waits_changed k.maps maps k.chains chains k.memory.resident k.memory.objects k.waits.rows woken.Nobody waits_at task.0 (Some (entered row (rows_in task.0 k.maps))) rests.waits o.changes none (keeps_made k.chains chains object.0 (own_region object pages) o.free o.region)
+          waits_declared header maps chains k.memory.resident k.memory.objects objects k.waits.rows (is_woken woken.Nobody) waits_at object.0 new
+          (waits_changed k.maps maps k.chains chains k.memory.resident k.memory.objects k.waits.rows (is_woken woken.Nobody) waits_at task.0 (Some (entered row (rows_in task.0 k.maps))) rests.waits o.changes none (keeps_made k.chains chains object.0 (own_region object pages) o.free o.region)
           (told_changed k.maps maps k.waits.rows waits_at task.0 (rows_in task.0 k.maps) (Some (entered row (rows_in task.0 k.maps))) rests.waits.is o.changes lives))
           o.known o.put;
       order = rests.order;

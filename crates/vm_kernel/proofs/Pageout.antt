@@ -98,7 +98,7 @@ reclaiming_more header h outside doing count done first spared past k k2 ids ans
     more (inl freed) = (reclaimed.freed freed).1
     more (inr returned) = (reclaimed.returned returned).1
 
--- no page is here any more but the one that is spared
+-- no page is here any more but those that are spared
 pub ran_out : (header : Header) (h : ℕ) (outside : Outside) (doing : Command) (count done : ℕ) (first spared : Option PageKey) (past : List Event) (k k2 : Parts) (ids : Ids) (answer : Reclaim) (events after : List Event) → Reclaiming header h outside doing count done first past k ids events
     → Rests header h k2 ids (after ++ past) → LegalEvents header h outside doing past events after → EachGone h events after → FreesOrReturns h spared answer k k2 (events ++ past) (after ++ past) → answer ≡ reclaim.Nothing → WasToCopy header h spared past
     → Ran header h outside doing past k2 ids after
@@ -106,7 +106,7 @@ ran_out header h outside doing count done first spared past k k2 ids answer even
     record {
       rests = rests;
       grows = grows_goes header h outside doing past events after r.grows goes;
-      done = subst (λ (z : Command). IsDone header z after past) (sym r.is) (record { later = []; front = after; is = refl; reclaims = all; enough = inr (exhausted header h k2 ids spared past (after ++ past) rests.matches was (reclaimed.nothing nothing).1) });
+      done = subst (λ (z : Command). IsDone header z after past) (sym r.is) (record { later = []; front = after; is = refl; reclaims = all; enough = inr (exhausted header h k2 ids spared past (after ++ past) rests was (reclaimed.nothing nothing).1) });
     }
   where
     all : EachOf (IsReclaim h) after

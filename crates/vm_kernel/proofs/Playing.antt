@@ -13,7 +13,7 @@ use Rattle.vm_objects.specs.declared.row.PagerState.TheVariants as state
 use Rattle.vm_pageout.specs.declared.answer.Reclaim.TheVariants as reclaim
 use Rattle.vm_queues.specs.Queues.{added, marked}
 use Rattle.vm_waits.specs.declared.waiting.Want.TheVariants as want
-use Rattle.vm_kernel.specs.Plays.{Looks, AreSources, Arrives, AsUnreached, AsVictim, Departs, uncreated}
+use Rattle.vm_kernel.specs.Plays.{Looks, AreSpared, Arrives, AsUnreached, AsVictim, Departs, uncreated}
 use Rattle.vm_kernel.specs.Turns.{IsFront, Bare, Shadow}
 use Rattle.vm_kernel.proofs.Claiming.{Front, front_in}
 use Rattle.vm_kernel.proofs.Pages.{itself}
@@ -239,10 +239,10 @@ searched_twice q =
     ap spared (balanced_done (queues_after_search q) none) ∙ spared_done (queues_after_search q) (front_plain b.inactive (take (shortage x) x.active)) none
 
 -- a victim was looked for, and each page on the lists is spared
-pub plays_looked : (header : Header) (h : ℕ) (past events : List Event) (skip : List FrameNo) (k : Parts) (lists : Queues) → AreSources header h (events ++ past) (paging k).frame_at skip → AllSkipped skip k.memory.queues → lists ≡ queues_after_search k.memory.queues
+pub plays_looked : (header : Header) (h : ℕ) (past events : List Event) (skip : List FrameNo) (k : Parts) (lists : Queues) → AreSpared header h (events ++ past) (paging k).frame_at skip → AllSkipped skip k.memory.queues → lists ≡ queues_after_search k.memory.queues
     → Plays header past events (paging k) events (paging (record k { memory = record k.memory { queues = lists } }))
 plays_looked header h past events skip k lists sources all is =
-    Looks h events (paging k) _ Still (record { skip = skip; sources = sources; all = all; is = ap (λ (z : Queues). record (paging k) { queues = z }) is })
+    Looks h events (paging k) _ Still (record { skip = skip; spared = sources; all = all; is = ap (λ (z : Queues). record (paging k) { queues = z }) is })
 
 -- nothing stands in front but what a return needs
 uncreated_same : (past : List Event) → created past ≡ None → uncreated past ≡ past
@@ -256,7 +256,7 @@ plays_dropped header past before after host key old new none departs told = play
 
 -- the victim has gone; the lists may have been searched before
 victim_of : (header : Header) (host : ℕ) (past : List Event) (skip : List FrameNo) (key : PageKey) (row : PageRow) (held : Bool) (bytes : List ℕ) (k k2 : Parts) (mid : Queues) → queues_after_search mid ≡ queues_after_search k.memory.queues
-    → AreSources header host past (paging k).frame_at skip → IsChosen skip row mid → Changes key row.frame (Some row) None held bytes (queues_except row.frame.0 (queues_after_search mid)) (looked (record k.memory { queues = mid })) k2.memory
+    → AreSpared header host past (paging k).frame_at skip → IsChosen skip row mid → Changes key row.frame (Some row) None held bytes (queues_except row.frame.0 (queues_after_search mid)) (looked (record k.memory { queues = mid })) k2.memory
     → IsVictim header host past key.object.0 key.page.0 (paging k) (paging k2)
 victim_of header host past skip key row held bytes k k2 mid same sources victim page =
     let o = key.object.0 in
@@ -264,7 +264,7 @@ victim_of header host past skip key row held bytes k k2 mid same sources victim 
     let here = here_is (row_at k.memory.resident o p) row row.frame page.found victim.here refl in
     record {
       skip = skip;
-      sources = sources;
+      spared = sources;
       victim = ap (victim_frame skip) (sym same) ∙ victim.victim ∙ sym here;
       departs =
           record {
@@ -275,18 +275,18 @@ victim_of header host past skip key row held bytes k k2 mid same sources victim 
     }
 
 -- a page was reclaimed, where one is on a list that isn't skipped; the lists may have been searched before
-pub reclaim_plays_from : (header : Header) (h : ℕ) (past : List Event) (ids : Ids) (skip : List FrameNo) (answer : Reclaim) (k k2 : Parts) (mid : Queues) (before after : List Event) → Rests header h k ids (before ++ past) → AreSources header h (before ++ past) (paging k).frame_at skip
+pub reclaim_plays_from : (header : Header) (h : ℕ) (past : List Event) (ids : Ids) (skip : List FrameNo) (answer : Reclaim) (k k2 : Parts) (mid : Queues) (before after : List Event) → Rests header h k ids (before ++ past) → AreSpared header h (before ++ past) (paging k).frame_at skip
     → queues_after_search mid ≡ queues_after_search k.memory.queues → (f : ℕ) → is_queued mid f ≡ true → is_skipped skip f ≡ false
     → ReclaimEffects answer k.host skip (record k.memory { queues = mid }) k2.memory k.laundry k2.laundry before after → Plays header past before (paging k) after (paging k2)
 reclaim_plays_from header h past ids skip reclaim.Freed k k2 mid before after rests sources same f queued unskipped is =
     plays_told is.events
-    (AsVictim (victim_of header k.host.0 (before ++ past) skip is.key is.row _ _ k k2 mid same (subst (λ (z : ℕ). AreSources header z (before ++ past) (paging k).frame_at skip) (sym rests.matches.host) sources) is.victim is.page))
+    (AsVictim (victim_of header k.host.0 (before ++ past) skip is.key is.row _ _ k k2 mid same (subst (λ (z : ℕ). AreSpared header z (before ++ past) (paging k).frame_at skip) (sym rests.matches.host) sources) is.victim is.page))
 reclaim_plays_from header h past ids skip reclaim.Returned k k2 mid before after rests sources same f queued unskipped is =
     subst (λ (z : List Event). Plays header past before (paging k) z (paging k2)) (sym is.events)
     (Then goes (told_from is.object.state creation before) (paging k) (paging k2) (made is.object.state) (inl (subst (λ (z : List Event). IsVictim header k.host.0 z is.key.object.0 is.key.page.0 (paging k) (paging k2)) (sym (bare is.object.state)) victim)))
   where
     victim : IsVictim header k.host.0 (before ++ past) is.key.object.0 is.key.page.0 (paging k) (paging k2)
-    victim = victim_of header k.host.0 (before ++ past) skip is.key is.row _ _ k k2 mid same (subst (λ (z : ℕ). AreSources header z (before ++ past) (paging k).frame_at skip) (sym rests.matches.host) sources) is.victim is.page
+    victim = victim_of header k.host.0 (before ++ past) skip is.key is.row _ _ k k2 mid same (subst (λ (z : ℕ). AreSpared header z (before ++ past) (paging k).frame_at skip) (sym rests.matches.host) sources) is.victim is.page
 
     goes : Event
     goes = sends k.host is.key (message.Return (controlled is.object).control is.key.page is.row.dirty false (page_in k.memory.frames is.row.frame.0))
@@ -307,7 +307,7 @@ reclaim_plays_from header h past ids skip reclaim.Nothing k k2 mid before after 
     absurd (let bad : true ≡ false = sym (is.skipped f queued) ∙ unskipped in cc)
 
 -- and where they were
-pub reclaim_plays : (header : Header) (h : ℕ) (past : List Event) (ids : Ids) (skip : List FrameNo) (answer : Reclaim) (k k2 : Parts) (before after : List Event) → Rests header h k ids (before ++ past) → AreSources header h (before ++ past) (paging k).frame_at skip
+pub reclaim_plays : (header : Header) (h : ℕ) (past : List Event) (ids : Ids) (skip : List FrameNo) (answer : Reclaim) (k k2 : Parts) (before after : List Event) → Rests header h k ids (before ++ past) → AreSpared header h (before ++ past) (paging k).frame_at skip
     → KeepsPages k.memory.queues (queues_after_search k.memory.queues) → (f : ℕ) → is_queued k.memory.queues f ≡ true → is_skipped skip f ≡ false
     → ReclaimEffects answer k.host skip (record k.memory { queues = queues_after_search k.memory.queues }) k2.memory k.laundry k2.laundry before after → Plays header past before (paging k) after (paging k2)
 reclaim_plays header h past ids skip answer k k2 before after rests sources keeps f queued unskipped is =

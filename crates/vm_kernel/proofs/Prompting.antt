@@ -9,7 +9,8 @@ use Rattle.vm_kernel.proofs.Terminating.{declared_chain}
 use Rattle.vm_state.proofs.Declared.{kind_cases, over_declared}
 use Rattle.vm_state.proofs.Reaching.{reach_up}
 use Rattle.vm_state.proofs.Referring.{OfRegion, OfShadow, referrer_of}
-use Rattle.vm_state.proofs.Shown.{awaits_page, awaits_ready}
+use Rattle.vm_state.proofs.Locks.{awaits_word}
+use Rattle.vm_state.proofs.Shown.{awaits_ready}
 use Rattle.vm_terminate.specs.Finishes.{IsReferred}
 use Rattle.vm_supply.specs.declared.woken.Woken.TheVariants as woken
 use Rattle.vm_waits.specs.declared.waiting.On.TheVariants as on
@@ -61,7 +62,7 @@ waits_for header h k ids past task what (on.Page key) m reason fresh full waits 
       object = key.object.0;
       page = key.page.0;
       place = waiting_place m reason.0 (at_home header h k ids past task (access_in what) m waits home) waits;
-      what = awaits_page (shown_at m) key.object.0 key.page.0 reason.1 (is_store (access_in what));
+      what = awaits_word (shown_at m) key.object.0 key.page.0 what reason.1;
     })
 waits_for header h k ids past task what on.Frame m reason fresh full waits home = inr (full refl)
 

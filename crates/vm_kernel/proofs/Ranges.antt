@@ -33,7 +33,9 @@ use Rattle.vm_state.proofs.Waited.{waits_changed, told_changed}
 use Rattle.vm_kernel.proofs.Own.{lives_here, lives_in, rows_here}
 use Rattle.vm_kernel.proofs.Regions.{apart_there, none_leads}
 use Rattle.vm_kernel.proofs.Pages.{pages_marked}
+use Rattle.vm_kernel.proofs.Replied.{replied_behind}
 use Rattle.std.proofs.lemmas.Bool.{not-false, or_parts}
+use Rattle.vm_state.specs.References.{is_live_in}
 
 -- what an allocation that isn't refused has
 pub record MayRange (size : ℕ) (k : Parts) (ids : Ids) (task address bytes : ℕ) : Type 0 where
@@ -405,11 +407,12 @@ rests_range header h outside task address bytes past k k2 ids maps lined rests m
                 (files_temporary header h ids.next_object (Some (new_object pages)) k.memory.objects k2.memory.objects (λ o. home_of o past) (first_temporary header h past k ids rests).object made.object_row m.files);
             homes = homes_range header h k.chains k2.chains n (new_region object pages) (λ r. home_of r past) (λ r. home_of r (ranged task ids address bytes pages ++ past)) m.homes (λ r is. homes_stay r h (ranged task ids address bytes pages) past is) (range_home header h task address bytes past k ids rests may) made.region_row;
             settled = record { returned = refl; shut = λ region. refl };
+            replied = replied_behind tt (replied_behind tt m.replied);
             laundry = m.laundry;
             frames = m.frames;
           };
       used = used_range k.chains k2.chains n object pages rests.used made.region_row;
-      referred = referred_put ids.next_object (new_object pages) n (Some (new_region object pages)) k.chains k2.chains k.memory.objects k2.memory.objects k.memory.resident made.region_row made.object_row (omega arith) rests.referred;
+      referred = referred_put ids.next_object (new_object pages) n (Some (new_region object pages)) k.chains k2.chains k.memory.objects k2.memory.objects k.memory.resident made.region_row made.object_row (omega arith) (λ is. absurd (let bad : false ≡ true = sym (ap is_live_in unknown) ∙ is in cc)) rests.referred;
       waits =
           waits_known maps k2.chains k.memory.resident k.memory.objects k2.memory.objects k.waits.rows _ (λ t. waiting t past)
           (waits_changed k.maps maps k.chains k2.chains k.memory.resident k.memory.objects k.waits.rows _ (λ t. waiting t past) task.0 _ rests.waits changes may.idle (keeps_made k.chains k2.chains n (new_region object pages) none made.region_row)

@@ -1,5 +1,5 @@
 -- One page of a host is reclaimed, and a pageout does that over and over.
-use Rattle.vm_kernel.proofs.Common.{AllLive, AllSkipped, ArePlain, Begins, Bool, Channel, Command, Created, Creates, EachGone, Elsewhere, Err, Event, Fit, FrameNo, FrameTable, FreesOrReturns, GivesBack, HasControls, HasFrames, HasLaundry, HasOrder, HasPages, HasRegions, HasTasks, HasUse, HasWaits, HaveHomes, Header, HostId, HostIsFull, Ids, IfSome, IsExhausted, IsFreed, IsNothing, IsReturned, KeepsPages, LegalEvents, List, LocalEffect, MatchOption, Matches, None, ObjectRow, Ok, OnOk, Option, Outside, PageKey, PageRow, PagerState, PagesOut, Parts, PartsFit, PutsObject, PutsRow, Queues, Reclaim, ReclaimEffects, ResidentTable, Rests, Result, ReturnCause, Returns, ReturnsOn, Some, Starves, Up, [], absent_at, ap, arith, away, backing_of, claimed, controlled, departures, entries_of, eqb_tells, false, fit_touched, frame_count, frames_held, frames_wired, free, has_pager, holds, home_of, host_id, host_of, if_true, if◌then◌else◌, in_use, inl, inr, is_claimed, is_queued, is_ready, is_skipped, last_control, last_in, length, live_control, live_in, local, local_after, local_of_row, looked, mark_there, named, next_object, next_region, not, owner_of, page_in, page_key, place_of, queues_after_search, refl, region_of, returns_out, reverse, row_at, row_cases, row_with_control, sends, slice_get, some_is, subst, sym, told_from, true, unnamed, ℕ, ◌&&◌, ◌++◌, ◌+◌, ◌-◌, ◌<◌, ◌==◌, ◌||◌, ◌∙◌, ◌∷◌, ◌≡◌, ◌⊎◌}
+use Rattle.vm_kernel.proofs.Common.{AllLive, AllSkipped, ArePlain, Begins, Bool, Channel, Command, Created, Creates, EachGone, Elsewhere, Event, Fit, FrameNo, FrameTable, FreesOrReturns, GivesBack, HasControls, HasFrames, HasLaundry, HasOrder, HasPages, HasRegions, HasTasks, HasUse, HasWaits, HaveHomes, Header, HostId, HostIsFull, Ids, IfSome, IsExhausted, IsFreed, IsNothing, IsReturned, KeepsPages, LegalEvents, List, LocalEffect, MatchOption, Matches, None, ObjectRow, Option, Outside, PageKey, PageRow, PagerState, PagesOut, Parts, PartsFit, PutsObject, PutsRow, Queues, Reclaim, ReclaimEffects, ResidentTable, Rests, ReturnCause, Returns, ReturnsOn, Some, Starves, Up, [], absent_at, ap, arith, away, backing_of, claimed, controlled, departures, entries_of, false, fit_touched, frame_count, frames_held, frames_wired, free, has_pager, holds, home_of, host_id, host_of, if_true, if◌then◌else◌, in_use, inl, inr, is_claimed, is_queued, is_ready, is_skipped, is_woken, last_control, last_in, length, live_control, live_in, local, local_after, local_of_row, looked, mark_there, named, next_object, next_region, not, owner_of, page_in, page_key, place_of, queues_after_search, refl, region_of, returns_out, reverse, row_at, row_cases, row_with_control, sends, slice_get, some_is, subst, sym, told_from, true, ℕ, ◌&&◌, ◌++◌, ◌+◌, ◌-◌, ◌<◌, ◌==◌, ◌||◌, ◌∙◌, ◌∷◌, ◌≡◌, ◌⊎◌}
 use Rattle.vm_legal.specs.Licences.{Drops, Reclaimed as ForFrames}
 use Rattle.vm_legal.specs.Living.{tasks as made_tasks}
 use Rattle.vm_legal.specs.Reclaims.{Reclaims as May}
@@ -13,7 +13,6 @@ use Rattle.vm_kernel.proofs.Growing.{Follows, free_is, goes_none, goes_one, suff
 use Rattle.vm_kernel.proofs.Losing.{IsSeen, seen_here}
 use Rattle.vm_kernel.proofs.Brings.{plain_changed}
 use Rattle.vm_kernel.proofs.Pages.{frames_changed, itself, laundry_changed, pages_moved}
-use Rattle.std.specs.Prelude.{IfOk}
 use Rattle.vm_abroad.proofs.Home.{object_stays}
 use Rattle.vm_kernel.proofs.Known.{known_on, other_if, other_nested, pages_known}
 use Rattle.vm_kernel.proofs.Returning.{controls_begun, controls_same, controls_told, counts_controlled, first_of_object, kind_controlled, kinds_controlled, pages_created, ready_controlled, told_controlled, unasked, untold_temporary}
@@ -24,7 +23,7 @@ use Rattle.vm_parts.proofs.Rows.{stood}
 use Rattle.vm_state.specs.Places.{known_local}
 use Rattle.vm_state.specs.Stands.{HasHomes, IsOfKind, KnowsFiles}
 use Rattle.vm_state.proofs.Files.{files_put}
-use Rattle.vm_kernel.specs.Serving.{FreesBut, IsHere, IsToCopy}
+use Rattle.vm_kernel.specs.Serving.{FreesBut, IsToCopy}
 use Rattle.vm_state.proofs.Changing.{regions_controlled}
 use Rattle.vm_state.proofs.Referred.{referred_controlled, referred_gone}
 use Rattle.vm_state.proofs.Told.{waiters_lost}
@@ -32,6 +31,11 @@ use Rattle.vm_kernel.proofs.Washing.{laundry_room, laundry_returned}
 use Rattle.vm_kernel.proofs.Own.{named_host, own_host}
 use Rattle.vm_kernel.proofs.Mine.{mine_of, own_named}
 use Rattle.vm_kernel.proofs.After.{controls_stay, regions_behind}
+use Rattle.vm_kernel.proofs.Replied.{replied_behind}
+use Rattle.vm_kernel.proofs.Sparing.{waits_unlocked}
+use Rattle.vm_kernel.specs.Matches.{IsReplied}
+use Rattle.vm_kernel.specs.Serving.{SkipLocked}
+use Rattle.vm_legal.specs.Accesses.{WaitsUnlocked}
 
 -- all but what a reclaim changes is as it was, and what it changes fits
 pub record Beside (k k2 : Parts) : Type 0 where
@@ -56,9 +60,17 @@ pub record Took (header : Header) (h : ℕ) (outside : Outside) (doing : Command
 abbrev pub MayTake : Header → ℕ → Command → List Event → Type 0
 MayTake header h doing past = PagesOut doing h past ⊎ Starves header h past
 
--- a page on which there is no lock may be reclaimed
-may_take : (header : Header) (h : ℕ) (doing : Command) (o p : ℕ) (past : List Event) → (local header.size h (place_of o p) past).lock ≡ 0 → MayTake header h doing past → May header doing h o p past
-may_take header h doing o p past none why = record { spared = λ waits. unnamed (local header.size h (place_of o p) past).lock _ none waits.named; may = why }
+-- a page may be reclaimed of which no unlock is outstanding
+may_take : (header : Header) (h : ℕ) (doing : Command) (o p : ℕ) (past : List Event) → (local header.size h (place_of o p) past).unlocking ≡ false → MayTake header h doing past → May header doing h o p past
+may_take header h doing o p past none why = record { spared = λ waits. (let bad : false ≡ true = sym none ∙ waits.unlocking in cc); may = why }
+
+-- so is a victim, where those are skipped of which one is
+unsent : (skip : List FrameNo) (rs : ResidentTable) (o p : ℕ) (row : PageRow) → SkipLocked rs skip → row_at rs o p ≡ Some row → is_skipped skip row.frame.0 ≡ false → row.unlock_sent ≡ false
+unsent skip rs o p row locked found unskipped = by row.unlock_sent refl
+  where
+    by : (b : Bool) → row.unlock_sent ≡ b → b ≡ false
+    by false is = refl
+    by true is = absurd (let bad : false ≡ true = sym unskipped ∙ locked o p row found is in cc)
 
 -- the parts fit still, with fewer rows
 fits_of : (k k2 : Parts) → Beside k k2 → PartsFit k → ArePlain k2.memory.resident → PartsFit k2
@@ -103,6 +115,7 @@ took_nothing header h outside doing past ids skip k k2 before after rests beside
                   homes = rw beside.chains m.homes;
                   files = rw is.objects m.files;
                   settled = m.settled;
+                  replied = m.replied;
                   laundry = rw (is.frames, is.resident, is.laundry) m.laundry;
                   frames = rw is.frames m.frames;
                 };
@@ -126,8 +139,8 @@ took_nothing header h outside doing past ids skip k k2 before after rests beside
 
 -- a clean page was dropped
 took_freed : (header : Header) (h : ℕ) (outside : Outside) (doing : Command) (past : List Event) (ids : Ids) (skip : List FrameNo) (k k2 : Parts) (before after : List Event)
-    → Rests header h k ids (before ++ past) → Beside k k2 → KeepsPages k.memory.queues (queues_after_search k.memory.queues) → MayTake header h doing (before ++ past) → IsFreed k.host skip k.memory k2.memory k.laundry k2.laundry before after → Took header h outside doing past ids reclaim.Freed skip k k2 before after
-took_freed header h outside doing past ids skip k k2 before after rests beside keeps may freed =
+    → Rests header h k ids (before ++ past) → Beside k k2 → SkipLocked k.memory.resident skip → KeepsPages k.memory.queues (queues_after_search k.memory.queues) → MayTake header h doing (before ++ past) → IsFreed k.host skip k.memory k2.memory k.laundry k2.laundry before after → Took header h outside doing past ids reclaim.Freed skip k k2 before after
+took_freed header h outside doing past ids skip k k2 before after rests beside locked keeps may freed =
     let m = rests.matches in
     let key = freed.key in
     let row = freed.row in
@@ -139,10 +152,11 @@ took_freed header h outside doing past ids skip k k2 before after rests beside k
     let e : Event = event.Dropped (host_id h) key.object key.page in
     let log : after ≡ e ∷ before = freed.events ∙ ap (λ z. event.Dropped z key.object key.page ∷ before) (named_host k.host h m.host) in
     let is : known_local header o p (local header.size h (place_of o p) moment) ≡ local_of_row k.memory.frames (Some row) (absent_at k.memory.objects o p) = m.pages.shown o p ∙ ap (λ z. local_of_row k.memory.frames z (absent_at k.memory.objects o p)) page.found in
-    let seen = seen_here k.memory.frames row (absent_at k.memory.objects o p) (known_local header o p (local header.size h (place_of o p) moment)) is here (m.fits.plain o p row page.found) in
+    let seen = seen_here k.memory.frames row (absent_at k.memory.objects o p) (known_local header o p (local header.size h (place_of o p) moment)) is here in
+    let none = unsent skip k.memory.resident o p row locked page.found freed.victim.unskipped in
     let frames : HasFrames (slice_get (reverse header.frames.items) h) k2.memory.frames (frames_held header.size h (e ∷ moment)) (frames_wired h (e ∷ moment)) =
     rw (own_host h) (frames_changed (slice_get (reverse header.frames.items) h) key row.frame _ _ _ _ _ (looked k.memory) k2.memory (frames_held header.size h moment) (frames_held header.size h moment - 1) (frames_wired h moment) m.frames page (λ held. let less = page.claims in omega arith)) in
-    let drops : Drops header doing h o p moment = record { here = seen.here; why = ForFrames (seen.dirty ∙ freed.clean) seen.precious (may_take header h doing o p moment seen.lock may) } in
+    let drops : Drops header doing h o p moment = record { here = seen.here; why = ForFrames (seen.dirty ∙ freed.clean) (seen.precious ∙ freed.plain) (may_take header h doing o p moment (seen.unlocking ∙ none) may) } in
     let follows : Follows header h outside doing e moment =
     record { consequence = tt; cause = drops; own_bytes = tt; frames = suffices header h k2.memory.frames (e ∷ moment) frames; inner = tt; said = tt; own = own_named h; creates = tt } in
     let fit = fit_touched k.memory (queues_after_search k.memory.queues) m.fits.parts keeps refl in
@@ -173,12 +187,13 @@ took_freed header h outside doing past ids skip k k2 before after rests beside k
                   homes = rw beside.chains m.homes;
                   files = rw freed.objects m.files;
                   settled = record { returned = refl; shut = λ region. refl };
+                  replied = replied_behind tt m.replied;
                   laundry = rw freed.laundry (laundry_changed key row.frame _ _ _ _ _ (looked k.memory) k2.memory k.laundry (returns_out h moment) m.laundry page);
                   frames = frames;
                 };
             used = rw beside.chains rests.used;
             referred = rw (beside.chains, freed.objects) (referred_gone o p k.chains k.memory.objects k.memory.resident k2.memory.resident page.row rests.referred);
-            waits = rw (beside.chains, beside.maps, beside.waits, freed.objects) (waiters_lost k.maps k.chains k.memory.resident k2.memory.resident k.memory.objects k.memory.objects k.waits.rows woken.Nobody _ o p row rests.waits page.found here page.row (λ object told. told) (λ object is. is));
+            waits = rw (beside.chains, beside.maps, beside.waits, freed.objects) (waiters_lost k.maps k.chains k.memory.resident k2.memory.resident k.memory.objects k.memory.objects k.waits.rows (is_woken woken.Nobody) _ o p row rests.waits page.found here none page.row (λ object told. told) (λ object is. is));
             order = rw beside.waits rests.order;
             idle = rw beside.waits rests.idle;
           };
@@ -217,6 +232,7 @@ record Before (header : Header) (h : ℕ) (k : Parts) (ids : Ids) (past : List E
   files : KnowsFiles header h k.memory.objects (λ o. home_of o past)
   laundry : HasLaundry k.memory.frames k.memory.resident k.laundry (returns_out h past)
   frames : HasFrames (slice_get (reverse header.frames.items) h) k.memory.frames (frames_held header.size h past) (frames_wired h past)
+  replied : IsReplied past
   waits : HasWaits k woken.Nobody past
   order : HasOrder k past
 
@@ -229,10 +245,10 @@ abbrev creating : ℕ → PageKey → ℕ → ℕ → Event
 creating h key control size = event.Sent (Up (host_id h) key.object) (message.Create control size)
 
 -- what a return leaves of the kernel
-returned_rests : (header : Header) (h : ℕ) (ids : Ids) (skip : List FrameNo) (k k2 : Parts) (before after moment past : List Event) (control : ℕ) → Rests header h k ids past → Beside k k2 → KeepsPages k.memory.queues (queues_after_search k.memory.queues) → (is : IsReturned k.host skip k.memory k2.memory k.laundry k2.laundry before after) → Before header h k ids moment
+returned_rests : (header : Header) (h : ℕ) (ids : Ids) (skip : List FrameNo) (k k2 : Parts) (before after moment past : List Event) (control : ℕ) → Rests header h k ids past → Beside k k2 → SkipLocked k.memory.resident skip → KeepsPages k.memory.queues (queues_after_search k.memory.queues) → (is : IsReturned k.host skip k.memory k2.memory k.laundry k2.laundry before after) → Before header h k ids moment
     → HasControls (named header) h k2.memory.objects (λ o. last_control h o moment) (λ o. live_control h o moment) (λ o. is_ready h o moment) (λ o. object_home o moment)
     → Rests header h k2 ids (returning h is.key control is.row.dirty (page_in k.memory.frames is.row.frame.0) ∷ moment)
-returned_rests header h ids skip k k2 before after moment past control rests beside keeps is b controls =
+returned_rests header h ids skip k k2 before after moment past control rests beside locked keeps is b controls =
     let m = rests.matches in
     let o = is.key.object.0 in
     let p = is.key.page.0 in
@@ -277,6 +293,7 @@ returned_rests header h ids skip k k2 before after moment past control rests bes
             homes = rw beside.chains b.homes;
             files = files_put header h o is.object (controlled is.object) k.memory.objects k2.memory.objects (λ r. home_of r moment) is.known is.objects b.files;
             settled = record { returned = refl; shut = λ region. refl };
+            replied = replied_behind tt b.replied;
             laundry = rw (own_host h) (laundry_returned key row _ _ (looked k.memory) k2.memory k.laundry k2.laundry (returns_out h moment) b.laundry page is.held is.room);
             frames = frames_changed (slice_get (reverse header.frames.items) h) key row.frame _ _ _ _ _ (looked k.memory) k2.memory (frames_held header.size h moment) (frames_held header.size h moment) (frames_wired h moment) b.frames page (λ held. let same = page.claims in omega arith);
           };
@@ -284,8 +301,8 @@ returned_rests header h ids skip k k2 before after moment past control rests bes
       referred =
           rw beside.chains
           (referred_gone o p k.chains k2.memory.objects k.memory.resident k2.memory.resident page.row
-          (referred_controlled o is.object (controlled is.object) k.chains k.memory.objects k2.memory.objects k.memory.resident is.known is.objects counts.references (λ live. some) rests.referred));
-      waits = rw (beside.chains, beside.maps, beside.waits) (waiters_lost k.maps k.chains k.memory.resident k2.memory.resident k.memory.objects k2.memory.objects k.waits.rows woken.Nobody _ o p is.row b.waits page.found is.victim.here page.row (told_controlled k.memory.objects k2.memory.objects o is.object is.known is.objects) (ready_controlled k.memory.objects k2.memory.objects o is.object is.known is.objects));
+          (referred_controlled o is.object (controlled is.object) k.chains k.memory.objects k2.memory.objects k.memory.resident is.known is.objects counts.references (λ live. some) (λ lives. is.live) rests.referred));
+      waits = rw (beside.chains, beside.maps, beside.waits) (waiters_lost k.maps k.chains k.memory.resident k2.memory.resident k.memory.objects k2.memory.objects k.waits.rows (is_woken woken.Nobody) _ o p is.row b.waits page.found is.victim.here (unsent skip k.memory.resident o p row locked page.found is.victim.unskipped) page.row (told_controlled k.memory.objects k2.memory.objects o is.object is.known is.objects) (ready_controlled k.memory.objects k2.memory.objects o is.object is.known is.objects));
       order = rw beside.waits b.order;
       idle = rw beside.waits rests.idle;
     }
@@ -294,16 +311,16 @@ returned_rests header h ids skip k k2 before after moment past control rests bes
     nested true b = refl
     nested false b = refl
 
-either : {changed : Bool} (precious : Bool) → changed ≡ true → (changed || precious) ≡ true
-either precious is = rw is refl
+either : {changed cherished : Bool} (dirty precious : Bool) → changed ≡ dirty → cherished ≡ precious → (dirty || precious) ≡ true → (changed || cherished) ≡ true
+either dirty precious one other is = rw (one, other) is
 
 -- a return has its cause, and its bytes are those of the page
 back_follows : (header : Header) (h : ℕ) (outside : Outside) (doing : Command) (ids : Ids) (k : Parts) (key : PageKey) (row : PageRow) (f control : ℕ) (past moment : List Event) → Matches header h k ids [] past → row_at k.memory.resident key.object.0 key.page.0 ≡ Some row → row.frame.0 ≡ f
-    → IsSeen (known_local header key.object.0 key.page.0 (local header.size h (place_of key.object.0 key.page.0) moment)) row (page_in k.memory.frames row.frame.0) → row.dirty ≡ true → live_control h key.object.0 moment ≡ Some control → ReturnCause header doing h key.object.0 key.page.0 false moment
+    → IsSeen (known_local header key.object.0 key.page.0 (local header.size h (place_of key.object.0 key.page.0) moment)) row (page_in k.memory.frames row.frame.0) → (row.dirty || row.precious) ≡ true → live_control h key.object.0 moment ≡ Some control → ReturnCause header doing h key.object.0 key.page.0 false moment
     → HasFrames (slice_get (reverse header.frames.items) h) k.memory.frames (frames_held header.size h moment) (frames_wired h moment) → Follows header h outside doing (returning h key control row.dirty (page_in k.memory.frames f)) moment
-back_follows header h outside doing ids k key row f control past moment m found framed seen dirty live why frames =
+back_follows header h outside doing ids k key row f control past moment m found framed seen wanted live why frames =
     let back : GivesBack header doing h control key.object.0 key.page.0 row.dirty false (page_in k.memory.frames f) moment =
-    record { live = live; here = seen.here; due = either (local header.size h (place_of key.object.0 key.page.0) moment).precious (seen.dirty ∙ dirty); same = ap (page_in k.memory.frames) (sym framed) ∙ sym seen.bytes_are; flag = sym seen.dirty; why = why } in
+    record { live = live; here = seen.here; due = either row.dirty row.precious seen.dirty seen.precious wanted; same = ap (page_in k.memory.frames) (sym framed) ∙ sym seen.bytes_are; flag = sym seen.dirty; why = why } in
     let inside : f < frame_count k.memory.frames = mark_there k.memory.frames.claims f (subst (λ (z : ℕ). is_claimed k.memory.frames z ≡ true) framed (m.fits.parts.held key.object.0 key.page.0 row found)) in
     let long : length (page_in k.memory.frames f) ≡ header.size = m.fits.parts.all_sized f inside ∙ (m.fits.buffers ∙ m.size) in
     record { consequence = tt; cause = back; own_bytes = tt; frames = suffices header h k.memory.frames (returning h key control row.dirty (page_in k.memory.frames f) ∷ moment) frames; inner = tt; said = (refl, long); own = own_named h; creates = tt }
@@ -315,10 +332,10 @@ sent_back key dirty object bytes events size pager host =
     ∷ told_from pager (sends host key (message.Create (row_with_control pager object).control size)) events
 
 -- a changed page was returned, to a pager that was told of the object
-took_told : (header : Header) (h : ℕ) (outside : Outside) (doing : Command) (past : List Event) (ids : Ids) (skip : List FrameNo) (k k2 : Parts) (before after : List Event) → Rests header h k ids (before ++ past) → Beside k k2 → KeepsPages k.memory.queues (queues_after_search k.memory.queues) → MayTake header h doing (before ++ past)
-    → (is : IsReturned k.host skip k.memory k2.memory k.laundry k2.laundry before after) → is.row.dirty ≡ true → has_pager is.object.state ≡ true → controlled is.object ≡ is.object
+took_told : (header : Header) (h : ℕ) (outside : Outside) (doing : Command) (past : List Event) (ids : Ids) (skip : List FrameNo) (k k2 : Parts) (before after : List Event) → Rests header h k ids (before ++ past) → Beside k k2 → SkipLocked k.memory.resident skip → KeepsPages k.memory.queues (queues_after_search k.memory.queues) → MayTake header h doing (before ++ past)
+    → (is : IsReturned k.host skip k.memory k2.memory k.laundry k2.laundry before after) → has_pager is.object.state ≡ true → controlled is.object ≡ is.object
     → after ≡ returning h is.key is.object.control is.row.dirty (page_in k.memory.frames is.row.frame.0) ∷ before → Took header h outside doing past ids reclaim.Returned skip k k2 before after
-took_told header h outside doing past ids skip k k2 before after rests beside keeps may is dirty paged same log =
+took_told header h outside doing past ids skip k k2 before after rests beside locked keeps may is paged same log =
     let m = rests.matches in
     let key = is.key in
     let row = is.row in
@@ -327,26 +344,27 @@ took_told header h outside doing past ids skip k k2 before after rests beside ke
     let p = key.page.0 in
     let moment = before ++ past in
     let e = returning h key is.object.control row.dirty (page_in k.memory.frames is.row.frame.0) in
-    let seen = seen_here k.memory.frames row (absent_at k.memory.objects o p) (known_local header o p (local header.size h (place_of o p) moment)) (m.pages.shown o p ∙ ap (λ z. local_of_row k.memory.frames z (absent_at k.memory.objects o p)) page.found) is.victim.here (m.fits.plain o p row page.found) in
+    let seen = seen_here k.memory.frames row (absent_at k.memory.objects o p) (known_local header o p (local header.size h (place_of o p) moment)) (m.pages.shown o p ∙ ap (λ z. local_of_row k.memory.frames z (absent_at k.memory.objects o p)) page.found) is.victim.here in
+    let none = unsent skip k.memory.resident o p row locked page.found is.victim.unskipped in
     let kind = m.kinds.kinds o is.object is.known in
     let lives : live_control h o moment ≡ Some is.object.control = m.controls.live o ∙ (ap live_in is.known ∙ ap (λ b. if b then Some is.object.control else None) (kind.lives ∙ paged)) in
-    let why : ReturnCause header doing h o p false moment = ForFrames refl (may_take header h doing o p moment seen.lock may) in
-    let follows = back_follows header h outside doing ids k key row is.row.frame.0 is.object.control moment moment m page.found refl seen dirty lives why m.frames in
-    let b : Before header h k ids moment = record { tasks = m.tasks; regions = m.regions; pages = m.pages; uses = m.uses; homeless = m.homeless; homes = m.homes; files = m.files; laundry = m.laundry; frames = m.frames; waits = rests.waits; order = rests.order } in
+    let why : ReturnCause header doing h o p false moment = ForFrames refl (may_take header h doing o p moment (seen.unlocking ∙ none) may) in
+    let follows = back_follows header h outside doing ids k key row is.row.frame.0 is.object.control moment moment m page.found refl seen is.wanted lives why m.frames in
+    let b : Before header h k ids moment = record { tasks = m.tasks; regions = m.regions; pages = m.pages; uses = m.uses; homeless = m.homeless; homes = m.homes; files = m.files; laundry = m.laundry; frames = m.frames; replied = m.replied; waits = rests.waits; order = rests.order } in
     let controls = controls_same k.memory.objects k2.memory.objects _ _ _ m.controls (controls_told k.memory.objects k2.memory.objects o is.object is.known same is.objects) in
     subst (λ (z : List Event). Took header h outside doing past ids reclaim.Returned skip k k2 before z) (sym log)
     (record {
-      rests = returned_rests header h ids skip k k2 before after moment moment is.object.control rests beside keeps is b controls;
+      rests = returned_rests header h ids skip k k2 before after moment moment is.object.control rests beside locked keeps is b controls;
       goes = goes_one header h outside doing past before e m.settled follows;
       gone = record { more = e ∷ []; is = refl; each = (refl, tt) };
       reclaimed = on_its_way h skip k k2 moment (e ∷ moment) beside page.claims page.left (rw (own_host h) refl) (rw (own_host h) (omega arith)) (row_stays skip key row k.memory.resident k2.memory.resident page.found page.row is.victim.unskipped);
     })
 
 -- a changed page was returned, and its pager told of the object first
-took_first : (header : Header) (h : ℕ) (outside : Outside) (doing : Command) (past : List Event) (ids : Ids) (skip : List FrameNo) (k k2 : Parts) (before after : List Event) → Rests header h k ids (before ++ past) → Beside k k2 → KeepsPages k.memory.queues (queues_after_search k.memory.queues) → MayTake header h doing (before ++ past)
-    → (is : IsReturned k.host skip k.memory k2.memory k.laundry k2.laundry before after) → is.row.dirty ≡ true → is.object.state ≡ state.Without
+took_first : (header : Header) (h : ℕ) (outside : Outside) (doing : Command) (past : List Event) (ids : Ids) (skip : List FrameNo) (k k2 : Parts) (before after : List Event) → Rests header h k ids (before ++ past) → Beside k k2 → SkipLocked k.memory.resident skip → KeepsPages k.memory.queues (queues_after_search k.memory.queues) → MayTake header h doing (before ++ past)
+    → (is : IsReturned k.host skip k.memory k2.memory k.laundry k2.laundry before after) → is.object.state ≡ state.Without
     → after ≡ returning h is.key (is.object.control + 1) is.row.dirty (page_in k.memory.frames is.row.frame.0) ∷ creating h is.key (is.object.control + 1) header.size ∷ before → Took header h outside doing past ids reclaim.Returned skip k k2 before after
-took_first header h outside doing past ids skip k k2 before after rests beside keeps may is dirty without log =
+took_first header h outside doing past ids skip k k2 before after rests beside locked keeps may is without log =
     let m = rests.matches in
     let key = is.key in
     let row = is.row in
@@ -368,15 +386,15 @@ took_first header h outside doing past ids skip k k2 before after rests beside k
     rw (own_host h)
     (pages_known header header.size (λ o2 p2. if o == o2 then Begins else Elsewhere) (λ o p. local header.size h (place_of o p) h0) (λ o2 p2. other_if (o == o2) Begins tt)
     (pages_created header.size k.memory.frames k.memory.resident k.memory.objects (λ o p. known_local header o p (local header.size h (place_of o p) h0)) o m.pages (λ q. unasked header.size h o q h0 dead))) in
-    let plain = m.fits.plain o p row page.found in
-    let seen0 = seen_here k.memory.frames row (absent_at k.memory.objects o p) (known_local header o p (local header.size h (place_of o p) h0)) (m.pages.shown o p ∙ ap (λ z. local_of_row k.memory.frames z (absent_at k.memory.objects o p)) page.found) is.victim.here plain in
-    let seen = seen_here k.memory.frames row (absent_at k.memory.objects o p) (known_local header o p (local header.size h (place_of o p) moment)) (pages.shown o p ∙ ap (λ z. local_of_row k.memory.frames z (absent_at k.memory.objects o p)) page.found) is.victim.here plain in
+    let unlocked = unsent skip k.memory.resident o p row locked page.found is.victim.unskipped in
+    let seen0 = seen_here k.memory.frames row (absent_at k.memory.objects o p) (known_local header o p (local header.size h (place_of o p) h0)) (m.pages.shown o p ∙ ap (λ z. local_of_row k.memory.frames z (absent_at k.memory.objects o p)) page.found) is.victim.here in
+    let seen = seen_here k.memory.frames row (absent_at k.memory.objects o p) (known_local header o p (local header.size h (place_of o p) moment)) (pages.shown o p ∙ ap (λ z. local_of_row k.memory.frames z (absent_at k.memory.objects o p)) page.found) is.victim.here in
     let put : PutsObject o (Some (row_with_control state.Without is.object)) k.memory.objects k2.memory.objects = subst (λ (z : PagerState). PutsObject o (Some (row_with_control z is.object)) k.memory.objects k2.memory.objects) without is.objects in
     let begun : HasControls (named header) h k2.memory.objects (λ o. last_control h o moment) (λ o. live_control h o moment) (λ o. is_ready h o moment) (λ o. object_home o h0) = rw (own_host h) (controls_begun k.memory.objects k2.memory.objects _ _ _ o is.object m.controls beside.live is.known none put) in
     let controls : HasControls (named header) h k2.memory.objects (λ o. last_control h o moment) (λ o. live_control h o moment) (λ o. is_ready h o moment) (λ o. object_home o moment) = controls_stay (λ o is. object_stays o h e1 h0 is) begun in
     let lives : live_control h o moment ≡ Some control = if_true o (Some control) (live_control h o h0) (live_control h o moment) (rw (own_host h) refl) in
-    let why : ReturnCause header doing h o p false moment = Created control header.size h0 refl refl (may_take header h doing o p h0 seen0.lock may) in
-    let follows = back_follows header h outside doing ids k key row is.row.frame.0 control h0 moment m page.found refl seen dirty lives why m.frames in
+    let why : ReturnCause header doing h o p false moment = Created control header.size h0 refl refl (may_take header h doing o p h0 (seen0.unlocking ∙ unlocked) may) in
+    let follows = back_follows header h outside doing ids k key row is.row.frame.0 control h0 moment m page.found refl seen is.wanted lives why m.frames in
     let creates : Creates header h control o header.size h0 =
     record { number = ap (λ z. z + 1) none; sized = refl; temporary = temporary; never = m.controls.last o ∙ (ap last_in is.known ∙ none); page = p; here = seen0.here } in
     let b : Before header h k ids moment =
@@ -390,12 +408,13 @@ took_first header h outside doing past ids skip k k2 before after rests beside k
       files = m.files;
       laundry = m.laundry;
       frames = m.frames;
+      replied = replied_behind tt m.replied;
       waits = rests.waits;
       order = rests.order;
     } in
     subst (λ (z : List Event). Took header h outside doing past ids reclaim.Returned skip k k2 before z) (sym log)
     (record {
-      rests = returned_rests header h ids skip k k2 before after moment h0 control rests beside keeps is b controls;
+      rests = returned_rests header h ids skip k k2 before after moment h0 control rests beside locked keeps is b controls;
       goes =
           record {
             more = e2 ∷ e1 ∷ [];
@@ -412,19 +431,12 @@ took_first header h outside doing past ids skip k k2 before after rests beside k
       reclaimed = on_its_way h skip k k2 h0 (e2 ∷ moment) beside page.claims page.left (rw (own_host h) refl) (rw (own_host h) (omega arith)) (row_stays skip key row k.memory.resident k2.memory.resident page.found page.row is.victim.unskipped);
     })
 
-took_returned : (header : Header) (h : ℕ) (outside : Outside) (doing : Command) (past : List Event) (ids : Ids) (skip : List FrameNo) (k k2 : Parts) (before after : List Event) → Rests header h k ids (before ++ past) → Beside k k2 → KeepsPages k.memory.queues (queues_after_search k.memory.queues) → MayTake header h doing (before ++ past)
+took_returned : (header : Header) (h : ℕ) (outside : Outside) (doing : Command) (past : List Event) (ids : Ids) (skip : List FrameNo) (k k2 : Parts) (before after : List Event) → Rests header h k ids (before ++ past) → Beside k k2 → SkipLocked k.memory.resident skip → KeepsPages k.memory.queues (queues_after_search k.memory.queues) → MayTake header h doing (before ++ past)
     → IsReturned k.host skip k.memory k2.memory k.laundry k2.laundry before after → Took header h outside doing past ids reclaim.Returned skip k k2 before after
-took_returned header h outside doing past ids skip k k2 before after rests beside keeps may is = go is.object.state refl
+took_returned header h outside doing past ids skip k k2 before after rests beside locked keeps may is = go is.object.state refl
   where
     bytes : List ℕ
     bytes = page_in k.memory.frames is.row.frame.0
-
-    unless : (a b : Bool) → (a || b) ≡ true → b ≡ false → a ≡ true
-    unless true b either none = refl
-    unless false b either none = absurd (let bad : false ≡ true = sym none ∙ either in cc)
-
-    dirty : is.row.dirty ≡ true
-    dirty = unless is.row.dirty is.row.precious is.wanted (rests.matches.fits.plain is.key.object.0 is.key.page.0 is.row is.page.found).precious
 
     log : (pager : PagerState) → is.object.state ≡ pager → after ≡ sent_back is.key is.row.dirty is.object bytes before header.size pager (host_id h)
     log pager same =
@@ -434,16 +446,16 @@ took_returned header h outside doing past ids skip k k2 before after rests besid
         ∙ ap (λ z. sent_back is.key is.row.dirty is.object bytes before header.size z (host_id h)) same))
 
     go : (pager : PagerState) → is.object.state ≡ pager → Took header h outside doing past ids reclaim.Returned skip k k2 before after
-    go state.Without same = took_first header h outside doing past ids skip k k2 before after rests beside keeps may is dirty same (log state.Without same)
-    go state.Sent same = took_told header h outside doing past ids skip k k2 before after rests beside keeps may is dirty (ap has_pager same) (ap (λ z. row_with_control z is.object) same) (log state.Sent same)
-    go state.Ready same = took_told header h outside doing past ids skip k k2 before after rests beside keeps may is dirty (ap has_pager same) (ap (λ z. row_with_control z is.object) same) (log state.Ready same)
+    go state.Without same = took_first header h outside doing past ids skip k k2 before after rests beside locked keeps may is same (log state.Without same)
+    go state.Sent same = took_told header h outside doing past ids skip k k2 before after rests beside locked keeps may is (ap has_pager same) (ap (λ z. row_with_control z is.object) same) (log state.Sent same)
+    go state.Ready same = took_told header h outside doing past ids skip k k2 before after rests beside locked keeps may is (ap has_pager same) (ap (λ z. row_with_control z is.object) same) (log state.Ready same)
 
 -- a page was reclaimed, or none is here
-pub took : (header : Header) (h : ℕ) (outside : Outside) (doing : Command) (past : List Event) (ids : Ids) (answer : Reclaim) (skip : List FrameNo) (k k2 : Parts) (before after : List Event) → Rests header h k ids (before ++ past) → Beside k k2 → KeepsPages k.memory.queues (queues_after_search k.memory.queues) → MayTake header h doing (before ++ past)
+pub took : (header : Header) (h : ℕ) (outside : Outside) (doing : Command) (past : List Event) (ids : Ids) (answer : Reclaim) (skip : List FrameNo) (k k2 : Parts) (before after : List Event) → Rests header h k ids (before ++ past) → Beside k k2 → SkipLocked k.memory.resident skip → KeepsPages k.memory.queues (queues_after_search k.memory.queues) → MayTake header h doing (before ++ past)
     → ReclaimEffects answer k.host skip k.memory k2.memory k.laundry k2.laundry before after → Took header h outside doing past ids answer skip k k2 before after
-took header h outside doing past ids reclaim.Freed skip k k2 before after rests beside keeps may is = took_freed header h outside doing past ids skip k k2 before after rests beside keeps may is
-took header h outside doing past ids reclaim.Returned skip k k2 before after rests beside keeps may is = took_returned header h outside doing past ids skip k k2 before after rests beside keeps may is
-took header h outside doing past ids reclaim.Nothing skip k k2 before after rests beside keeps may is = took_nothing header h outside doing past ids skip k k2 before after rests beside is
+took header h outside doing past ids reclaim.Freed skip k k2 before after rests beside locked keeps may is = took_freed header h outside doing past ids skip k k2 before after rests beside locked keeps may is
+took header h outside doing past ids reclaim.Returned skip k k2 before after rests beside locked keeps may is = took_returned header h outside doing past ids skip k k2 before after rests beside locked keeps may is
+took header h outside doing past ids reclaim.Nothing skip k k2 before after rests beside locked keeps may is = took_nothing header h outside doing past ids skip k k2 before after rests beside is
 
 -- the lists of pages have another order
 
@@ -471,6 +483,7 @@ rests_touched header h ids k queues past rests keeps count =
             homes = m.homes;
             files = m.files;
             settled = m.settled;
+            replied = m.replied;
             laundry = m.laundry;
             frames = m.frames;
           };
@@ -510,59 +523,6 @@ room_for header h k ids past f rests listed = go (owner_of k.memory.resident f) 
     go None none = absurd (let bad : false ≡ true = sym (m.fits.parts.unlisted f none) ∙ listed in cc)
     go (Some key) owner = laundry_room k.memory.frames k.memory.resident k.laundry (returns_out h past) f key m.laundry (omega (arith, m.frames.fits)) (mine (is_claimed k.memory.frames f) key refl owner) owner
 
--- one page is spared: the one whose frame is skipped
-
-itself_skipped : (f : FrameNo) (g : ℕ) → f.0 ≡ g → is_skipped (f ∷ []) g ≡ true
-itself_skipped f g same = subst (λ (z : ℕ). is_skipped (f ∷ []) z ≡ true) same (rw (itself f.0) refl)
-
-skipped_one : (f : FrameNo) (g : ℕ) → is_skipped (f ∷ []) g ≡ true → f.0 ≡ g
-skipped_one f g is = elim (eqb_tells f.0 g) [
-  | inl same ↦ same.1
-  | inr apart ↦ absurd (let bad : false ≡ true = sym (ap (λ b. b || false) apart.0) ∙ is in cc)
-]
-
--- the page that is spared is here still
-pub spared_here : (h : ℕ) (answer : Reclaim) (k k2 : Parts) (before after : List Event) (key : PageKey) (here : IsHere k key) → FreesBut h (here.0.frame ∷ []) answer k k2 before after → row_at k2.memory.resident key.object.0 key.page.0 ≡ Some here.0
-spared_here h answer k k2 before after key here r = r.kept key.object.0 key.page.0 here.0 here.1 here.2 (itself_skipped here.0.frame here.0.frame.0 refl)
-
-pub spared_some : (h : ℕ) (answer : Reclaim) (k k2 : Parts) (before after : List Event) (key : PageKey) (here : IsHere k key) → Fit k2.memory → FreesBut h (here.0.frame ∷ []) answer k k2 before after → FreesOrReturns h (Some key) answer k k2 before after
-spared_some h answer k k2 before after key here fit r =
-    record {
-      waits = r.waits;
-      freed = r.freed;
-      returned = r.returned;
-      nothing = λ none. let all = r.nothing none in (all.0, (λ o p row found is. owner o p row found (skipped_one here.0.frame row.frame.0 (all.1 o p row found is))), all.2);
-      kept = λ o p row found is same. r.kept o p row found is (itself_skipped here.0.frame row.frame.0 (ap (λ (z : PageRow). z.frame.0) (its_row o p row found (some_is key (page_key o p) same))));
-    }
-  where
-    -- a frame is that of one page
-    owner : (o p : ℕ) (row : PageRow) → row_at k2.memory.resident o p ≡ Some row → here.0.frame.0 ≡ row.frame.0 → Some key ≡ Some (page_key o p)
-    owner o p row found same =
-        sym (fit.owned.at key.object.0 key.page.0 here.0 (spared_here h answer k k2 before after key here r)) ∙ (ap (owner_of k2.memory.resident) same ∙ fit.owned.at o p row found)
-
-    its_row : (o p : ℕ) (row : PageRow) → row_at k.memory.resident o p ≡ Some row → key ≡ page_key o p → here.0 ≡ row
-    its_row o p row found same = some_is here.0 row (sym here.1 ∙ (ap (λ (z : PageKey). row_at k.memory.resident z.object.0 z.page.0) same ∙ found))
-
--- so it is where a page was reclaimed
-frame_of_row : (k : Parts) (key : PageKey) (frame : FrameNo) (here : IsHere k key) → IfSome (row_at k.memory.resident key.object.0 key.page.0) (λ row. frame ≡ row.frame) → frame ≡ here.0.frame
-frame_of_row k key frame here told = subst (λ (z : Option PageRow). IfSome z (λ row. frame ≡ row.frame)) here.1 told
-
-pub spares : {B : Type 0} (r : Result Reclaim B) (header : Header) (h : ℕ) (k k2 : Parts) (ids : Ids) (spared : Option PageKey) (key : PageKey) (frame : FrameNo) (before after : List Event) → spared ≡ Some key → IsToCopy header h k spared before
-    → IfSome (row_at k.memory.resident key.object.0 key.page.0) (λ row. frame ≡ row.frame) → OnOk r (Rests header h k2 ids after) → IfOk r (λ answer. FreesBut h (frame ∷ []) answer k k2 before after) → IfOk r (λ answer. FreesOrReturns h spared answer k k2 before after)
-spares (Ok answer) header h k k2 ids spared key frame before after is to_copy told rests frees =
-    let here : IsHere k key = (subst (λ (z : Option PageKey). IsToCopy header h k z before) is to_copy).1 in
-    subst (λ (z : Option PageKey). FreesOrReturns h z answer k k2 before after) (sym is)
-    (spared_some h answer k k2 before after key here rests.matches.fits.parts (subst (λ (z : FrameNo). FreesBut h (z ∷ []) answer k k2 before after) (frame_of_row k key frame here told) frees))
-spares (Err e) header h k k2 ids spared key frame before after is to_copy told rests frees = tt
-
-pub keeps_spared : {B : Type 0} (r : Result Reclaim B) (header : Header) (h : ℕ) (k k2 : Parts) (spared : Option PageKey) (key : PageKey) (frame : FrameNo) (before after : List Event) → spared ≡ Some key → IsToCopy header h k spared before
-    → IfSome (row_at k.memory.resident key.object.0 key.page.0) (λ row. frame ≡ row.frame) → IfOk r (λ answer. FreesBut h (frame ∷ []) answer k k2 before after) → OnOk r (IfSome spared (λ it. IsHere k2 it))
-keeps_spared (Ok answer) header h k k2 spared key frame before after is to_copy told frees =
-    let here : IsHere k key = (subst (λ (z : Option PageKey). IsToCopy header h k z before) is to_copy).1 in
-    subst (λ (z : Option PageKey). IfSome z (λ it. IsHere k2 it)) (sym is)
-    (here.0, spared_here h answer k k2 before after key here (subst (λ (z : FrameNo). FreesBut h (z ∷ []) answer k k2 before after) (frame_of_row k key frame here told) frees), here.2)
-keeps_spared (Err e) header h k k2 spared key frame before after is to_copy told frees = tt
-
 -- the front of the frame queue has to wait
 
 -- a page that is here has a row that says so
@@ -570,21 +530,36 @@ here_row : (fs : FrameTable) (x : Option PageRow) (lacked : Bool) → (local_of_
 here_row fs None lacked bad = absurd (let no : false ≡ true = bad in cc)
 here_row fs (Some row) lacked is = (row, refl, is)
 
--- each page that is here is the one that is spared, and that was to be copied at a moment: so nothing can be reclaimed
-pub exhausted : (header : Header) (h : ℕ) (k : Parts) (ids : Ids) (spared : Option PageKey) (moment past : List Event) → Matches header h k ids [] past → IfSome spared (λ key. IsSource header h key.object.0 key.page.0 moment)
-    → ((o p : ℕ) (row : PageRow) → row_at k.memory.resident o p ≡ Some row → row.here ≡ true → spared ≡ Some (page_key o p)) → IsExhausted header h moment past
-exhausted header h k ids spared moment past m source each =
+-- each page that is here is the one that is spared, and that was to be copied at a moment, or somebody waits for its unlock: so nothing can be reclaimed
+pub exhausted : (header : Header) (h : ℕ) (k : Parts) (ids : Ids) (spared : Option PageKey) (moment past : List Event) → Rests header h k ids past → IfSome spared (λ key. IsSource header h key.object.0 key.page.0 moment)
+    → ((o p : ℕ) (row : PageRow) → row_at k.memory.resident o p ≡ Some row → row.here ≡ true → (spared ≡ Some (page_key o p)) ⊎ (row.unlock_sent ≡ true)) → IsExhausted header h moment past
+exhausted header h k ids spared moment past rests source each =
     record {
-      held = λ o p here. inr (subst (λ (z : Option PageKey). IfSome z (λ key. IsSource header h key.object.0 key.page.0 moment)) (only o p here) source);
-      one = λ o p q u here there waited waits.
-          let same : page_key o p ≡ page_key q u = some_is (page_key o p) (page_key q u) (sym (only o p here) ∙ only q u there) in
-          (ap (λ (z : PageKey). z.object.0) same, ap (λ (z : PageKey). z.page.0) same);
+      held = λ o p here. elim (only o p here) [
+        | inl one ↦ inr (subst (λ (z : Option PageKey). IfSome z (λ key. IsSource header h key.object.0 key.page.0 moment)) one source)
+        | inr waits ↦ inl waits
+      ];
+      one = λ o p q u here there waited waits. elim (only o p here) [
+        | inl this ↦ elim (only q u there) [
+          | inl that ↦
+              let same : page_key o p ≡ page_key q u = some_is (page_key o p) (page_key q u) (sym this ∙ that) in
+              (ap (λ (z : PageKey). z.object.0) same, ap (λ (z : PageKey). z.page.0) same)
+          | inr other ↦ absurd (waits other)
+        ]
+        | inr other ↦ absurd (waited other)
+      ];
     }
   where
-    only : (o p : ℕ) → (local header.size h (place_of o p) past).here ≡ true → spared ≡ Some (page_key o p)
+    m : Matches header h k ids [] past
+    m = rests.matches
+
+    only : (o p : ℕ) → (local header.size h (place_of o p) past).here ≡ true → (spared ≡ Some (page_key o p)) ⊎ WaitsUnlocked header h o p past
     only o p here =
         let row = here_row k.memory.frames (row_at k.memory.resident o p) (absent_at k.memory.objects o p) (ap (λ z. z.here) (sym (m.pages.shown o p)) ∙ here) in
-        each o p row.0 row.1 row.2
+        elim (each o p row.0 row.1 row.2) [
+          | inl one ↦ inl one
+          | inr sent ↦ inr (waits_unlocked header h k ids past o p row.0 m rests.waits row.1 row.2 sent)
+        ]
 
 -- the page that is to be copied is so
 pub source_of : (header : Header) (h : ℕ) (k : Parts) (source : Option PageKey) (past : List Event) → IsToCopy header h k source past → IfSome source (λ key. IsSource header h key.object.0 key.page.0 past)
@@ -600,4 +575,4 @@ full_after header h k k2 ids spared answer past after rests none source r (inl r
 full_after header h k k2 ids spared answer past after rests none source r (inr nothing) =
     let all = r.nothing nothing in
     let still = subst (λ (z : List Event). IfSome spared (λ key. IsSource header h key.object.0 key.page.0 z)) (sym all.0) (source_of header h k spared past source) in
-    record { none = free_is header h k2.memory.frames after rests.matches.frames ∙ (all.2 ∙ none); why = inr (exhausted header h k2 ids spared after after rests.matches still all.1) }
+    record { none = free_is header h k2.memory.frames after rests.matches.frames ∙ (all.2 ∙ none); why = inr (exhausted header h k2 ids spared after after rests still all.1) }

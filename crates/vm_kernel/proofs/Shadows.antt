@@ -1,5 +1,5 @@
 -- What a shadow leaves of the kernel, which a store's region gets first where that is marked.
-use Rattle.vm_kernel.proofs.Common.{ChainTable, Event, HasEntries, Header, HostParts, Ids, Inside, IsInside, List, Matches, None, ObjectId, ObjectTable, Parts, PutsObject, Region, RegionRow, SameMarks, Some, Works, [], ap, arith, false, has_region, home_of, if◌then◌else◌, inl, inr, is_some, local_of_row, marked_regions, next_object, next_region, object_at, one_case, pages_in, refl, region_at, region_pages, row_at, rows_in, rows_map, some_is, subst, sym, true, waiting, ℕ, ◌+◌, ◌-◌, ◌<◌, ◌==◌, ◌∙◌, ◌∷◌, ◌≡◌, ◌≤◌, ◌⊎◌}
+use Rattle.vm_kernel.proofs.Common.{ChainTable, Event, HasEntries, Header, HostParts, Ids, Inside, IsInside, List, Matches, None, ObjectId, ObjectTable, Parts, PutsObject, Region, RegionRow, SameMarks, Some, Works, [], ap, arith, false, has_region, home_of, if◌then◌else◌, inl, inr, is_some, is_woken, local_of_row, marked_regions, next_object, next_region, object_at, one_case, pages_in, refl, region_at, region_pages, row_at, rows_in, rows_map, some_is, subst, sym, true, waiting, ℕ, ◌+◌, ◌-◌, ◌<◌, ◌==◌, ◌∙◌, ◌∷◌, ◌≡◌, ◌≤◌, ◌⊎◌}
 use Rattle.vm_abroad.proofs.Home.{home_shadowed, named_objects, object_stays}
 use Rattle.vm_abroad.specs.Home.{first_of, region_for}
 use Rattle.vm_base.specs.Limits.{most_objects}
@@ -23,6 +23,8 @@ use Rattle.vm_state.proofs.Shadowing.{regions_shadowed}
 use Rattle.vm_state.proofs.Told.{knows_made}
 use Rattle.vm_supply.specs.declared.woken.Woken.TheVariants as woken
 use Rattle.vm_kernel.proofs.Making.{controls_made, new_object}
+use Rattle.vm_kernel.proofs.Replied.{replied_behind}
+use Rattle.vm_state.specs.References.{is_live_in}
 
 -- each region is as it was, but for its top and its mark
 pub record KeepsRegions (old new : ChainTable) : Type 0 where
@@ -119,12 +121,13 @@ shadowed_with header h past k ids region object row chains objects works there m
           fills = m.homeless.fills;
         };
         settled = record { returned = refl; shut = λ r. refl };
+        replied = replied_behind tt m.replied;
         laundry = m.laundry;
         frames = m.frames;
       };
       used = λ r found is. let was = keeps.row r found is in subst (λ (z : ℕ). 0 < z) (sym was.2) (works.used r was.0 was.1);
-      referred = referred_shadowed region.0 object row (new_object row.pages) k.chains chains k.memory.objects objects k.memory.resident made put (omega arith) works.referred;
-      waits = waits_shadowed k.maps k.chains chains k.memory.resident k.memory.objects objects k.waits.rows woken.Nobody (λ u. waiting u past) region.0 object row works.waits there made
+      referred = referred_shadowed region.0 object row (new_object row.pages) k.chains chains k.memory.objects objects k.memory.resident made put (omega arith) (λ is. absurd (let bad : false ≡ true = sym (ap is_live_in unknown) ∙ is in cc)) works.referred;
+      waits = waits_shadowed k.maps k.chains chains k.memory.resident k.memory.objects objects k.waits.rows (is_woken woken.Nobody) (λ u. waiting u past) region.0 object row works.waits there made
           (subst (λ (z : ℕ). ObjectsBelow z k.chains) (sym number) (objects_below m.regions)) (knows_made k.memory.objects objects object.0 (new_object row.pages) unknown put);
       order = works.order;
     }

@@ -1,5 +1,5 @@
 -- A fork makes a child, and gives it what is shared, and copies of what is copied, one entry after another.
-use Rattle.vm_kernel.proofs.Common.{Access, AllRows, AllUsed, AreEntries, ArePlain, CanShare, ChainTable, ChangesOnly, Command, Enters, Entry, Event, Fit, HasEntries, HasWaiters, HasWholePages, HaveHomes, Header, HostParts, Ids, InOrder, IsInside, IsShared, IsSome, List, Mapped, None, Option, Outside, Parts, PutsEntries, Ran, RegionRow, Rests, Shares, Some, Starts, Target, TaskId, [], all_tasks, ap, arith, code_where, copies, copy_target, count_again, count_by, drop, entered, entering, entries_in, entries_in_row, entries_of, entry, entry_at, eqb_tells, false, got, has_region, head, holds, home_stays, homes_next, host_id, host_of, if◌then◌else◌, in_use, inl, inr, is_copied, is_filled, is_fork_full, is_none, is_range, is_some, length, length_entered, lives_on, most_entries, named, nat_tests, next_region, one_case, pages_in, refl, region_at, region_entries, region_of, region_pages, reverse, reverse-append, rows_entered, rows_in, rows_map, slice_get, slice_get_within, some_is, subst, sym, tasks, true, unwrap_or, waiting, ℕ, ◌%◌, ◌*◌, ◌++◌, ◌+◌, ◌/◌, ◌<◌, ◌==◌, ◌^◌, ◌∙◌, ◌∷◌, ◌≡◌, ◌≢◌, ◌≤◌}
+use Rattle.vm_kernel.proofs.Common.{Access, AllRows, AllUsed, AreEntries, ArePlain, CanShare, ChainTable, ChangesOnly, Command, Enters, Entry, Event, Fit, HasEntries, HasWaiters, HasWholePages, HaveHomes, Header, HostParts, Ids, InOrder, IsInside, IsShared, IsSome, List, Mapped, None, Option, Outside, Parts, PutsEntries, Ran, RegionRow, Rests, Shares, Some, Starts, Target, TaskId, [], all_tasks, ap, arith, code_where, copies, copy_target, count_again, count_by, drop, entered, entering, entries_in, entries_in_row, entries_of, entry, entry_at, eqb_tells, false, got, has_region, head, holds, home_stays, homes_next, host_id, host_of, if◌then◌else◌, in_use, inl, inr, is_copied, is_filled, is_fork_full, is_none, is_range, is_some, is_woken, length, length_entered, lives_on, most_entries, named, nat_tests, next_region, one_case, pages_in, refl, region_at, region_entries, region_of, region_pages, reverse, reverse-append, rows_entered, rows_in, rows_map, slice_get, slice_get_within, some_is, subst, sym, tasks, true, unwrap_or, waiting, ℕ, ◌%◌, ◌*◌, ◌++◌, ◌+◌, ◌/◌, ◌<◌, ◌==◌, ◌^◌, ◌∙◌, ◌∷◌, ◌≡◌, ◌≢◌, ◌≤◌}
 use Rattle.std.proofs.Common.{nat_lt}
 use Rattle.vm_abroad.proofs.Elsewhere.{filled_other}
 use Rattle.vm_abroad.proofs.Home.{object_stays}
@@ -38,6 +38,7 @@ use Rattle.vm_kernel.proofs.Sharing.{kinds_recounted, shared_entered}
 use Rattle.vm_kernel.proofs.Uses.{holds_rows, paged_file, paged_temporary, unfilled, uses_entered}
 use Rattle.vm_kernel.proofs.After.{controls_stay, regions_behind}
 use Rattle.vm_kernel.proofs.Rewrites.{lives_below}
+use Rattle.vm_kernel.proofs.Replied.{replied_behind}
 
 -- One entry is shared.
 
@@ -159,8 +160,8 @@ rests_shared header h outside doing task row past k k2 ids before after rests ma
     let free = free_of k.maps.size row (rows_in task.0 k.maps) may.free in
     let waits_at = λ (t : ℕ). waiting t past in
     let none = no_row (entry k.waits.rows task.0) (waiting task.0 past) (rests.waits.is task.0 (ap is_some lives)) may.idle in
-    let now_waits : HasWaiters k2.maps k2.chains k.memory.resident k.memory.objects k.waits.rows woken.Nobody waits_at =
-    waits_changed k.maps k2.maps k.chains k2.chains k.memory.resident k.memory.objects k.waits.rows woken.Nobody waits_at task.0 (Some (entered row (rows_in task.0 k.maps))) rests.waits s.maps none (keeps_recounted k.chains k2.chains recount)
+    let now_waits : HasWaiters k2.maps k2.chains k.memory.resident k.memory.objects k.waits.rows (is_woken woken.Nobody) waits_at =
+    waits_changed k.maps k2.maps k.chains k2.chains k.memory.resident k.memory.objects k.waits.rows (is_woken woken.Nobody) waits_at task.0 (Some (entered row (rows_in task.0 k.maps))) rests.waits s.maps none (keeps_recounted k.chains k2.chains recount)
     (told_changed k.maps k2.maps k.waits.rows waits_at task.0 (rows_in task.0 k.maps) (Some (entered row (rows_in task.0 k.maps))) rests.waits.is s.maps lives) in
     record {
       matches =
@@ -190,6 +191,7 @@ rests_shared header h outside doing task row past k k2 ids before after rests ma
             controls = rw s.memory (controls_stay (λ o at_home. object_stays o h e past at_home) m.controls);
             homeless = homes_next header outside e past (doing, share_enters header h task row past k ids rests may) m.homeless;
             settled = record { returned = refl; shut = λ region. refl };
+            replied = replied_behind tt m.replied;
             laundry = rw (s.memory, s.laundry) m.laundry;
             frames = rw s.memory m.frames;
           };

@@ -1,11 +1,12 @@
--- Who waits for a page that is asked has a row that says so, but in the frame queue.
+-- Who waits for a page has a row that says so, but in the frame queue.
 use Rattle.vm_kernel.proofs.Common.{Access, AllInner, Asked, Awaits, Bool, Command, Down, EndsAll, EndsEach, Event, HasPlace, HasQueue, Header, Ids, IsPagerTold, LegalEvents, List, Local, Message, None, ObjectId, ObjectTable, On, Option, Outside, PageRow, Parts, Reason, Rests, Some, Waiting, Waits, WaitsAt, [], absent_at, access_in, ap, append-nil, before_more, before_step, entry, error_more, error_taken, false, frames_free, host_id, if◌then◌else◌, inl, inr, is_again, is_control, is_frame, is_ready_state, is_some, is_store, live_control, local, local_of_row, none_again, none_queued, object_at, page_key, page_of, place_of, ready_in, refl, row_at, some_is, subst, sym, true, ℕ, ◌&&◌, ◌++◌, ◌∙◌, ◌∷◌, ◌≡◌}
 use Rattle.vm_model.specs.declared.event.Event.TheVariants as event
 use Rattle.vm_model.specs.declared.message.Message.TheVariants as message
 use Rattle.vm_waits.specs.declared.waiting.On.TheVariants as on
 use Rattle.vm_kernel.proofs.Prompting.{has_row, at_home}
 use Rattle.vm_kernel.proofs.Shown.{shown_at, waiting_place}
-use Rattle.vm_state.proofs.Shown.{awaits_page, awaits_ready}
+use Rattle.vm_state.proofs.Locks.{awaits_word}
+use Rattle.vm_state.proofs.Shown.{awaits_ready}
 use Rattle.std.proofs.lemmas.Bool.{not-true}
 
 -- a pager that was told of its object isn't ready
@@ -39,7 +40,7 @@ waits_there header h k ids past task object page w (on.Page key) rests queue fou
     let here = ap is_some (rests.waits.allowed task w found).lives in
     let reason : Reason k.maps k.chains k.memory.resident k.memory.objects task w.want (on.Page key) =
     subst (λ (z : On). Reason k.maps k.chains k.memory.resident k.memory.objects task w.want z) is (rests.waits.reasons task w found refl) in
-    let same = only key.object.0 key.page.0 (waiting_place m reason.0 here waits) (awaits_page (shown_at m) key.object.0 key.page.0 reason.1 (is_store (access_in w.want))) in
+    let same = only key.object.0 key.page.0 (waiting_place m reason.0 here waits) (awaits_word (shown_at m) key.object.0 key.page.0 w.want reason.1) in
     λ i. on.Page (page_key (same.0 i) (same.1 i))
 waits_there header h k ids past task object page w on.Frame rests (inl none) found is waits only ready frees =
     absurd (let bad : true ≡ false = sym (ap is_frame is) ∙ none_queued k.waits.rows task w none found in cc)

@@ -1,5 +1,5 @@
 -- No entry leads to a region any more: it goes, and its top has one reference less.
-use Rattle.vm_kernel.proofs.Common.{AllEntriesInside, AllRows, AllUsed, Bool, ChainTable, Command, EndsObject, EndsRegion, Entry, Event, HasControls, HasEntries, Header, Ids, IfSome, Inside, IsInStep, IsReferred, IsSome, List, Mapped, Matches, None, ObjectId, ObjectRow, ObjectTable, Option, Outside, Parts, PutsObject, PutsRegion, RegionRow, SameMarks, Some, Sweeps, [], all_tasks, ap, arith, backing_of, count_by, count_on, entries_in_row, eqb_tells, false, fit_objects, has_entry, has_region, home_of, inl, inr, is_some, last_in, live_in, local_of_row, marked_regions, nat_lt, nat_tests, next_object, next_region, object_at, one_case, pages_in, ready_in, refl, region_at, region_entries, region_of, row_at, rows_in, same_pages, some_is, subst, sym, true, unwrap_or, waiting, ℕ, ◌++◌, ◌+◌, ◌-◌, ◌<◌, ◌^◌, ◌∙◌, ◌∷◌, ◌≡◌, ◌≢◌, ◌≤◌}
+use Rattle.vm_kernel.proofs.Common.{AllEntriesInside, AllRows, AllUsed, Bool, ChainTable, Command, EndsObject, EndsRegion, Entry, Event, HasControls, HasEntries, Header, Ids, IfSome, Inside, IsInStep, IsReferred, IsSome, List, Mapped, Matches, None, ObjectId, ObjectRow, ObjectTable, Option, Outside, Parts, PutsObject, PutsRegion, RegionRow, SameMarks, Some, Sweeps, [], all_tasks, ap, arith, backing_of, count_by, count_on, entries_in_row, eqb_tells, false, fit_objects, has_entry, has_region, home_of, inl, inr, is_some, is_woken, last_in, live_in, local_of_row, marked_regions, nat_lt, nat_tests, next_object, next_region, object_at, one_case, pages_in, ready_in, refl, region_at, region_entries, region_of, row_at, rows_in, same_pages, some_is, subst, sym, true, unwrap_or, waiting, ℕ, ◌++◌, ◌+◌, ◌-◌, ◌<◌, ◌^◌, ◌∙◌, ◌∷◌, ◌≡◌, ◌≢◌, ◌≤◌}
 use Rattle.vm_supply.specs.declared.woken.Woken.TheVariants as woken
 use Rattle.vm_kernel.proofs.Counts.{by_zero, on_zero}
 use Rattle.vm_kernel.proofs.Regions.{region_row}
@@ -12,6 +12,7 @@ use Rattle.vm_state.proofs.Places.{waits_without}
 use Rattle.vm_state.proofs.Referred.{all_with, but_ended}
 use Rattle.vm_state.proofs.Referring.{refers_region}
 use Rattle.vm_state.proofs.Told.{waits_referred}
+use Rattle.vm_state.specs.References.{is_live_in}
 
 -- no entry leads to a region that counts none
 
@@ -195,11 +196,12 @@ runs_gone header h outside doing past k ids rest r left events object chains obj
         controls = controls_referred top left was k.memory.objects objects _ _ _ loses.known loses.put m.controls;
         homeless = m.homeless;
         settled = m.settled;
+        replied = m.replied;
         laundry = m.laundry;
         frames = m.frames;
       };
-      waits = waits_referred k.maps chains k.memory.resident k.memory.objects objects k.waits.rows woken.Nobody (λ t. waiting t moment) top left was
-          (waits_without k.maps k.chains chains k.memory.resident k.memory.objects k.waits.rows woken.Nobody (λ t. waiting t moment) r e.runs.waits loses.region (no_entry header.size k.maps k.chains rest r m.entries e.there e.none)) loses.known loses.put;
+      waits = waits_referred k.maps chains k.memory.resident k.memory.objects objects k.waits.rows (is_woken woken.Nobody) (λ t. waiting t moment) top left was
+          (waits_without k.maps k.chains chains k.memory.resident k.memory.objects k.waits.rows (is_woken woken.Nobody) (λ t. waiting t moment) r e.runs.waits loses.region (no_entry header.size k.maps k.chains rest r m.entries e.there e.none)) loses.known loses.put;
       order = e.runs.order;
       idle = e.runs.idle;
       grows = e.runs.grows;
@@ -218,7 +220,7 @@ sweeps_region header h outside doing past k ids rest r left events object chains
     record {
       runs = runs_gone header h outside doing past k ids rest r left events object chains objects e loses;
       used = used_gone header h outside doing past k ids rest r events chains e loses.region;
-      referred = all_with top chains objects k.memory.resident (but_ended r None top now k.chains chains k.memory.objects objects k.memory.resident loses.region loses.put e.referred)
+      referred = all_with top chains objects k.memory.resident (but_ended r None top now k.chains chains k.memory.objects objects k.memory.resident loses.region loses.put (λ is. sym (ap is_live_in loses.known) ∙ is) e.referred)
           (record { row = now; known = known_put top now k.memory.objects objects loses.put; some = some });
     }
 
@@ -235,5 +237,5 @@ ends_top header h outside doing past k ids rest r left events object chains obje
       row = now;
       known = known_put top now k.memory.objects objects loses.put;
       none = none;
-      referred = but_ended r None top now k.chains chains k.memory.objects objects k.memory.resident loses.region loses.put e.referred;
+      referred = but_ended r None top now k.chains chains k.memory.objects objects k.memory.resident loses.region loses.put (λ is. sym (ap is_live_in loses.known) ∙ is) e.referred;
     })

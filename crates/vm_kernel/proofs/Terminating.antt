@@ -1,5 +1,5 @@
 -- An object to which nothing refers: its pages go, its control ends, where one lives, and what stood under it has one reference less.
-use Rattle.vm_kernel.proofs.Common.{AllEntriesInside, AllUsed, Bool, Caused, ChainTable, Command, Does, Drops, Elsewhere, EndsObject, Entry, Event, FrameTable, HasControls, HasEntries, HasFrames, HasKinds, HasPages, HasWaiters, HaveHomes, Header, HostParts, Ids, Inside, IsInStep, IsInside, IsOfKind, IsReferred, List, Local, LocalEffect, Mapped, Matches, None, ObjectId, ObjectRow, ObjectTable, Option, Outside, PageKey, PageRow, Parts, PutsAbsent, PutsObject, Reach, RegionRow, ResidentTable, ReturnCause, Returns, SameMarks, SameObjects, Some, Sweeps, Unreached, Up, Below, Changes, Fit, LaundryList, Region, [], absent_at, all_tasks, ap, arith, away, backing_of, count_by, entries_in, entries_of, eqb_tells, false, fit_objects, frames_held, frames_wired, has_entry, has_region, home_of, host_id, if◌then◌else◌, in_use, inl, inr, is_control, is_ready, is_some, last_control, last_in, length, live_control, live_in, local, local_after, local_of_row, marked_regions, named, nat_lt, nat_tests, next_object, next_region, not, object_at, one_case, page_in, pages_in, pages_of_row, paging, place_of, queues_except, ready_in, refl, region_at, region_of, returns_out, reverse, row_at, row_cases, rows_in, rows_map, same_pages, slice_get, some_is, subst, sym, true, waiting, without_control, zero, suc, ℕ, ◌++◌, ◌+◌, ◌-◌, ◌&&◌, ◌<◌, ◌==◌, ◌^◌, ◌||◌, ◌≤◌, ◌∙◌, ◌∷◌, ◌≡◌, ◌⊎◌}
+use Rattle.vm_kernel.proofs.Common.{AllEntriesInside, AllUsed, Below, Bool, Caused, ChainTable, Changes, Command, Does, Drops, Elsewhere, EndsObject, Entry, Event, Fit, FrameTable, HasControls, HasEntries, HasFrames, HasKinds, HasPages, HasWaiters, HaveHomes, Header, HostParts, Ids, Inside, IsInStep, IsInside, IsOfKind, IsReferred, LaundryList, List, Local, LocalEffect, Mapped, Matches, None, ObjectId, ObjectRow, ObjectTable, Option, Outside, PageKey, PageRow, Parts, PutsAbsent, PutsObject, Reach, Region, RegionRow, ResidentTable, ReturnCause, Returns, SameMarks, SameObjects, Some, Sweeps, Unreached, Up, [], absent_at, all_tasks, ap, arith, away, backing_of, count_by, entries_in, entries_of, eqb_tells, false, fit_objects, frames_held, frames_wired, has_entry, has_region, home_of, host_id, if◌then◌else◌, in_use, inl, inr, is_control, is_ready, is_some, is_woken, last_control, last_in, length, live_control, live_in, local, local_after, local_of_row, marked_regions, named, nat_lt, nat_tests, next_object, next_region, not, object_at, one_case, page_in, pages_in, pages_of_row, paging, place_of, queues_except, ready_in, refl, region_at, region_of, returns_out, reverse, row_at, row_cases, rows_in, rows_map, same_pages, slice_get, some_is, subst, suc, sym, true, waiting, without_control, zero, ℕ, ◌&&◌, ◌++◌, ◌+◌, ◌-◌, ◌<◌, ◌==◌, ◌^◌, ◌||◌, ◌∙◌, ◌∷◌, ◌≡◌, ◌≤◌, ◌⊎◌}
 use Rattle.std.proofs.lemmas.Bool.{or_parts}
 use Rattle.vm_kernel.specs.Fits.{ArePlain}
 use Rattle.vm_legal.specs.Licences.{DropCause, Ended, IsUnheld}
@@ -27,17 +27,19 @@ use Rattle.vm_kernel.proofs.Regions.{region_row}
 use Rattle.vm_kernel.proofs.Returning.{controls_same}
 use Rattle.vm_kernel.proofs.Strands.{controls_referred}
 use Rattle.vm_kernel.proofs.Washing.{laundry_returned}
+use Rattle.vm_kernel.proofs.Replied.{replied_behind}
 use Rattle.vm_state.proofs.Changing.{regions_controlled}
 use Rattle.vm_state.proofs.Declared.{kind_cases, kind_referred, kinds_dropped, kinds_put, kinds_same, whole_row}
 use Rattle.vm_state.proofs.Files.{files_put, files_same}
 use Rattle.vm_state.proofs.Going.{regions_dropped}
 use Rattle.vm_state.proofs.Knowing.{known_put}
-use Rattle.vm_state.proofs.Places.{told_apart, waits_dropped}
+use Rattle.vm_state.proofs.Places.{told_apart, unsent_apart, waits_dropped}
 use Rattle.vm_state.proofs.Reaching.{chain_known}
 use Rattle.vm_state.proofs.Referred.{but_dropped, but_gone, but_known, referred_dropped}
 use Rattle.vm_state.proofs.Referring.{unreferred_region, unreferred_shadow}
 use Rattle.vm_state.proofs.Told.{waiters_lost, waits_told}
 use Rattle.vm_state.specs.Places.{known_local}
+use Rattle.vm_state.specs.References.{is_live_in}
 
 -- no region that is in use leads to it
 
@@ -88,6 +90,14 @@ unheld header h k ids rest past o row m known none declared task lives = by_test
         let there = region_row k.chains o (entry_there header.size o k.chains (rows_in task k.maps) (m.entries.inside task) (sym (ap (has_entry o) (m.tasks.rows task here)) ∙ is)) in
         absurd (unreferred_region m.regions o row known none o there.0 there.1 (whole_row m.regions m.homeless o there.0 declared there.1).top)
 
+-- nobody waits for the unlock of a page of it
+unsent : (header : Header) (h : ℕ) (outside : Outside) (doing : Command) (past : List Event) (k : Parts) (ids : Ids) (rest : List Entry) (key : PageKey) (row : PageRow) (events : List Event)
+    → EndsObject header h outside doing past k ids rest key.object.0 events → row_at k.memory.resident key.object.0 key.page.0 ≡ Some row → row.unlock_sent ≡ false
+unsent header h outside doing past k ids rest key row events e found =
+    let m = e.runs.matches in
+    unsent_apart k.maps k.chains k.memory.resident k.memory.objects k.waits.rows (is_woken woken.Nobody) (λ t. waiting t (events ++ past)) key.object.0 key.page.0 row e.runs.waits
+    (unreferred_region m.regions key.object.0 e.row e.known e.none) (unreferred_shadow m.regions key.object.0 e.row e.known e.none) found
+
 -- a page of it goes
 pub ends_lost : (header : Header) (h : ℕ) (outside : Outside) (doing : Command) (past : List Event) (k : Parts) (ids : Ids) (rest : List Entry) (key : PageKey) (row : PageRow) (memory : HostParts) (events : List Event)
     → EndsObject header h outside doing past k ids rest key.object.0 events → ((q : ℕ) → q < key.page.0 → row_at k.memory.resident key.object.0 q ≡ None) → row.here ≡ true → (key.object.0 < named header → (row.dirty || row.precious) ≡ false) → Discards key row k.memory memory
@@ -120,6 +130,7 @@ ends_lost header h outside doing past k ids rest key row memory events e first i
           controls = rw objects (controls_after leaves m.controls);
           homeless = homeless_after leaves m.homeless;
           settled = record { returned = refl; shut = λ region. refl };
+          replied = replied_behind tt m.replied;
           laundry = laundry_changed key row.frame _ _ _ _ _ k.memory memory k.laundry (returns_out h moment) m.laundry c;
           frames = frames2;
         };
@@ -157,14 +168,14 @@ ends_lost header h outside doing past k ids rest key row memory events e first i
     is = m.pages.shown o p ∙ ap (λ z. local_of_row k.memory.frames z (absent_at k.memory.objects o p)) c.found
 
     seen : IsSeen (known_local header o p (local header.size h (place_of o p) (events ++ past))) row (page_in k.memory.frames row.frame.0)
-    seen = seen_here k.memory.frames row (absent_at k.memory.objects o p) (known_local header o p (local header.size h (place_of o p) (events ++ past))) is is_here (m.fits.plain o p row c.found)
+    seen = seen_here k.memory.frames row (absent_at k.memory.objects o p) (known_local header o p (local header.size h (place_of o p) (events ++ past))) is is_here
 
     least : (q : ℕ) → q < p → (local header.size h (place_of o q) (events ++ past)).here ≡ false
     least q low = ap (λ z. z.here) (m.pages.shown o q ∙ ap (λ z. local_of_row k.memory.frames z (absent_at k.memory.objects o q)) (first q low))
 
     why : DropCause header doing h o p (local header.size h (place_of o p) (events ++ past)) (events ++ past)
     why = elim (kind_cases header o) [
-      | inl declared ↦ Ended (seen.dirty ∙ (or_parts row.dirty row.precious (clean declared)).0) seen.precious declared (unheld header h k ids rest (events ++ past) o e.row m e.known e.none declared)
+      | inl declared ↦ Ended (seen.dirty ∙ (or_parts row.dirty row.precious (clean declared)).0) (seen.precious ∙ (or_parts row.dirty row.precious (clean declared)).1) declared (unheld header h k ids rest (events ++ past) o e.row m e.known e.none declared)
       | inr temporary ↦ Unreached temporary (unreached header h k ids rest (events ++ past) o e.row m e.known e.none temporary) least
     ]
 
@@ -174,7 +185,7 @@ ends_lost header h outside doing past k ids rest key row memory events e first i
     plain2 : ArePlain memory.resident
     plain2 o2 p2 row2 found = elim (row_cases o p None k.memory.resident memory.resident c.row o2 p2) [
       | inl put ↦ absurd (let bad : None ≡ Some row2 = sym put.is ∙ found in cc)
-      | inr other ↦ m.fits.plain o2 p2 row2 (sym other.is ∙ found)
+      | inr other ↦ λ away. m.fits.plain o2 p2 row2 (sym other.is ∙ found) away
     ]
 
     pages2 : HasPages memory.frames memory.resident k.memory.objects (λ o2 p2. known_local header o2 p2 (local header.size h (place_of o2 p2) (event.Dropped (host_id h) key.object key.page ∷ (events ++ past))))
@@ -186,8 +197,8 @@ ends_lost header h outside doing past k ids rest key row memory events e first i
     frames2 : HasFrames (slice_get (reverse header.frames.items) h) memory.frames (frames_held header.size h (event.Dropped (host_id h) key.object key.page ∷ (events ++ past))) (frames_wired h (event.Dropped (host_id h) key.object key.page ∷ (events ++ past)))
     frames2 = rw (own_host h) (frames_changed (slice_get (reverse header.frames.items) h) key row.frame _ _ _ _ _ k.memory memory (frames_held header.size h moment) (frames_held header.size h moment - 1) (frames_wired h moment) m.frames c (λ held. let less = c.claims in omega arith))
 
-    waits2 : HasWaiters k.maps k.chains memory.resident k.memory.objects k.waits.rows woken.Nobody (λ t. waiting t (events ++ past))
-    waits2 = waiters_lost k.maps k.chains k.memory.resident memory.resident k.memory.objects k.memory.objects k.waits.rows woken.Nobody (λ t. waiting t (events ++ past)) o p row e.runs.waits c.found is_here c.row (λ object told. told) (λ object is. is)
+    waits2 : HasWaiters k.maps k.chains memory.resident k.memory.objects k.waits.rows (is_woken woken.Nobody) (λ t. waiting t (events ++ past))
+    waits2 = waiters_lost k.maps k.chains k.memory.resident memory.resident k.memory.objects k.memory.objects k.waits.rows (is_woken woken.Nobody) (λ t. waiting t (events ++ past)) o p row e.runs.waits c.found is_here (unsent header h outside doing past k ids rest key row events e c.found) c.row (λ object told. told) (λ object is. is)
 
 -- and is off the lists
 
@@ -288,10 +299,11 @@ ends_returned header h outside doing past k ids rest key known row memory laundr
           controls = controls_after leaves (controls_same k.memory.objects memory.objects (λ o2. last_control h o2 moment) (λ o2. live_control h o2 moment) (λ o2. is_ready h o2 moment) m.controls goes.objects.at);
           homeless = homeless_after leaves m.homeless;
           settled = record { returned = refl; shut = λ region. refl };
+          replied = replied_behind tt m.replied;
           laundry = rw (own_host h) (laundry_returned key row _ _ k.memory memory k.laundry laundry (returns_out h moment) m.laundry c goes.held goes.room);
           frames = frames2;
         };
-        waits = waiters_lost k.maps k.chains k.memory.resident memory.resident k.memory.objects memory.objects k.waits.rows woken.Nobody (λ t. waiting t moment) o p row e.runs.waits c.found goes.here c.row
+        waits = waiters_lost k.maps k.chains k.memory.resident memory.resident k.memory.objects memory.objects k.waits.rows (is_woken woken.Nobody) (λ t. waiting t moment) o p row e.runs.waits c.found goes.here (unsent header h outside doing past k ids rest key row events e c.found) c.row
             (λ object told. record { row = told.row; found = goes.objects.at object ∙ told.found; sent = told.sent }) (λ object is. ap ready_in (goes.objects.at object) ∙ is);
         order = e.runs.order;
         idle = e.runs.idle;
@@ -301,7 +313,7 @@ ends_returned header h outside doing past k ids rest key known row memory laundr
       row = e.row;
       known = goes.objects.at o ∙ e.known;
       none = e.none;
-      referred = but_known o known k.chains k.memory.objects memory.objects memory.resident put (but_gone o o p k.chains k.memory.objects k.memory.resident memory.resident c.row e.referred);
+      referred = but_known o known k.chains k.memory.objects memory.objects memory.resident put (λ p2 row2 found is. sym (ap is_live_in goes.found) ∙ is) (but_gone o o p k.chains k.memory.objects k.memory.resident memory.resident c.row e.referred);
     }
   where
     m : Matches header h k ids rest (events ++ past)
@@ -333,10 +345,10 @@ ends_returned header h outside doing past k ids rest key known row memory laundr
 
     seen : IsSeen (known_local header o p (local header.size h (place_of o p) (events ++ past))) row (page_in k.memory.frames row.frame.0)
     seen = seen_here k.memory.frames row (absent_at k.memory.objects o p) (known_local header o p (local header.size h (place_of o p) (events ++ past)))
-        (m.pages.shown o p ∙ ap (λ z. local_of_row k.memory.frames z (absent_at k.memory.objects o p)) c.found) goes.here (m.fits.plain o p row c.found)
+        (m.pages.shown o p ∙ ap (λ z. local_of_row k.memory.frames z (absent_at k.memory.objects o p)) c.found) goes.here
 
     due : ((local header.size h (place_of o p) (events ++ past)).dirty || (local header.size h (place_of o p) (events ++ past)).precious) ≡ true
-    due = ap (λ z. z || (local header.size h (place_of o p) (events ++ past)).precious) seen.dirty ∙ (ap (λ z. row.dirty || z) (seen.precious ∙ sym (m.fits.plain o p row c.found).precious) ∙ goes.wanted)
+    due = ap (λ z. z || (local header.size h (place_of o p) (events ++ past)).precious) seen.dirty ∙ (ap (λ z. row.dirty || z) seen.precious ∙ goes.wanted)
 
     why : ReturnCause header doing h o p false (events ++ past)
     why = Ended refl goes.declared (unheld header h k ids rest (events ++ past) o e.row m e.known e.none goes.declared)
@@ -505,10 +517,11 @@ ends_told header h outside doing past k ids rest object events row objects s non
           controls = controls_after leaves (rw (own_host h) (controls_quiet row.control o row k.memory.objects objects (λ o2. last_control h o2 moment) (λ o2. live_control h o2 moment) (λ o2. is_ready h o2 moment) m.controls found alive put));
           homeless = homeless_after leaves m.homeless;
           settled = record { returned = refl; shut = λ region. refl };
+          replied = replied_behind tt m.replied;
           laundry = m.laundry;
           frames = m.frames;
         };
-        waits = waits_told k.maps k.chains k.memory.resident k.memory.objects objects k.waits.rows woken.Nobody (λ t. waiting t moment) s.runs.waits
+        waits = waits_told k.maps k.chains k.memory.resident k.memory.objects objects k.waits.rows (is_woken woken.Nobody) (λ t. waiting t moment) s.runs.waits
             (told_apart k.maps k.chains k.memory.objects objects o (Some (quiet_row row)) put (unreferred_region m.regions o row found unreferred) (unreferred_shadow m.regions o row found unreferred))
             (λ o2 p page there is. elim (one_case o o2 (Some (quiet_row row)) (object_at k.memory.objects o2) (object_at objects o2) (put.at o2)) [
               | inl this ↦ absurd (let bad : None ≡ Some page = sym (subst (λ (z : ℕ). row_at k.memory.resident z p ≡ None) this.0 (none p)) ∙ there in cc)
@@ -522,7 +535,7 @@ ends_told header h outside doing past k ids rest object events row objects s non
       row = quiet_row row;
       known = known_put o (quiet_row row) k.memory.objects objects put;
       none = unreferred;
-      referred = but_known o (quiet_row row) k.chains k.memory.objects objects k.memory.resident put s.referred;
+      referred = but_known o (quiet_row row) k.chains k.memory.objects objects k.memory.resident put (λ p row2 there is. absurd (let bad : None ≡ Some row2 = sym (none p) ∙ there in cc)) s.referred;
     }
   where
     moment : List Event
@@ -622,10 +635,11 @@ runs_dropped header h outside doing past k ids rest o left row known events chai
         controls = controls_referred under left known k.memory.objects objects _ _ _ leaves.under leaves.put m.controls;
         homeless = m.homeless;
         settled = m.settled;
+        replied = m.replied;
         laundry = m.laundry;
         frames = m.frames;
       };
-      waits = waits_dropped k.maps k.chains chains k.memory.resident k.memory.objects objects k.waits.rows woken.Nobody (λ t. waiting t moment) o under left known e.runs.waits leaves.drops
+      waits = waits_dropped k.maps k.chains chains k.memory.resident k.memory.objects objects k.waits.rows (is_woken woken.Nobody) (λ t. waiting t moment) o under left known e.runs.waits leaves.drops
           (unreferred_region m.regions o e.row e.known e.none) (unreferred_shadow m.regions o e.row e.known e.none) leaves.under leaves.put;
       order = e.runs.order;
       idle = e.runs.idle;
@@ -643,7 +657,7 @@ sweeps_dropped header h outside doing past k ids rest o left row known events ch
     record {
       runs = runs_dropped header h outside doing past k ids rest o left row known events chains objects e leaves;
       used = used_dropped header h outside doing past k ids rest o events chains e leaves.drops;
-      referred = referred_dropped o row.under.0 (record known { references = left }) k.chains chains k.memory.objects objects k.memory.resident leaves.drops leaves.put some leaves.quiet leaves.bare e.referred;
+      referred = referred_dropped o row.under.0 (record known { references = left }) k.chains chains k.memory.objects objects k.memory.resident leaves.drops leaves.put some (λ is. sym (ap is_live_in leaves.under) ∙ is) leaves.quiet leaves.bare e.referred;
     }
 
 -- or nothing does, and it ends too
@@ -656,5 +670,5 @@ ends_dropped header h outside doing past k ids rest o row known events chains ob
       row = record known { references = 0 };
       known = known_put row.under.0 (record known { references = 0 }) k.memory.objects objects leaves.put;
       none = refl;
-      referred = but_dropped o row.under.0 (record known { references = 0 }) k.chains chains k.memory.objects objects k.memory.resident leaves.drops leaves.put leaves.quiet leaves.bare e.referred;
+      referred = but_dropped o row.under.0 (record known { references = 0 }) k.chains chains k.memory.objects objects k.memory.resident leaves.drops leaves.put (λ is. sym (ap is_live_in leaves.under) ∙ is) leaves.quiet leaves.bare e.referred;
     }

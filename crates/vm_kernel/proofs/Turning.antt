@@ -6,7 +6,7 @@ use Rattle.vm_model.specs.declared.message.Message.TheVariants as message
 use Rattle.vm_waits.specs.declared.waiting.On.TheVariants as on
 use Rattle.vm_supply.specs.declared.woken.Woken.TheVariants as woken
 use Rattle.vm_kernel.specs.Serving.{wants_frame}
-use Rattle.vm_kernel.specs.Turns.{Bare, ForCopy, IsFront, Shadow}
+use Rattle.vm_kernel.specs.Turns.{Bare, ForCopy, ForUnlock, IsFront, Shadow}
 use Rattle.vm_kernel.specs.declared.attempt.Attempt.{Attempt}
 use Rattle.vm_kernel.specs.declared.attempt.Attempt.TheVariants as attempt
 use Rattle.vm_kernel.proofs.Growing.{free_is}
@@ -62,6 +62,7 @@ pub did_kept : {rows rows2 : List Waiting} {earlier earlier2 : ℕ → Type 0} {
     → (claims ≡ true → (t : ℕ) → earlier2 t → earlier t × (entry rows2 t ≡ entry rows t)) → Did rows earlier task claims own → Did rows2 earlier2 task claims own
 did_kept mine others (Nothing front is) = Nothing front is
 did_kept mine others (Found front is end ends) = Found front is end ends
+did_kept mine others (ForUnlock front is host key control access) = ForUnlock front is host key control access
 did_kept mine others (ForZeros front is end host key ends) = ForZeros front is end host key ends
 did_kept mine others (ForCopy front is end host lower upper ends) = ForCopy front is end host lower upper ends
 did_kept mine others (ForAsked front is host key control steps row found waits none) =
@@ -167,6 +168,7 @@ front_begun t events past (Shadow region new old) = refl
 did_begun : {rows : List Waiting} {earlier : ℕ → Type 0} {task : TaskId} {claims : Bool} {own : List Event} (t : ℕ) (events past : List Event) → Did rows earlier task claims own → begun_at t ((own ++ events) ++ past) ≡ begun_at t (events ++ past)
 did_begun t events past (Nothing front is) = front_begun t events past is
 did_begun {task = task} t events past (Found front is end ends) = end_begun t task.0 end ((front ++ events) ++ past) ends ∙ front_begun t events past is
+did_begun t events past (ForUnlock front is host key control access) = front_begun t events past is
 did_begun {task = task} t events past (ForZeros front is end host key ends) = end_begun t task.0 end (event.Zeroed host key.object key.page ∷ ((front ++ events) ++ past)) ends ∙ front_begun t events past is
 did_begun {task = task} t events past (ForCopy front is end host lower upper ends) =
     end_begun t task.0 end (event.Raised host lower.object lower.page upper.object upper.page ∷ ((front ++ events) ++ past)) ends ∙ front_begun t events past is

@@ -24,6 +24,7 @@ matches_with queues buffers waits fit size m =
       controls = m.controls;
       homeless = m.homeless;
       settled = m.settled;
+      replied = m.replied;
       laundry = m.laundry;
       frames = m.frames;
     }

@@ -10,6 +10,7 @@ use Rattle.vm_kernel.proofs.Growing.{free_is, suffices}
 use Rattle.vm_kernel.proofs.Heads.{heads_one, passed, ran_head}
 use Rattle.vm_kernel.proofs.Own.{named_host, own_host}
 use Rattle.vm_kernel.proofs.Mine.{own_named}
+use Rattle.vm_kernel.proofs.Replied.{replied_behind}
 use Rattle.vm_state.specs.Places.{known_local}
 
 -- the frames, with another number wired
@@ -75,6 +76,7 @@ ran_wired header h outside doing past k ids wired rests few first done =
             homes = m.homes;
             files = m.files;
             settled = record { returned = refl; shut = λ region. refl };
+            replied = replied_behind tt m.replied;
             laundry = laundry_wired k.memory.frames k.memory.resident k.laundry (returns_out h past) wired m.laundry;
             frames = frames;
           };

@@ -9,15 +9,16 @@ use Rattle.vm_model.specs.Regions.{marked_regions, next_object, next_region}
 use Rattle.vm_legal.specs.Homes.{gives_frame}
 use Rattle.vm_abroad.specs.Home.{HaveHomes}
 use Rattle.vm_shadow.specs.declared.ids.Ids.{Ids}
-use Rattle.vm_kernel.specs.Matches.{IsSettled}
+use Rattle.vm_kernel.specs.Matches.{IsReplied, IsSettled}
 
--- what the kernels of all hosts say alike: the next numbers, how many regions are marked, and that no more can be than objects are left for
+-- what the kernels of all hosts say alike: the next numbers, how many regions are marked, that no more can be than objects are left for, and what waits for no event any more
 pub record IsCommon (header : Header) (ids : Ids) (past : List Event) : Type 0 where
   pub region : ids.next_region ≡ next_region header past
   pub object : ids.next_object ≡ next_object header past
   pub marks : ids.marks ≡ marked_regions header past
   pub few : next_object header past + marked_regions header past ≤ most_objects
   pub settled : IsSettled past
+  pub replied : IsReplied past
   pub homeless : HaveHomes header past
 
 -- an event of no host: a line, a refusal, what a pager says or its device does, and the taking of a message that gives no frame back

@@ -6,16 +6,16 @@ use Rattle.vm_resident.specs.declared.page_row.PageRow.{PageRow}
 use Rattle.vm_kernel.specs.declared.parts.Parts.{Parts}
 use Rattle.vm_parts.specs.Changes.{unlocked}
 
--- the row of a page of temporary memory: nothing of it is prohibited, and its pager doesn't want it back unchanged
+-- the row of a page that isn't here says nothing of locks yet
 pub record IsPlainRow (row : PageRow) : Type 0 where
   pub lock : row.lock ≡ unlocked
   pub precious : row.precious ≡ false
   pub unlock_sent : row.unlock_sent ≡ false
 
 abbrev pub ArePlain : ResidentTable → Type 0
-ArePlain resident = (o p : ℕ) (row : PageRow) → row_at resident o p ≡ Some row → IsPlainRow row
+ArePlain resident = (o p : ℕ) (row : PageRow) → row_at resident o p ≡ Some row → row.here ≡ false → IsPlainRow row
 
--- frames, rows, lists and objects fit, all rows are plain, and pages that are sent are as long as frames
+-- frames, rows, lists and objects fit, the rows of pages that are asked are plain, and pages that are sent are as long as frames
 pub record PartsFit (k : Parts) : Type 0 where
   pub parts : Fit k.memory
   pub plain : ArePlain k.memory.resident

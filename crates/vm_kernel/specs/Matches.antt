@@ -1,5 +1,5 @@
 -- A kernel stands for what a history says of its host: its parts are the facts of that history.
-use Rattle.std.specs.Prelude.{ℕ, All, ◌≡◌, ◌≢◌, ◌<◌, ◌≤◌, ◌^◌, List, [], length, None, slice_get, reverse}
+use Rattle.std.specs.Prelude.{ℕ, All, ◌≡◌, ◌≢◌, ◌<◌, ◌≤◌, ◌^◌, true, List, [], length, None, Some, slice_get, reverse}
 use Rattle.vm_base.specs.declared.entry.Entry.{Entry}
 use Rattle.vm_base.specs.declared.ids.HostId.{HostId}
 use Rattle.vm_base.specs.declared.ids.ObjectKind.TheVariants.{Temp}
@@ -17,8 +17,9 @@ use Rattle.vm_model.specs.Tasks.{entries_of, host_of}
 use Rattle.vm_model.specs.Waiting.{waiting}
 use Rattle.vm_legal.specs.Accesses.{begun_at, is_ready}
 use Rattle.vm_legal.specs.Frames.{frames_held, frames_wired, returns_out}
-use Rattle.vm_legal.specs.Licences.{created}
+use Rattle.vm_legal.specs.Licences.{LockRequest, created, lock_taken}
 use Rattle.vm_legal.specs.Living.{tasks as made_tasks}
+use Rattle.vm_legal.specs.Steps.{completes, since}
 use Rattle.vm_legal.specs.Used.{in_use}
 use Rattle.vm_abroad.specs.Home.{HaveHomes, home_of, object_home}
 use Rattle.vm_state.specs.References.{AllReferred}
@@ -28,7 +29,7 @@ use Rattle.vm_abroad.specs.Whose.{IsShut}
 use Rattle.vm_supply.specs.declared.woken.Woken.{Woken}
 use Rattle.vm_supply.specs.declared.woken.Woken.TheVariants as woken
 use Rattle.vm_waits.specs.Waits.{count_again}
-use Rattle.vm_state.specs.Waiters.{BeganInOrder, HasWaiters}
+use Rattle.vm_state.specs.Waiters.{BeganInOrder, HasWaiters, is_woken}
 use Rattle.vm_shadow.specs.declared.ids.Ids.{Ids}
 use Rattle.vm_kernel.specs.Fits.{PartsFit}
 use Rattle.vm_state.specs.Places.{known_local, place_of}
@@ -55,6 +56,10 @@ pub record IsSettled (past : List Event) : Type 0 where
   pub returned : created past ≡ None
   pub shut : IsShut past
 
+-- a lock request that the step took is done, where its pager wants to be told that
+pub record IsReplied (past : List Event) : Type 0 where
+  pub at : (request : LockRequest) → lock_taken past ≡ Some request → request.reply ≡ true → since (completes request.host request.object) past ≡ true
+
 -- the kernel of a host after a history, also inside a step; the counts of entries include some that have just gone
 pub record Matches (header : Header) (h : ℕ) (k : Parts) (ids : Ids) (gone : List Entry) (past : List Event) : Type 0 where
   pub ranged : IsRanged header
@@ -75,12 +80,13 @@ pub record Matches (header : Header) (h : ℕ) (k : Parts) (ids : Ids) (gone : L
   pub controls : HasControls (named header) h k.memory.objects (λ o. last_control h o past) (λ o. live_control h o past) (λ o. is_ready h o past) (λ o. object_home o past)
   pub homeless : HaveHomes header past
   pub settled : IsSettled past
+  pub replied : IsReplied past
   pub laundry : HasLaundry k.memory.frames k.memory.resident k.laundry (returns_out h past)
   pub frames : HasFrames (slice_get (reverse header.frames.items) h) k.memory.frames (frames_held header.size h past) (frames_wired h past)
 
 -- the accesses that wait, of a kernel with these maps, regions, pages and objects; some may have been woken
 abbrev pub HasWaits : Parts → Woken → List Event → Type 0
-HasWaits k who past = HasWaiters k.maps k.chains k.memory.resident k.memory.objects k.waits.rows who (λ task. waiting task past)
+HasWaits k who past = HasWaiters k.maps k.chains k.memory.resident k.memory.objects k.waits.rows (is_woken who) (λ task. waiting task past)
 
 -- their rows stand in the order in which they began
 abbrev pub HasOrder : Parts → List Event → Type 0

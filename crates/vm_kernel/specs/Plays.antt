@@ -9,6 +9,7 @@ use Rattle.vm_model.specs.declared.message.Message.TheVariants as message
 use Rattle.vm_model.specs.declared.script.Header.{Header}
 use Rattle.vm_model.specs.Named.{named}
 use Rattle.vm_model.specs.Words.{in_range}
+use Rattle.vm_legal.specs.Accesses.{WaitsUnlocked}
 use Rattle.vm_legal.specs.Licences.{IsUnheld, LockRequest, lock_taken}
 use Rattle.vm_legal.specs.Prompt.{IsSource}
 use Rattle.vm_legal.specs.Walks.{Reach}
@@ -56,15 +57,19 @@ pub record Departs (object page : ℕ) (lists : Queues) (old new : Paging) : Typ
   pub here : old.frame_at object page ≡ Some frame
   pub is : new ≡ record { frame_at = places_with_frame object page None old.frame_at; queues = queues_except frame.0 lists }
 
--- each frame is that of a page that an access is to copy which wants a frame
-abbrev pub AreSources : Header → ℕ → List Event → (ℕ → ℕ → Option FrameNo) → List FrameNo → Type 0
-AreSources header host past frame_at [] = Unit {0}
-AreSources header host past frame_at (frame ∷ frames) = ((o p : ℕ) × IsSource header host o p past × (frame_at o p ≡ Some frame)) × AreSources header host past frame_at frames
+-- a page is spared: an access is to copy it which wants a frame, or somebody waits for its unlock
+abbrev pub IsSpared : Header → ℕ → ℕ → ℕ → List Event → Type 0
+IsSpared header host object page past = IsSource header host object page past ⊎ WaitsUnlocked header host object page past
 
--- the page that has gone is the victim: the one that the lists choose, where no page is skipped but what is to be copied
+-- each frame is that of a page that is spared
+abbrev pub AreSpared : Header → ℕ → List Event → (ℕ → ℕ → Option FrameNo) → List FrameNo → Type 0
+AreSpared header host past frame_at [] = Unit {0}
+AreSpared header host past frame_at (frame ∷ frames) = ((o p : ℕ) × IsSpared header host o p past × (frame_at o p ≡ Some frame)) × AreSpared header host past frame_at frames
+
+-- the page that has gone is the victim: the one that the lists choose, where no page is skipped but what is spared
 pub record IsVictim (header : Header) (host : ℕ) (past : List Event) (object page : ℕ) (old new : Paging) : Type 0 where
   pub skip : List FrameNo
-  pub sources : AreSources header host past old.frame_at skip
+  pub spared : AreSpared header host past old.frame_at skip
   pub victim : victim_frame skip (queues_after_search old.queues) ≡ old.frame_at object page
   pub departs : Departs object page (queues_after_search old.queues) old new
 
@@ -111,10 +116,10 @@ Does header past (event.Sent (Up host object) (message.Return control page dirty
     IsVictim header host.0 (uncreated past) object.0 page.0 old new ⊎ (DepartsUnheld header host.0 past object.0 page.0 old new ⊎ DepartsLocked host.0 past object.0 page.0 old new)
 Does header past other old new = new ≡ old
 
--- a victim was looked for, and there is none: each page on the lists is one that an access is to copy which wants a frame
+-- a victim was looked for, and there is none: each page on the lists is spared
 pub record Searches (header : Header) (host : ℕ) (past : List Event) (old new : Paging) : Type 0 where
   pub skip : List FrameNo
-  pub sources : AreSources header host past old.frame_at skip
+  pub spared : AreSpared header host past old.frame_at skip
   pub all : AllSkipped skip old.queues
   pub is : new ≡ record old { queues = queues_after_search old.queues }
 

@@ -1,5 +1,5 @@
 -- Accesses are run, and the frame queue is served.
-use Rattle.std.specs.Prelude.{ℕ, ◌+◌, ◌-◌, ◌<◌, ◌≡◌, ◌⊎◌, ◌||◌, Bool, true, false, List, ◌++◌, Option, Some, None}
+use Rattle.std.specs.Prelude.{ℕ, ◌+◌, ◌-◌, ◌<◌, ◌≡◌, ◌⊎◌, ◌||◌, Bool, true, false, List, [], ◌∷◌, ◌++◌, Option, Some, None}
 use Rattle.vm_base.specs.declared.ids.FrameNo.{FrameNo}
 use Rattle.vm_base.specs.declared.ids.PageKey.{PageKey}
 use Rattle.vm_queues.specs.Queues.{is_skipped}
@@ -13,11 +13,13 @@ use Rattle.vm_legal.specs.Prompt.{HostIsFull, IsSource}
 use Rattle.vm_legal.specs.Steps.{departures}
 use Rattle.vm_pageout.specs.declared.answer.Reclaim.{Reclaim}
 use Rattle.vm_pageout.specs.declared.answer.Reclaim.TheVariants as reclaim
-use Rattle.vm_resident.specs.Resident.{page_key, row_at}
+use Rattle.vm_resident.specs.Resident.{ResidentTable, page_key, row_at}
 use Rattle.vm_resident.specs.declared.page_row.PageRow.{PageRow}
 use Rattle.vm_waits.specs.Waits.{count_again, entry, is_again, is_frame, one_again, one_frame, queued}
 use Rattle.vm_waits.specs.declared.waiting.On.{On}
 use Rattle.vm_waits.specs.declared.waiting.Waiting.{Waiting}
+use Rattle.vm_kernel.specs.Plays.{frame_here}
+use Rattle.vm_kernel.specs.Taking.{page_waited}
 use Rattle.vm_kernel.specs.Turns.{IsFront}
 use Rattle.vm_kernel.specs.declared.attempt.Attempt.{Attempt}
 use Rattle.vm_kernel.specs.declared.attempt.Attempt.TheVariants as attempt
@@ -73,9 +75,31 @@ pub record FreesWhere (h : ℕ) (Spares : ℕ → ℕ → PageRow → Type 0) (a
 abbrev pub FreesBut : ℕ → List FrameNo → Reclaim → Parts → Parts → List Event → List Event → Type 0
 FreesBut h skip answer old new before after = FreesWhere h (λ o p row. is_skipped skip row.frame.0 ≡ true) answer old new before after
 
--- one page is spared
+-- one page is spared, and those of which an unlock is outstanding
 abbrev pub FreesOrReturns : ℕ → Option PageKey → Reclaim → Parts → Parts → List Event → List Event → Type 0
-FreesOrReturns h spared answer old new before after = FreesWhere h (λ o p row. spared ≡ Some (page_key o p)) answer old new before after
+FreesOrReturns h spared answer old new before after = FreesWhere h (λ o p row. (spared ≡ Some (page_key o p)) ⊎ (row.unlock_sent ≡ true)) answer old new before after
+
+abbrev pub option_list : Option FrameNo → List FrameNo
+option_list None = []
+option_list (Some frame) = frame ∷ []
+
+-- the frame of a page that is spared, if it is here
+abbrev pub frame_spared : ResidentTable → Option PageKey → Option FrameNo
+frame_spared resident None = None
+frame_spared resident (Some key) = frame_here (row_at resident key.object.0 key.page.0)
+
+-- the frames of the pages for whose unlocks accesses wait
+abbrev pub frames_locked : ResidentTable → List Waiting → List FrameNo
+frames_locked resident [] = []
+frames_locked resident (w ∷ ws) = option_list (frame_spared resident (page_waited w.on)) ++ frames_locked resident ws
+
+-- and of one more
+abbrev pub frames_spared : ResidentTable → Option PageKey → List Waiting → List FrameNo
+frames_spared resident spared rows = option_list (frame_spared resident spared) ++ frames_locked resident rows
+
+-- the frame of each page that is here and of which an unlock is outstanding is one of these
+abbrev pub SkipLocked : ResidentTable → List FrameNo → Type 0
+SkipLocked resident skip = (o p : ℕ) (row : PageRow) → row_at resident o p ≡ Some row → row.unlock_sent ≡ true → is_skipped skip row.frame.0 ≡ true
 
 -- the frame queue is empty, or can't go on
 abbrev pub QueueIsServed : Header → ℕ → Parts → List Event → Type 0

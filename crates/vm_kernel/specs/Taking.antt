@@ -1,5 +1,6 @@
 -- A message of a pager is taken.
-use Rattle.std.specs.Prelude.{ℕ, ◌<◌, ◌≡◌, ◌++◌, Bool, true, false, List, length, Some, None}
+use Rattle.std.specs.Prelude.{ℕ, ◌<◌, ◌≡◌, ◌==◌, ◌&&◌, ◌++◌, Bool, true, false, not, List, Option, Some, None}
+use Rattle.vm_base.specs.declared.ids.PageKey.{PageKey}
 use Rattle.vm_model.specs.declared.event.Event.{Event}
 use Rattle.vm_model.specs.declared.message.Message.{Message}
 use Rattle.vm_model.specs.declared.message.Message.TheVariants as message
@@ -12,34 +13,35 @@ use Rattle.vm_legal.specs.Stretches.{EachOf}
 use Rattle.vm_legal.specs.Reclaims.{IsReclaim}
 use Rattle.vm_resident.specs.Resident.{ResidentTable, page_key, row_at}
 use Rattle.vm_resident.specs.declared.page_row.PageRow.{PageRow}
+use Rattle.vm_locks.specs.Requests.{IsLockRequest}
+use Rattle.vm_model.specs.Words.{in_range}
+use Rattle.vm_supply.specs.Answers.{IsAnswer}
 use Rattle.vm_supply.specs.declared.woken.Woken.{Woken}
 use Rattle.vm_supply.specs.declared.woken.Woken.TheVariants as woken
 use Rattle.vm_waits.specs.Waits.{entry}
+use Rattle.vm_waits.specs.declared.waiting.On.{On}
 use Rattle.vm_waits.specs.declared.waiting.On.TheVariants as on
 use Rattle.vm_waits.specs.declared.waiting.Waiting.{Waiting}
-use Rattle.vm_state.specs.Waiters.{Asker, is_woken}
+use Rattle.vm_state.specs.Waiters.{Asker, is_awaited, is_woken}
 
--- how the pager of temporary memory, or of a file, may answer, where a page has so many bytes
-abbrev pub IsPlainAnswer : ℕ → Message → Type 0
-IsPlainAnswer size (message.Ready cache strategy) = Unit {0}
-IsPlainAnswer size (message.Supply page lock precious bytes) = (lock ≡ 0) × (precious ≡ false) × (length bytes ≡ size)
-IsPlainAnswer size (message.Unavailable page) = Unit {0}
-IsPlainAnswer size (message.Error page reason) = Unit {0}
-IsPlainAnswer size other = ⊥
-
--- what it may say: an answer, or a lock request that leaves all locks as they are
-abbrev pub IsPlainWord : ℕ → Message → Type 0
-IsPlainWord size (message.Lock page count returns flush lock reply) = (returns < 3) × (lock ≡ 8)
-IsPlainWord size (message.Ready cache strategy) = IsPlainAnswer size (message.Ready cache strategy)
-IsPlainWord size (message.Supply page lock precious bytes) = IsPlainAnswer size (message.Supply page lock precious bytes)
-IsPlainWord size (message.Unavailable page) = IsPlainAnswer size (message.Unavailable page)
-IsPlainWord size (message.Error page reason) = IsPlainAnswer size (message.Error page reason)
-IsPlainWord size other = ⊥
+-- what a pager may say, where a page has so many bytes: it answers, or asks for locks
+abbrev pub IsWord : ℕ → Message → Type 0
+IsWord size (message.Lock page count returns flush lock reply) = IsLockRequest (message.Lock page count returns flush lock reply)
+IsWord size (message.Ready cache strategy) = IsAnswer size (message.Ready cache strategy)
+IsWord size (message.Supply page lock precious bytes) = IsAnswer size (message.Supply page lock precious bytes)
+IsWord size (message.Unavailable page) = IsAnswer size (message.Unavailable page)
+IsWord size (message.Error page reason) = IsAnswer size (message.Error page reason)
+IsWord size other = ⊥
 
 -- the message is a lock request
 abbrev pub is_lock_request : Message → Bool
 is_lock_request (message.Lock page count returns flush lock reply) = true
 is_lock_request other = false
+
+-- the page is asked: it has a row, and isn't here
+abbrev pub is_away : Option PageRow → Bool
+is_away None = false
+is_away (Some row) = not row.here
 
 -- the step took the error that ends those who wait for a page; or it took none that counts
 abbrev pub FailsNow : Header → ℕ → Woken → List Event → Type 0
@@ -60,9 +62,9 @@ HasAsker woken.Nobody rows = Unit {0}
 HasAsker (woken.ReadyOf object) rows = Unit {0}
 HasAsker (woken.Page key) rows = Unit {0}
 
--- whom an answer wakes or ends waits for a page that is asked no more, or for a pager
+-- whom an answer wakes or ends waits for a page of which no word is outstanding any more, or for a pager
 pub record IsAnswered (who : Woken) (resident : ResidentTable) : Type 0 where
-  pub at : (o p : ℕ) (row : PageRow) → row_at resident o p ≡ Some row → row.here ≡ false → is_woken who (on.Page (page_key o p)) ≡ false
+  pub at : (o p : ℕ) (row : PageRow) → row_at resident o p ≡ Some row → is_awaited row ≡ true → is_woken who (on.Page (page_key o p)) ≡ false
 
 -- and some access was ended by it
 abbrev pub HasFailed : Woken → List Event → Type 0
@@ -77,6 +79,13 @@ HasEnded (woken.Fails key) rows past = (t : ℕ) (w : Waiting) → entry rows t 
 HasEnded woken.Nobody rows past = Unit {0}
 HasEnded (woken.ReadyOf object) rows past = Unit {0}
 HasEnded (woken.Page key) rows past = Unit {0}
+
+-- whoever is to be ended waits still
+abbrev pub KeepsAskers : Woken → List Waiting → List Waiting → Type 0
+KeepsAskers (woken.Fails key) old new = new ≡ old
+KeepsAskers woken.Nobody old new = Unit {0}
+KeepsAskers (woken.ReadyOf object) old new = Unit {0}
+KeepsAskers (woken.Page key) old new = Unit {0}
 
 -- an error that the step took has ended each access that waited for its page
 abbrev pub EndsEach : Header → List Waiting → List Event → Type 0
@@ -94,6 +103,25 @@ IsAbsencePaid header past = (host object page : ℕ) → object < named header �
 -- a lock request that the step took is obeyed
 abbrev pub IsLockPaid : Header → List Event → Type 0
 IsLockPaid header past = (request : LockRequest) → lock_taken past ≡ Some request → HasLocked header request past
+
+-- the access waits for a page of the range that isn't asked, so for its unlock
+abbrev pub is_unlocked : ResidentTable → ℕ → ℕ → ℕ → On → Bool
+is_unlocked resident object page count (on.Page key) = key.object.0 == object && (in_range key.page.0 page count && not (is_away (row_at resident key.object.0 key.page.0)))
+is_unlocked resident object page count on.Again = false
+is_unlocked resident object page count (on.Ready other) = false
+is_unlocked resident object page count on.Frame = false
+
+-- the page for which an access waits
+abbrev pub page_waited : On → Option PageKey
+page_waited (on.Page key) = Some key
+page_waited on.Again = None
+page_waited (on.Ready object) = None
+page_waited on.Frame = None
+
+-- the page for which the access of a row waits, if there is a row
+abbrev pub PageWaitedFor : Option PageKey → Option Waiting → Type 0
+PageWaitedFor key None = key ≡ None
+PageWaitedFor key (Some w) = key ≡ page_waited w.on
 
 -- all events that were added take pages from the host
 pub record EachGone (h : ℕ) (old new : List Event) : Type 0 where

@@ -22,7 +22,7 @@ use Rattle.vm_waits.specs.declared.waiting.On.TheVariants as on
 use Rattle.vm_waits.specs.declared.waiting.Waiting.{Waiting}
 use Rattle.vm_state.specs.Waiters.{access_in}
 
--- the event is of no access that was run: none loads or stores, no page comes as zeros or from a region below, and none is asked for
+-- the event is of no access that was run: none loads or stores, no page comes as zeros or from a region below, and none is asked for, nor its unlock
 abbrev pub RunsNone : Event → Type 0
 RunsNone (event.Zeroed host object page) = ⊥
 RunsNone (event.Raised host lower lower_page upper upper_page) = ⊥
@@ -30,7 +30,7 @@ RunsNone (event.Sent (Up host object) (message.Request control page access)) = �
 RunsNone (event.CopiedPage task page object object_page target) = ⊥
 RunsNone (event.Sent (Up host object) (message.Init control bytes)) = Unit {0}
 RunsNone (event.Sent (Up host object) (message.Create control bytes)) = Unit {0}
-RunsNone (event.Sent (Up host object) (message.Unlock control page access)) = Unit {0}
+RunsNone (event.Sent (Up host object) (message.Unlock control page access)) = ⊥
 RunsNone (event.Sent (Up host object) (message.Return control page dirty keep bytes)) = Unit {0}
 RunsNone (event.Sent (Up host object) (message.Completed control page count)) = Unit {0}
 RunsNone (event.Sent (Up host object) (message.Terminate control)) = Unit {0}
@@ -86,12 +86,13 @@ pub data IsFront : List Event → Type 0 where
   Bare : IsFront []
   Shadow : (region : RegionId) → (new old : ObjectId) → IsFront (event.Shadowed region new old ∷ [])
 
--- what a task's access did when it was run, and whether it claimed a frame: no more than make a shadow; it found its page and ended; it claimed one for a page of
--- zeros, or for a copy of its page, with which it ended; or it claimed one for a page that it asked for, on which it waits now, and none of those that were run
--- earlier
+-- what a task's access did when it was run, and whether it claimed a frame: no more than make a shadow; it found its page and ended; it asked for the unlock of its
+-- page; it claimed one for a page of zeros, or for a copy of its page, with which it ended; or it claimed one for a page that it asked for, on which it waits now,
+-- and none of those that were run earlier
 pub data Did (rows : List Waiting) (earlier : ℕ → Type 0) (task : TaskId) : Bool → List Event → Type 0 where
   Nothing : (front : List Event) → IsFront front → Did rows earlier task false front
   Found : (front : List Event) → IsFront front → (end : Event) → IsEnd task.0 end → Did rows earlier task false (end ∷ front)
+  ForUnlock : (front : List Event) → IsFront front → (host : HostId) → (key : PageKey) → (control access : ℕ) → Did rows earlier task false (event.Sent (Up host key.object) (message.Unlock control key.page access) ∷ front)
   ForZeros : (front : List Event) → IsFront front → (end : Event) → (host : HostId) → (key : PageKey) → IsEnd task.0 end
       → Did rows earlier task true (end ∷ event.Zeroed host key.object key.page ∷ front)
   ForCopy : (front : List Event) → IsFront front → (end : Event) → (host : HostId) → (lower upper : PageKey) → IsEnd task.0 end

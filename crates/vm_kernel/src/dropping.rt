@@ -2,14 +2,15 @@
 ghost use Rattle.std.specs.Prelude.{◌≡◌, ◌++◌, ◌⊎◌, IfOk, IfSome, None, OnOk};
 ghost use Rattle.vm_legal.specs.Reclaims.{PagesOut, Starves};
 ghost use Rattle.vm_model.specs.declared.command.Command.TheVariants as command;
-ghost use Rattle.vm_resident.specs.Resident.{row_at};
 ghost use Rattle.vm_kernel.specs.Begun.{Doing, LegalEvents, Ran, Starts};
 ghost use Rattle.vm_kernel.specs.Matches.{Rests, host_id};
-ghost use Rattle.vm_kernel.specs.Serving.{FreesBut, FreesOrReturns, IsHere, IsToCopy};
+ghost use Rattle.vm_kernel.specs.Serving.{FreesBut, FreesOrReturns, IsHere, IsToCopy, SkipLocked, frame_spared, frames_spared, option_list};
 ghost use Rattle.vm_kernel.specs.Taking.{EachGone};
-ghost use Rattle.vm_kernel.specs.Plays.{AreSources, Plays, paging};
+ghost use Rattle.vm_kernel.specs.Plays.{AreSpared, Plays, paging};
 ghost use Rattle.vm_kernel.specs.Turns.{QueueIsStill};
+ghost use Rattle.vm_waits.specs.Waits.{EachOnce};
 
+use crate::obeying::page_of;
 use crate::parts::Parts;
 use vm_base::{FrameNo, NoMemory, PageKey};
 use vm_fault::source;
@@ -26,7 +27,7 @@ fn same_page(one: Option<PageKey>, other: Option<PageKey>) -> Option<PageKey>
 }
 
 impl Parts {
-    // Reclaims pages, as many as are asked for or as there are.
+    // Reclaims pages, as many as are asked for or as there are that aren't spared.
     #[tactic(auto, using(crate::proofs::Playing::plays_still))]
     pub fn pageout(&mut self, ids: &Ids, count: u32, log: &mut Events) -> Result<(), NoMemory>
         ghost given: { Doing }
@@ -64,18 +65,38 @@ impl Parts {
         )
     }
 
-    // The frame of a page that is here.
-    fn frame_of(&self, key: PageKey) -> FrameNo
-        requires { IsHere self.now key }
-        ensures { IfSome (row_at self.now.memory.resident key.object.0 key.page.0) (λ row. result ≡ row.frame) }
+    // The frames of the pages that are spared: of that one, and of those for whose unlocks accesses
+    // wait.
+    fn skipped(&self, spared: Option<PageKey>) -> Result<Vec<FrameNo>, NoMemory>
+        ensures frames { IfOk result (λ skip. skip.items ≡ frames_spared self.now.memory.resident spared self.now.waits.rows) }
+        ensures once { OnOk result (EachOnce self.now.waits.rows) }
     {
-        let Some(row) = self.memory.resident.get(key) else {
-            unreachable!()
-        };
-        row.frame
+        let mut skip = Vec::new(self.alloc);
+        self.skip(spared, &mut skip)?;
+        let rows = self.waits.rows();
+        'all: for waiting in rows {
+            self.skip(page_of(waiting.on), &mut skip)?;
+        }
+        Ok(skip)
     }
 
-    /// Reclaims one page, but not the one that is spared.
+    // Skips the frame of a page, if there is one and it is here.
+    fn skip(&self, page: Option<PageKey>, skip: &mut Vec<FrameNo>) -> Result<(), NoMemory>
+        ensures { OnOk result (skip.new.items ≡ skip.old.items ++ option_list (frame_spared self.now.memory.resident page)) }
+    {
+        let Some(key) = page else {
+            return Ok(());
+        };
+        match self.memory.resident.get(key) {
+            Some(row) if row.here => {
+                skip.push(row.frame)?;
+                Ok(())
+            }
+            _ => Ok(()),
+        }
+    }
+
+    /// Reclaims one page, but not the one that is spared, nor one for whose unlock somebody waits.
     pub fn reclaim(
         &mut self,
         ids: &Ids,
@@ -93,13 +114,8 @@ impl Parts {
         ensures plays { OnOk result (Plays given.header given.past log.old.items (paging self.old) log.new.items (paging self.new)) }
         ensures spared { OnOk result (IfSome spared (λ key. IsHere self.new key)) }
     {
-        match spared {
-            Some(key) => {
-                let frame = self.frame_of(key);
-                self.reclaim_but(ids, &[frame], log)
-            }
-            None => self.reclaim_but(ids, &[], log),
-        }
+        let skip = self.skipped(spared)?;
+        self.reclaim_but(ids, skip.as_slice(), log)
     }
 
     // Reclaims one page whose frame isn't skipped.
@@ -112,7 +128,8 @@ impl Parts {
         ghost given: { Doing }
         requires rests { Rests given.header given.host self.old ids.now (log.old.items ++ given.past) }
         requires may { PagesOut given.command given.host (log.old.items ++ given.past) ⊎ Starves given.header given.host (log.old.items ++ given.past) }
-        requires skipped { AreSources given.header given.host (log.old.items ++ given.past) (paging self.old).frame_at skip.now }
+        requires spared { AreSpared given.header given.host (log.old.items ++ given.past) (paging self.old).frame_at skip.now }
+        requires locked { SkipLocked self.old.memory.resident skip.now }
         ensures rests { OnOk result (Rests given.header given.host self.new ids.now (log.new.items ++ given.past)) }
         ensures goes { OnOk result (LegalEvents given.header given.host given.outside given.command given.past log.old.items log.new.items) }
         ensures reclaims { OnOk result (EachGone given.host log.old.items log.new.items) }

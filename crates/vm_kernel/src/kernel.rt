@@ -18,7 +18,7 @@ ghost use Rattle.vm_shadow.specs.declared.ids.Ids.{Ids as Numbers};
 ghost use Rattle.vm_state.specs.Stands.{HasTasks};
 ghost use Rattle.vm_kernel.specs.Matches.{IsRanged, Rests, first_ids, host_id};
 ghost use Rattle.vm_kernel.specs.Refusing.{maps_elsewhere, takes_name};
-ghost use Rattle.vm_kernel.specs.Taking.{EndsAll, IsAbsencePaid, IsErrorPaid, IsLockPaid, IsPlainWord};
+ghost use Rattle.vm_kernel.specs.Taking.{EndsAll, IsAbsencePaid, IsErrorPaid, IsLockPaid, IsWord};
 ghost use Rattle.vm_kernel.specs.Turns.{KeepsOthers, LeavesInTurn, Restarted};
 
 use crate::parts::Parts;
@@ -100,12 +100,13 @@ impl Kernel {
         Ok(log)
     }
 
-    /// Takes what the pager of temporary memory, or of a file, says to a control of an object, and
-    /// gives what happened behind the taking, up to where the frame queues are served. What isn't for
-    /// the live control, or answers nothing, is discarded (this profile).
+    /// Takes what a pager says to a control of an object, and gives what happened behind the taking, up
+    /// to where the frame queues are served. What isn't for the live control, or answers nothing, is
+    /// discarded (this profile).
     ///
     /// The messages are memory_object_ready, memory_object_data_supply, memory_object_data_unavailable,
-    /// memory_object_data_error, and a memory_object_lock_request that leaves all locks as they are.
+    /// memory_object_data_error, and memory_object_lock_request. Whoever waited for the unlock of a page
+    /// that a lock request is over is run again behind memory_object_lock_completed.
     ///
     /// After `NoMemory` the kernel is used no more.
     pub fn take(
@@ -118,7 +119,7 @@ impl Kernel {
         ghost given: { Passing }
         requires rests { Rests given.header given.host self.old ids.old given.past }
         requires front { given.front ≡ event.Taken (Down (host_id given.host) object control) message.now ∷ [] }
-        requires word { IsPlainWord given.header.size message.now }
+        requires word { IsWord given.header.size message.now }
         ensures passed { IfOk result (λ events. Passed given.header given.host given.outside given.command (given.front ++ given.past) self.new ids.new events.items) }
         ensures failed { IfOk result (λ events. IsErrorPaid given.header (events.items ++ (given.front ++ given.past))) }
         ensures zeroed { IfOk result (λ events. IsAbsencePaid given.header (events.items ++ (given.front ++ given.past))) }

@@ -1,11 +1,12 @@
 // Lock requests of pagers are done.
-ghost use Rattle.std.specs.Prelude.{◌≡◌, ◌++◌, ◌∷◌, [], true, false, IfOk, OnOk, IfSome, is_none};
+ghost use Rattle.std.specs.Prelude.{◌≡◌, ◌++◌, ◌∷◌, [], true, false, map, IfOk, OnOk, IfSome, is_none};
 ghost use Rattle.vm_model.specs.declared.event.Event.TheVariants as event;
 ghost use Rattle.vm_model.specs.declared.message.Channel.TheVariants.{Down};
 ghost use Rattle.vm_kernel.specs.Begun.{LegalEvents, Passing};
 ghost use Rattle.vm_kernel.specs.Matches.{Rests, Works, host_id};
 ghost use Rattle.vm_kernel.specs.Plays.{Plays, PlaysAnswer, paging};
-ghost use Rattle.vm_kernel.specs.Taking.{EndsNobody, FailsNow, HasAsker, IsAbsencePaid, IsAnswered, IsLockPaid, IsPlainWord, is_lock_request};
+ghost use Rattle.vm_kernel.specs.Taking.{EndsNobody, FailsNow, HasAsker, IsAbsencePaid, IsAnswered, IsLockPaid, IsWord, KeepsAskers, PageWaitedFor, is_away, is_lock_request, is_unlocked, page_waited};
+ghost use Rattle.vm_waits.specs.Waits.{oldest_row, woken};
 ghost use Rattle.vm_kernel.specs.Turns.{RunsNoneYet};
 ghost use Rattle.vm_objects.specs.Objects.{object_at};
 ghost use Rattle.vm_resident.specs.Resident.{row_at};
@@ -15,11 +16,13 @@ ghost use Rattle.vm_supply.specs.Answers.{outcome_of};
 ghost use Rattle.vm_supply.specs.declared.woken.Woken.TheVariants as who;
 
 use crate::parts::Parts;
-use vm_base::{NoMemory, ObjectId};
+use vm_base::{NoMemory, ObjectId, PageKey, PageNo};
 use vm_locks::lock;
 use vm_model::{Events, Message};
+use vm_resident::Resident;
 use vm_shadow::Ids;
 use vm_supply::Woken;
+use vm_waits::{On, Waits};
 
 impl Parts {
     /// Does what a pager says: its answer is heard, or its lock request is obeyed.
@@ -34,14 +37,15 @@ impl Parts {
         ghost given: { Passing }
         requires rests { Rests given.header given.host self.old ids.now given.past }
         requires front { given.front ≡ event.Taken (Down (host_id given.host) object control) message.now ∷ [] }
-        requires word { IsPlainWord self.old.size message.now }
+        requires word { IsWord self.old.size message.now }
         requires nothing { log.old.items ≡ [] }
         ensures works { IfOk result (λ woken. Works given.header given.host self.new ids.now woken (log.new.items ++ (given.front ++ given.past))) }
         ensures fails { IfOk result (λ woken. FailsNow given.header given.host woken (log.new.items ++ (given.front ++ given.past))) }
         ensures fresh { IfOk result (λ woken. EndsNobody woken (log.new.items ++ (given.front ++ given.past))) }
         ensures asker { IfOk result (λ woken. HasAsker woken self.new.waits.rows) }
         ensures answered { IfOk result (λ woken. IsAnswered woken self.new.memory.resident) }
-        ensures waits { OnOk result (self.new.waits ≡ self.old.waits) }
+        ensures askers { IfOk result (λ woken. KeepsAskers woken self.old.waits.rows self.new.waits.rows) }
+        ensures queue { OnOk result (self.new.waits.queue ≡ self.old.waits.queue) }
         ensures goes { OnOk result (LegalEvents given.header given.host given.outside given.command (given.front ++ given.past) [] log.new.items) }
         ensures early { OnOk result (RunsNoneYet log.new.items) }
         ensures zeroed { OnOk result (IsAbsencePaid given.header (log.new.items ++ (given.front ++ given.past))) }
@@ -57,8 +61,8 @@ impl Parts {
         }
     }
 
-    // Does what a lock request says, if it came for the live control. It changes nothing for those
-    // that wait: they wait for pages that aren't here.
+    // Does what a lock request says, if it came for the live control. Those that waited for the
+    // unlock of a page of its range are to be run again; those that wait for an asked one wait on.
     fn obey(
         &mut self,
         ids: &Ids,
@@ -70,12 +74,12 @@ impl Parts {
         ghost given: { Passing }
         requires rests { Rests given.header given.host self.old ids.now given.past }
         requires front { given.front ≡ event.Taken (Down (host_id given.host) object control) message.now ∷ [] }
-        requires word { IsPlainWord self.old.size message.now }
+        requires word { IsWord self.old.size message.now }
         requires request { is_lock_request message.now ≡ true }
         requires nothing { log.old.items ≡ [] }
         ensures works { OnOk result (Works given.header given.host self.new ids.now who.Nobody (log.new.items ++ (given.front ++ given.past))) }
         ensures fails { OnOk result (FailsNow given.header given.host who.Nobody (log.new.items ++ (given.front ++ given.past))) }
-        ensures waits { OnOk result (self.new.waits ≡ self.old.waits) }
+        ensures queue { OnOk result (self.new.waits.queue ≡ self.old.waits.queue) }
         ensures goes { OnOk result (LegalEvents given.header given.host given.outside given.command (given.front ++ given.past) [] log.new.items) }
         ensures early { OnOk result (RunsNoneYet log.new.items) }
         ensures zeroed { OnOk result (IsAbsencePaid given.header (log.new.items ++ (given.front ++ given.past))) }
@@ -85,6 +89,16 @@ impl Parts {
         if !self.is_live(object, control) {
             return Ok(());
         }
+        let Message::Lock { page, count, .. } = message else {
+            unreachable!()
+        };
+        wake_unlocked(
+            &mut self.waits,
+            &self.memory.resident,
+            object,
+            *page,
+            *count,
+        );
         self.memory.queues.stand_once();
         lock(
             self.host,
@@ -104,5 +118,70 @@ impl Parts {
             Some(known) => known.live && known.control == control,
             None => false,
         }
+    }
+}
+
+// Those that wait for a page of the range which isn't asked are to be run again: each waits for an
+// unlock.
+fn wake_unlocked(waits: &mut Waits, resident: &Resident, object: ObjectId, page: PageNo, count: u32)
+    ensures rows { waits.new.rows ≡ map (woken (is_unlocked resident.now object.0 page.0 count)) waits.old.rows }
+    ensures queue { waits.new.queue ≡ waits.old.queue }
+{
+    'all: while let Some(key) = next_unlocked(waits, resident, object, page, count) {
+        waits.wake_page(key);
+    }
+}
+
+// The page for which the oldest of these waits; None exactly where there is none.
+fn next_unlocked(
+    waits: &Waits,
+    resident: &Resident,
+    object: ObjectId,
+    page: PageNo,
+    count: u32,
+) -> Option<PageKey>
+    ensures { PageWaitedFor result (oldest_row (is_unlocked resident.now object.0 page.0 count) waits.now.rows) }
+{
+    let rows = waits.rows();
+    'all: for waiting in rows {
+        if is_unlocked(resident, waiting.on, object, page, count) {
+            return page_of(waiting.on);
+        }
+    }
+    None
+}
+
+// Whether an access waits for a page of the range which isn't asked.
+fn is_unlocked(resident: &Resident, on: On, object: ObjectId, page: PageNo, count: u32) -> bool
+    ensures { result ≡ is_unlocked resident.now object.0 page.0 count on }
+{
+    match on {
+        On::Page { key } => {
+            key.object.0 == object.0
+                && key.page.0 >= page.0
+                && key.page.0 - page.0 < count
+                && !is_away(resident, key)
+        }
+        On::Again | On::Ready { object: _ } | On::Frame => false,
+    }
+}
+
+// Whether a page is asked.
+fn is_away(resident: &Resident, key: PageKey) -> bool
+    ensures { result ≡ is_away (row_at resident.now key.object.0 key.page.0) }
+{
+    match resident.get(key) {
+        Some(row) => !row.here,
+        None => false,
+    }
+}
+
+/// The page for which an access waits, if it waits for one.
+pub fn page_of(on: On) -> Option<PageKey>
+    ensures { result ≡ page_waited on }
+{
+    match on {
+        On::Page { key } => Some(key),
+        On::Again | On::Ready { object: _ } | On::Frame => None,
     }
 }

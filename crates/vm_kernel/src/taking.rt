@@ -5,10 +5,10 @@ ghost use Rattle.vm_model.specs.declared.message.Channel.TheVariants.{Down};
 ghost use Rattle.vm_supply.specs.declared.woken.Woken.TheVariants as who;
 ghost use Rattle.vm_kernel.specs.Begun.{Doing, IsLaundered, LegalEvents, Passing};
 ghost use Rattle.vm_kernel.specs.Matches.{Rests, Works, host_id};
-ghost use Rattle.vm_kernel.specs.Taking.{EndsEach, EndsNobody, FailsNow, HasAsker, HasEnded, HasFailed, IsAbsencePaid, IsAnswered, IsErrorPaid, IsLockPaid, IsPlainAnswer, IsPlainWord};
+ghost use Rattle.vm_kernel.specs.Taking.{EndsEach, EndsNobody, FailsNow, HasAsker, HasEnded, HasFailed, IsAbsencePaid, IsAnswered, IsErrorPaid, IsLockPaid, IsWord};
 ghost use Rattle.vm_objects.specs.Objects.{object_at};
 ghost use Rattle.vm_resident.specs.Resident.{row_at};
-ghost use Rattle.vm_supply.specs.Answers.{outcome_of};
+ghost use Rattle.vm_supply.specs.Answers.{IsAnswer, outcome_of};
 ghost use Rattle.vm_kernel.specs.Plays.{Plays, PlaysAnswer, paging};
 ghost use Rattle.vm_kernel.specs.Turns.{IsBrought, Restarted, RunsNobody};
 
@@ -32,7 +32,7 @@ impl Parts {
         ghost given: { Passing }
         requires rests { Rests given.header given.host self.old ids.now given.past }
         requires front { given.front ≡ event.Taken (Down (host_id given.host) object control) message.now ∷ [] }
-        requires answer { IsPlainAnswer self.old.size message.now }
+        requires answer { IsAnswer self.old.size message.now }
         requires nothing { log.old.items ≡ [] }
         ensures works { IfOk result (λ woken. Works given.header given.host self.new ids.now woken (log.new.items ++ (given.front ++ given.past))) }
         ensures fails { IfOk result (λ woken. FailsNow given.header given.host woken (log.new.items ++ (given.front ++ given.past))) }
@@ -118,7 +118,7 @@ impl Parts {
         ghost given: { Passing }
         requires rests { Rests given.header given.host self.old ids.old given.past }
         requires front { given.front ≡ event.Taken (Down (host_id given.host) object control) message.now ∷ [] }
-        requires word { IsPlainWord self.old.size message.now }
+        requires word { IsWord self.old.size message.now }
         requires nothing { log.old.items ≡ [] }
         ensures rests { OnOk result (Rests given.header given.host self.new ids.new (log.new.items ++ (given.front ++ given.past))) }
         ensures goes { OnOk result (LegalEvents given.header given.host given.outside given.command (given.front ++ given.past) [] log.new.items) }

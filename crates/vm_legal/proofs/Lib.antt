@@ -10,3 +10,4 @@ pub mod Paying
 pub mod Served
 pub mod SoFar
 pub mod Stretched
+pub mod Unshared

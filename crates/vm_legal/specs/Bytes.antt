@@ -10,7 +10,7 @@ use Rattle.vm_model.specs.Waiting.{Loading, Storing}
 use Rattle.vm_legal.specs.Accesses.{Waits}
 use Rattle.vm_legal.specs.Flat.{flat_page}
 use Rattle.vm_legal.specs.Living.{lives_on}
-use Rattle.vm_legal.specs.Outside.{Outside, is_private}
+use Rattle.vm_legal.specs.Outside.{Outside, is_flat, is_private, is_shared}
 use Rattle.vm_legal.specs.Walks.{page_on}
 
 -- a load answers the number in the page that its own host has, and can read
@@ -58,13 +58,13 @@ OwnBytes header (event.DeviceFailed who way object page) past = Unit {0}
 OwnBytes header (event.NoSlot object page) past = Unit {0}
 OwnBytes header (event.Wired host count) past = Unit {0}
 
--- a load of a region of temporary or file memory answers the number in the flat map's page, at its address; of temporary memory where the
--- paging area tells
+-- a load of a region of temporary, file or shared memory answers the number in the flat map's page, at its address; of temporary memory where
+-- the paging area tells
 pub record AnswersFlat (header : Header) (outside : Outside) (task value : ℕ) (past : List Event) : Type 0 where
   pub address : ℕ
   pub bytes : ℕ
   pub waits : Waits header task (Loading address bytes) past
-  pub number : is_private header outside waits.at.entry.region.0 ≡ true
+  pub number : is_flat header outside waits.at.entry.region.0 ≡ true
       → value ≡ number_at (flat_page header outside waits.at.entry.region.0 (page_at header.size address waits.at.entry) past) header.size address bytes
 
 abbrev pub FlatBytes : Header → Outside → Event → List Event → Type 0
@@ -126,3 +126,35 @@ CopiesCurrent header outside (event.Shadowed region new old) past = Unit {0}
 CopiesCurrent header outside (event.DeviceFailed who way object page) past = Unit {0}
 CopiesCurrent header outside (event.NoSlot object page) past = Unit {0}
 CopiesCurrent header outside (event.Wired host count) past = Unit {0}
+
+-- whatever load of a shared region ends with a value, that is the number in the flat map's page: this is for the law of shared memory to say
+abbrev pub LoadsCurrent : Header → Outside → Event → List Event → Type 0
+LoadsCurrent header outside (event.Loaded task object page value) past =
+    (address bytes : ℕ) → (waits : Waits header task.0 (Loading address bytes) past) → is_shared header waits.at.entry.region.0 ≡ true
+    → value ≡ number_at (flat_page header outside waits.at.entry.region.0 (page_at header.size address waits.at.entry) past) header.size address bytes
+LoadsCurrent header outside (event.CopiedPage task page object object_page target) past = Unit {0}
+LoadsCurrent header outside (event.Line line) past = Unit {0}
+LoadsCurrent header outside (event.Refused code) past = Unit {0}
+LoadsCurrent header outside (event.TaskMade task host) past = Unit {0}
+LoadsCurrent header outside (event.TaskEnded task) past = Unit {0}
+LoadsCurrent header outside (event.RegionMade region object pages) past = Unit {0}
+LoadsCurrent header outside (event.RegionCopied region source offset pages) past = Unit {0}
+LoadsCurrent header outside (event.Entered task address bytes region offset prot inherit) past = Unit {0}
+LoadsCurrent header outside (event.Removed task address bytes) past = Unit {0}
+LoadsCurrent header outside (event.Protected task address bytes prot) past = Unit {0}
+LoadsCurrent header outside (event.Inherited task address bytes inherit) past = Unit {0}
+LoadsCurrent header outside (event.BegunLoad task address size) past = Unit {0}
+LoadsCurrent header outside (event.BegunStore task address size value) past = Unit {0}
+LoadsCurrent header outside (event.BegunCopy task address bytes to) past = Unit {0}
+LoadsCurrent header outside (event.Stored task object page at size value) past = Unit {0}
+LoadsCurrent header outside (event.CopyEnded task) past = Unit {0}
+LoadsCurrent header outside (event.Failed task object page) past = Unit {0}
+LoadsCurrent header outside (event.Sent channel m) past = Unit {0}
+LoadsCurrent header outside (event.Taken channel m) past = Unit {0}
+LoadsCurrent header outside (event.Dropped host object page) past = Unit {0}
+LoadsCurrent header outside (event.Zeroed host object page) past = Unit {0}
+LoadsCurrent header outside (event.Raised host lower lower_page upper upper_page) past = Unit {0}
+LoadsCurrent header outside (event.Shadowed region new old) past = Unit {0}
+LoadsCurrent header outside (event.DeviceFailed who way object page) past = Unit {0}
+LoadsCurrent header outside (event.NoSlot object page) past = Unit {0}
+LoadsCurrent header outside (event.Wired host count) past = Unit {0}

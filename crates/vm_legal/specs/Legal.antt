@@ -1,16 +1,25 @@
 -- What a legal history is.
-use Rattle.std.specs.Prelude.{◌≡◌, List, ◌++◌}
+use Rattle.std.specs.Prelude.{ℕ, ◌≡◌, ◌≢◌, true, List, ◌++◌}
 use Rattle.vm_model.specs.declared.event.Event.{Event}
 use Rattle.vm_model.specs.declared.command.Numbered.{Numbered}
 use Rattle.vm_model.specs.declared.script.Header.{Header}
 use Rattle.vm_model.specs.declared.script.Script.{Script}
+use Rattle.vm_model.specs.Coherence.{PageLegal}
+use Rattle.vm_model.specs.Local.{CanRead, CanWrite}
 use Rattle.vm_model.specs.Moments.{EachEvent, EachMoment, BeforeSteps}
+use Rattle.vm_model.specs.PagePart.{page_part}
 use Rattle.vm_legal.specs.Bytes.{OwnBytes, FlatBytes}
 use Rattle.vm_legal.specs.Debts.{IsPaid}
 use Rattle.vm_legal.specs.Follows.{Follows, FollowsSoFar}
 use Rattle.vm_legal.specs.Frames.{FramesSuffice}
-use Rattle.vm_legal.specs.Outside.{Outside}
-use Rattle.vm_legal.specs.Prompt.{Prompt}
+use Rattle.vm_legal.specs.Outside.{Outside, is_shared}
+use Rattle.vm_legal.specs.Prompt.{AllServed, Prompt}
+use Rattle.vm_legal.specs.Walks.{page_on}
+
+-- while a host can write a page of a shared object, no other host can read it
+abbrev pub HasOneWriter : Header → List Event → Type 0
+HasOneWriter header past =
+    (writer reader object page : ℕ) → is_shared header object ≡ true → writer ≢ reader → CanWrite (page_on header writer object page past) → CanRead (page_on header reader object page past) → ⊥
 
 -- what holds throughout a history, whatever its commands, but inside its last step
 pub record Holds (header : Header) (outside : Outside) (history : List Event) : Type 0 where
@@ -24,11 +33,18 @@ pub record Holds (header : Header) (outside : Outside) (history : List Event) : 
   pub prompt : BeforeSteps (Prompt header) history
   -- and it did what it owes
   pub paid : BeforeSteps (IsPaid header) history
+  -- and of each page of shared memory that somebody wants some host is awaited
+  pub served : BeforeSteps (AllServed header) history
+  -- at every moment a page of shared memory has one writer
+  pub one_writer : EachMoment (HasOneWriter header) history
+  -- each such page behaves as one memory
+  pub pages : (object page : ℕ) → is_shared header object ≡ true → PageLegal header.size (page_part header.size object page history)
 
 -- a step has ended
 pub record IsAtRest (header : Header) (history : List Event) : Type 0 where
   pub prompt : Prompt header history
   pub paid : IsPaid header history
+  pub served : AllServed header history
 
 -- the history is legal for these commands under this header
 pub record LegalFor (header : Header) (outside : Outside) (commands : List Numbered) (history : List Event) : Type 0 where

@@ -135,6 +135,12 @@ abbrev pub desired_access : Access → ℕ → ℕ
 desired_access access zero = if is_store access then 3 else 1
 desired_access access (suc steps) = 1
 
+-- a slow copy has a page left to copy
+abbrev pub HasPageLeft : ℕ → Access → ℕ → Type 0
+HasPageLeft size (Copying address bytes to) next = next < bytes / size
+HasPageLeft size (Loading address bytes) next = Unit {0}
+HasPageLeft size (Storing address bytes value) next = Unit {0}
+
 -- the walk of a waiting access stops at a page that its pager, which is ready, may have, and nobody asked
 pub record Asks (header : Header) (host control object page wanted : ℕ) (past : List Event) : Type 0 where
   pub task : ℕ
@@ -149,6 +155,7 @@ pub record Asks (header : Header) (host control object page wanted : ℕ) (past 
   pub away : (page_on header host object page past).here ≡ false
   pub unasked : (page_on header host object page past).asked ≡ false
   pub known : is_known_absent header (record { object = object; page = page }) (page_on header host object page past) ≡ false
+  pub left : HasPageLeft header.size access (next_page task past)
 
 -- no task of the host has an entry on the region
 abbrev pub IsUnmapped : Header → ℕ → ℕ → List Event → Type 0

@@ -24,6 +24,16 @@ is_wild_kind Wild = true
 abbrev pub is_wild : Header → ℕ → Bool
 is_wild header object = is_wild_kind (kind_of header object)
 
+abbrev pub is_shared_kind : ObjectKind → Bool
+is_shared_kind Temp = false
+is_shared_kind File = false
+is_shared_kind Shared = true
+is_shared_kind Wild = false
+
+-- the number is a shared object's, for which the server of shared memory answers, and its region's too
+abbrev pub is_shared : Header → ℕ → Bool
+is_shared header object = is_shared_kind (kind_of header object)
+
 abbrev pub is_file_kind : ObjectKind → Bool
 is_file_kind Temp = false
 is_file_kind File = true
@@ -68,7 +78,10 @@ start_in header Untold object page = zeros header
 abbrev pub start_page : Header → Outside → ℕ → ℕ → List ℕ
 start_page header outside object page = start_in header outside.files object page
 
--- A file's object or region; or a temporary one, where the paging area tells. Of these the law speaks: for shared objects
--- their server answers, for wild ones the script.
+-- A file's object or region; or a temporary one, where the paging area tells. For shared objects their server answers, for wild ones the script.
 abbrev pub is_private : Header → Outside → ℕ → Bool
 is_private header outside object = (not (nat_lt object (named header)) && outside.paging) || (nat_lt object (named header) && is_file_kept (declared header object))
+
+-- of these regions a load answers the flat map: of all but wild ones, and temporary ones only where the paging area tells
+abbrev pub is_flat : Header → Outside → ℕ → Bool
+is_flat header outside object = is_private header outside object || is_shared header object

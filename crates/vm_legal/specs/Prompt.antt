@@ -2,12 +2,15 @@
 use Rattle.std.specs.Prelude.{ℕ, ◌<◌, ◌≤◌, ◌≡◌, ◌⊎◌, List, length, Bool, true, false, Some, None}
 use Rattle.vm_model.specs.declared.event.Event.{Event}
 use Rattle.vm_model.specs.declared.script.Header.{Header}
+use Rattle.vm_model.specs.Coherence.{SomebodyIsAwaited}
 use Rattle.vm_model.specs.Controls.{live_control}
 use Rattle.vm_model.specs.Named.{named}
+use Rattle.vm_model.specs.PagePart.{page_part}
 use Rattle.vm_model.specs.Waiting.{Access, is_store}
 use Rattle.vm_legal.specs.Accesses.{Comes, HasPlace, Waits, WaitsUnlocked, WantsFrame, is_ready, names, page_of}
 use Rattle.vm_legal.specs.Frames.{frames_free, returns_out}
 use Rattle.vm_legal.specs.Licences.{IsUnheld}
+use Rattle.vm_legal.specs.Outside.{is_shared}
 use Rattle.vm_legal.specs.Walks.{Reach, page_on}
 
 -- what an access waits for at a place of its page
@@ -68,3 +71,7 @@ pub record PromptAt (header : Header) (host : ℕ) (past : List Event) : Type 0 
 -- each host has seen to it
 abbrev pub Prompt : Header → List Event → Type 0
 Prompt header past = (host : ℕ) → host < length header.frames.items → PromptAt header host past
+
+-- of each page of a shared object for which somebody stands in line at the server some host is awaited
+abbrev pub AllServed : Header → List Event → Type 0
+AllServed header past = (object page : ℕ) → is_shared header object ≡ true → SomebodyIsAwaited (page_part header.size object page past)

@@ -30,12 +30,6 @@ each_declared P header o all less =
     let some = some_declared header o less in
     (get_or header.objects.items (place header o) some, stands_at header o some less, all (place header o) some (omega (arith, less)))
 
-pub none_temporary : (objects : List Declared) → All (λ object. object.kind ≡ kinds.File) objects → All (λ object. object.kind ≢ kinds.Temp) objects
-none_temporary objects files = λ k d less is. differ (sym (files k d less) ∙ is)
-  where
-    differ : ◌≢◌ {A = ObjectKind} kinds.File kinds.Temp
-    differ is = absurd (cc)
-
 -- two objects that have one name are one, by whichever function gives an object's name
 pub named_once : (header : Header) (name : Option Declared → List ℕ) → ((object : Declared) → name (Some object) ≡ object.name) → AreNamedOnce header.objects.items
     → (one other : ℕ) → one < named header → other < named header → name (declared header one) ≡ name (declared header other) → one ≡ other

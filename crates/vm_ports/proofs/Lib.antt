@@ -1,1 +1,4 @@
-mod Letters
+pub mod Letters
+pub mod Places
+pub mod Removed
+pub mod Walks

@@ -1,14 +1,16 @@
 -- The channels of a run and the letters on them, as contracts see them.
 use Rattle.std.specs.Prelude.{ℕ, ◌<◌, ◌≡◌, ◌≢◌, ◌-◌, ◌^◌, ◌==◌, List, [], ◌∷◌, Option, Some, None, if◌then◌else◌}
 use Rattle.vm_base.specs.declared.ids.ChannelId.{ChannelId}
+use Rattle.vm_ports.specs.Nodes.{Place}
 use Rattle.vm_ports.specs.declared.letter.Letter.{Letter}
 
 -- how many channels there are, numbered from 0 on; the undelivered letters, the oldest first; how many can be sent
--- without memory
+-- without memory; the same letters with the keys of their nodes
 pub record PortTable (M : Type 0) : Type 0 where
   pub channels : ℕ
   pub letters : List (Letter M)
   pub room : ℕ
+  pub places : List (Place M)
 
 module _ {M : Type 0} where
   -- how many channels can still be added

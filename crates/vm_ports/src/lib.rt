@@ -2,7 +2,10 @@
 #![tactic(auto)]
 
 mod letter;
+mod links;
+mod node;
 mod ports;
 
 pub use letter::{Letter, SendBack};
+pub use node::Node;
 pub use ports::Ports;

@@ -1,37 +1,41 @@
 // The channels and the letters on them.
-ghost use Rattle.std.specs.Prelude.{◌≡◌, ◌+◌, ◌≤◌, ◌<◌, ◌∷◌, [], ◌++◌, length, position, slice_get, IsOk, OnOk, OnErr, IfOk, IfErr, IfNone, MatchOption};
+ghost use Rattle.std.specs.Prelude.{ℕ, ◌≡◌, ◌+◌, ◌≤◌, ◌<◌, ◌∷◌, [], ◌++◌, length, slice_get, IsOk, OnOk, OnErr, IfOk, IfErr, IfNone, MatchOption};
+ghost use Rattle.slab.specs.Slab.{get, slab_len};
+ghost use Rattle.vm_ports.specs.Nodes.{KeysApart, along, first_key, letters_of, node_at};
 ghost use Rattle.vm_ports.specs.Ports.{AllAdded, KeepsOthers, oldest, queue, spare_channels, without_first};
-ghost use Rattle.vm_ports.specs.Kept.{is_on_channel};
 
-use crate::letter::{Letter, SendBack};
-use std::alloc::{AllocFailed, Global};
-use std::collections::VecDeque;
+use crate::letter::SendBack;
+use crate::links;
+use crate::links::{Links, append, first_channel, first_message, no_links, take_first};
+use crate::node::Node;
+use slab::Slab;
+use std::alloc::Global;
 use std::marker::Model;
 use vm_base::{ChannelId, NoMemory};
 
 /// The channels of a run and the messages sent on them and not taken yet, each channel first in,
 /// first out.
 ///
-/// Contracts see all undelivered letters in the order of sending, the oldest first, and the room:
-/// the number of messages that can be sent without memory, whichever channels they go to. A taking
-/// may cost time linear in the number of undelivered letters.
+/// Contracts see all undelivered letters in the order of sending, the oldest first, the room, which
+/// is the number of messages that can be sent without memory, whichever channels they go to, and the
+/// keys of the letters' nodes. No call but `reserve` costs more for many undelivered letters than
+/// for few.
 #[derive(Drop)]
 pub struct Ports<M> {
-    // In the order of sending.
-    letters: VecDeque<Letter<M>>,
+    links: Links<M>,
     channels: u32,
 }
 
 impl<M> Model for Ports<M> {
-    ghost use Rattle.std.specs.Prelude.{length, ◌-◌};
-    ghost use Rattle.std.specs.VecDeque.{deque_capacity};
+    ghost use Rattle.vm_ports.specs.Kept.{AreLinked, places, room_of};
+    ghost use Rattle.vm_ports.specs.Nodes.{letters_of};
     ghost use Rattle.vm_ports.specs.Ports.{AllAdded, PortTable};
 
     ghost Value = { PortTable M };
 
-    ghost view = { λ s. record { channels = s.channels; letters = s.letters.items; room = deque_capacity s.letters - length s.letters.items } };
+    ghost view = { λ s. record { channels = s.channels; letters = letters_of (places s.links); room = room_of s.links; places = places s.links } };
 
-    ghost invariant = { λ s. AllAdded s.channels s.letters.items };
+    ghost invariant = { λ s. AreLinked s.links × AllAdded s.channels (letters_of (places s.links)) };
 }
 
 impl<M> Ports<M> {
@@ -41,7 +45,7 @@ impl<M> Ports<M> {
         ensures letters { result.letters ≡ [] }
     {
         Ports {
-            letters: VecDeque::new(alloc),
+            links: no_links(alloc),
             channels: 0,
         }
     }
@@ -59,7 +63,7 @@ impl<M> Ports<M> {
         if u32::MAX - self.channels < channels {
             return Err(NoMemory);
         }
-        self.letters.reserve(messages as usize)?;
+        links::reserve(&mut self.links, messages as usize)?;
         Ok(())
     }
 
@@ -94,17 +98,10 @@ impl<M> Ports<M> {
         ensures succeeds { 0 < self.old.room → IsOk result }
         ensures room { self.old.room ≤ self.new.room + 1 }
     {
-        let letter = Letter {
-            channel: ch,
-            message,
-        };
-        if let Err(AllocFailed { value }) = self.letters.push_back(letter) {
-            let Letter {
-                channel: _,
-                message,
-            } = value;
+        if links::reserve(&mut self.links, 1).is_err() {
             return Err(SendBack { message });
         }
+        self.send_spare(ch, message);
         Ok(())
     }
 
@@ -118,10 +115,7 @@ impl<M> Ports<M> {
         ensures channels { self.new.channels ≡ self.old.channels }
         ensures room { self.old.room ≤ self.new.room + 1 }
     {
-        self.letters.push_back_reserved(Letter {
-            channel: ch,
-            message,
-        });
+        append(&mut self.links, ch, message);
     }
 
     /// The message that is taken next from a channel; None exactly where the channel is empty.
@@ -130,8 +124,7 @@ impl<M> Ports<M> {
         ensures { MatchOption result (queue ch.0 self.now.letters ≡ [])
             (λ first. slice_get (queue ch.0 self.now.letters) 0 ≡ Some first.now) }
     {
-        let i = place(&self.letters, ch)?;
-        Some(&self.letters[i].message)
+        first_message(&self.links, ch)
     }
 
     /// Takes the first message out of a channel; None exactly where the channel is empty. It takes
@@ -146,12 +139,7 @@ impl<M> Ports<M> {
         ensures channels { self.new.channels ≡ self.old.channels }
         ensures room { self.old.room ≤ self.new.room }
     {
-        let i = place(&self.letters, ch)?;
-        let Letter {
-            channel: _,
-            message,
-        } = self.letters.remove(i)?;
-        Some(message)
+        take_first(&mut self.links, ch)
     }
 
     /// The channel of the undelivered letter that was sent first; None exactly where nothing is
@@ -161,8 +149,7 @@ impl<M> Ports<M> {
         ensures added { MatchOption result (self.now.letters ≡ []) (λ ch. ch.0 < self.now.channels) }
         ensures filled { MatchOption result (self.now.letters ≡ []) (λ ch. 0 < length (queue ch.0 self.now.letters)) }
     {
-        let letter = self.letters.front()?;
-        Some(letter.channel)
+        first_channel(&self.links)
     }
 
     /// The number of undelivered letters.
@@ -170,13 +157,27 @@ impl<M> Ports<M> {
         ensures count { result ≡ length self.now.letters }
         ensures added { AllAdded self.now.channels self.now.letters }
     {
-        self.letters.len() as u64
+        self.links.nodes.len() as u64
     }
-}
 
-// Where the first letter of a channel stands.
-fn place<M>(letters: &VecDeque<Letter<M>>, ch: ChannelId) -> Option<usize>
-    ensures { result ≡ position (is_on_channel ch.0) letters.now.items }
-{
-    letters.iter().position(|letter| letter.channel == ch)
+    /// The nodes of the undelivered messages. From the node of `first` along `newer` they give these
+    /// in the order of sending, and there is no other node.
+    pub fn nodes(&self) -> &Slab<Node<M>>
+        ensures order { along (get result.now) (length self.now.letters) (first_key self.now.places) ≡ self.now.places }
+        ensures letters { letters_of self.now.places ≡ self.now.letters }
+        ensures nodes { (key : ℕ) → get result.now key ≡ node_at self.now.places key }
+        ensures apart { KeysApart self.now.places }
+        ensures count { slab_len result.now ≡ length self.now.letters }
+    {
+        &self.links.nodes
+    }
+
+    /// The key of the node of the message that was sent first; None exactly where nothing is
+    /// undelivered.
+    pub fn first(&self) -> Option<usize>
+        ensures first { result ≡ first_key self.now.places }
+        ensures empty { MatchOption result (self.now.letters ≡ []) (λ _. 0 < length self.now.letters) }
+    {
+        self.links.first
+    }
 }

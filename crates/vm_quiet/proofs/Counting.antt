@@ -24,7 +24,7 @@ use Rattle.vm_legal.specs.Licences.{HasCause, MaySendUp}
 use Rattle.vm_legal.specs.Outside.{Outside}
 use Rattle.vm_legal.specs.Walks.{page_on}
 use Rattle.vm_model.proofs.Ports.{same_control}
-use Rattle.vm_quiet.specs.Places.{AllPaged, FramesAreCounted, has_frame}
+use Rattle.vm_quiet.specs.Places.{FramesAreCounted, has_frame}
 use Rattle.vm_quiet.proofs.Letters.{never, some_out, passed}
 use Rattle.vm_quiet.proofs.Places.{Held, one_if, held_none, held_same, held_more, held_less, held_some, test_there}
 use Rattle.vm_quiet.proofs.Sane.{Base, IsVacant, base_of, not_true, there, there_two, vacant_zeroed, vacant_raised, vacant_copied, left, right, control_of}
@@ -309,8 +309,8 @@ count_taken header host at object (message.Return control page dirty keep bytes)
     by false n r f some e = e
 count_taken header host at object m past base head count = taken_same header host at object m past refl refl count
 
-pub count_next : (header : Header) (outside : Outside) (host : ℕ) (e : Event) (past : List Event) → AllPaged header → Base header host past → HasCause header outside e past → Count header host past → Count header host (e ∷ past)
-count_next header outside host (event.Zeroed at object page) past all base c count =
+pub count_next : (header : Header) (outside : Outside) (host : ℕ) (e : Event) (past : List Event) → Base header host past → HasCause header outside e past → Count header host past → Count header host (e ∷ past)
+count_next header outside host (event.Zeroed at object page) past base c count =
     record {
       number = if at.0 == host then count.number + 1 else count.number;
       held = more_if (at.0 == host) (framed header host past) (framed header host (event.Zeroed at object page ∷ past)) count.number object.0 page.0
@@ -319,7 +319,7 @@ count_next header outside host (event.Zeroed at object page) past all base c cou
           count.held;
       sum = takes (at.0 == host) count.number (returns_out host past) (frames_held header.size host past) count.sum;
     }
-count_next header outside host (event.Raised at lower lower_page upper upper_page) past all base c count =
+count_next header outside host (event.Raised at lower lower_page upper upper_page) past base c count =
     record {
       number = if at.0 == host then count.number + 1 else count.number;
       held = more_if (at.0 == host) (framed header host past) (framed header host (event.Raised at lower lower_page upper upper_page ∷ past)) count.number upper.0 upper_page.0
@@ -328,7 +328,7 @@ count_next header outside host (event.Raised at lower lower_page upper upper_pag
           count.held;
       sum = takes (at.0 == host) count.number (returns_out host past) (frames_held header.size host past) count.sum;
     }
-count_next header outside host (event.CopiedPage task page object object_page target) past all base c count =
+count_next header outside host (event.CopiedPage task page object object_page target) past base c count =
     record {
       number = if is_on host (host_of task.0 past) then count.number + 1 else count.number;
       held = more_if (is_on host (host_of task.0 past)) (framed header host past) (framed header host (event.CopiedPage task page object object_page target ∷ past)) count.number target.0 page.0
@@ -337,14 +337,14 @@ count_next header outside host (event.CopiedPage task page object object_page ta
           count.held;
       sum = takes (is_on host (host_of task.0 past)) count.number (returns_out host past) (frames_held header.size host past) count.sum;
     }
-count_next header outside host (event.Stored task object page at size value) past all base c count =
+count_next header outside host (event.Stored task object page at size value) past base c count =
     record {
       number = count.number;
       held = held_same (framed header host past) (framed header host (event.Stored task object page at size value ∷ past)) count.number
           (λ o p. kept_if header.size (is_on host (host_of task.0 past) && (object.0 == o && page.0 == p)) (Stores at (little_endian_bytes size value)) (page_on header host o p past) (λ is. refl)) count.held;
       sum = count.sum;
     }
-count_next header outside host (event.Dropped at object page) past all base c count =
+count_next header outside host (event.Dropped at object page) past base c count =
     record {
       number = if at.0 == host then count.number - 1 else count.number;
       held = less_if (at.0 == host) (framed header host past) (framed header host (event.Dropped at object page ∷ past)) count.number object.0 page.0 (λ is. here_framed (page_on header host object.0 page.0 past) (own is))
@@ -356,17 +356,17 @@ count_next header outside host (event.Dropped at object page) past all base c co
   where
     own : (at.0 == host) ≡ true → (page_on header host object.0 page.0 past).here ≡ true
     own is = on_host (λ h. (page_on header h object.0 page.0 past).here ≡ true) at.0 host is c.1.here
-count_next header outside host (event.Sent (Up at object) m) past all base c count = count_up header host at object m past base c count
-count_next header outside host (event.Taken (Up at object) m) past all base c count = count_taken header host at object m past base c.1.0 count
-count_next header outside host (event.Taken (Down at object control) m) past all base c count = count_down header host at object control m past base count
-count_next header outside host e past all base c count = record { number = count.number; held = held_same (framed header host past) (framed header host past) count.number (λ o p. refl) count.held; sum = count.sum }
+count_next header outside host (event.Sent (Up at object) m) past base c count = count_up header host at object m past base c count
+count_next header outside host (event.Taken (Up at object) m) past base c count = count_taken header host at object m past base c.1.0 count
+count_next header outside host (event.Taken (Down at object control) m) past base c count = count_down header host at object control m past base count
+count_next header outside host e past base c count = record { number = count.number; held = held_same (framed header host past) (framed header host past) count.number (λ o p. refl) count.held; sum = count.sum }
 
-pub count_of : (header : Header) (outside : Outside) (host : ℕ) (history : List Event) → AllPaged header → EachEvent (HasCause header outside) history → Count header host history
-count_of header outside host [] all c = record { number = 0; held = held_none (framed header host []) (λ o p. refl); sum = refl }
-count_of header outside host (e ∷ past) all c = count_next header outside host e past all (base_of header outside host past all c.1) c.0 (count_of header outside host past all c.1)
+pub count_of : (header : Header) (outside : Outside) (host : ℕ) (history : List Event) → EachEvent (HasCause header outside) history → Count header host history
+count_of header outside host [] c = record { number = 0; held = held_none (framed header host []) (λ o p. refl); sum = refl }
+count_of header outside host (e ∷ past) c = count_next header outside host e past (base_of header outside host past c.1) c.0 (count_of header outside host past c.1)
 
-pub frames_counted : (header : Header) (outside : Outside) (host : ℕ) (history : List Event) → AllPaged header → EachEvent (HasCause header outside) history → FramesAreCounted header host history
-frames_counted header outside host history all c = by (count_of header outside host history all c)
+pub frames_counted : (header : Header) (outside : Outside) (host : ℕ) (history : List Event) → EachEvent (HasCause header outside) history → FramesAreCounted header host history
+frames_counted header outside host history c = by (count_of header outside host history c)
   where
     by : Count header host history → FramesAreCounted header host history
     by count =
@@ -377,5 +377,5 @@ frames_counted header outside host history all c = by (count_of header outside h
           count = ap (λ n. n + returns_out host history) count.held.count ∙ count.sum;
         }
 
-pub never_both : (header : Header) (outside : Outside) (host o p : ℕ) (history : List Event) → AllPaged header → EachEvent (HasCause header outside) history → (page_on header host o p history).here ≡ true → (page_on header host o p history).asked ≡ false
-never_both header outside host o p history all c = ((base_of header outside host history all c).sane o p).apart
+pub never_both : (header : Header) (outside : Outside) (host o p : ℕ) (history : List Event) → EachEvent (HasCause header outside) history → (page_on header host o p history).here ≡ true → (page_on header host o p history).asked ≡ false
+never_both header outside host o p history c = ((base_of header outside host history c).sane o p).apart

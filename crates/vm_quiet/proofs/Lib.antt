@@ -2,6 +2,7 @@ pub mod Letters
 pub mod Places
 pub mod Sane
 pub mod Counting
+pub mod Unlocked
 pub mod Ways
 pub mod Awaited
 pub mod Carried

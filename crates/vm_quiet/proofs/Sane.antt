@@ -1,5 +1,5 @@
 -- What holds of each place, control and channel of a host at every moment of a caused history.
-use Rattle.std.proofs.Common.{inl, inr, ℕ, zero, suc, ◌≡◌, ◌∙◌, List, [], ◌∷◌, ◌++◌, Bool, true, false, refl, sym, ap, subst, arith, Option, Some, None, if◌then◌else◌}
+use Rattle.std.proofs.Common.{inl, inr, ℕ, zero, suc, ◌≡◌, ◌∙◌, List, [], ◌∷◌, Bool, true, false, refl, sym, ap, subst, arith, Option, Some, None, if◌then◌else◌}
 use Rattle.std.proofs.lemmas.Bool.Decides.{nat_tests}
 use Rattle.std.specs.Prelude.{◌==◌, ◌&&◌, ◌||◌, ◌<◌, ◌≤◌, ◌⊎◌, not, nat_lt, is_some}
 use Rattle.vm_base.specs.Pages.{little_endian_bytes}
@@ -12,18 +12,14 @@ use Rattle.vm_model.specs.declared.message.Message.{Message}
 use Rattle.vm_model.specs.declared.message.Message.TheVariants as message
 use Rattle.vm_model.specs.declared.command.Command.{Command}
 use Rattle.vm_model.specs.declared.script.Header.{Header}
-use Rattle.vm_model.specs.Channels.{queue, down_port}
 use Rattle.vm_model.specs.Controls.{is_control, without_control, last_control, live_control}
 use Rattle.vm_model.specs.Local.{LocalEffect, Local, Zeroes, Raises, Stores, Drops, Returns, Asks, Unlocks, TakesPage, TakesNothing, TakesError, TakesLock, Begins, Ends, Elsewhere, effect, is_on, local, local_after}
 use Rattle.vm_model.specs.Moments.{EachEvent}
 use Rattle.vm_model.specs.Named.{named}
-use Rattle.vm_model.specs.Server.{first}
-use Rattle.vm_model.specs.Side.{rest}
 use Rattle.vm_model.specs.Tasks.{host_of}
 use Rattle.vm_model.specs.Words.{in_range}
 use Rattle.vm_legal.specs.Frames.{returns_out}
-use Rattle.vm_legal.proofs.Served.{paged_may}
-use Rattle.vm_legal.specs.Licences.{Bottoms, CopiesPage, Fills, HasCause, MaySendDown, MaySendUp, Raises as RaisesPage, is_paged}
+use Rattle.vm_legal.specs.Licences.{Bottoms, CopiesPage, Fills, HasCause, MaySendUp, Raises as RaisesPage, is_paged}
 use Rattle.vm_legal.specs.Outside.{Outside, is_file}
 use Rattle.vm_legal.specs.Undelivered.{undelivered}
 use Rattle.vm_legal.specs.Walks.{Sinks, page_on, sight}
@@ -97,7 +93,6 @@ vacant_copied header host task index object page target past c on =
 pub record Sane (page : Local) (live : Option ℕ) : Type 0 where
   pub apart : page.here ≡ true → page.asked ≡ false
   pub living : page.asked ≡ true → is_some live ≡ true
-  pub unlocked : page.lock ≡ 0
 
 abbrev pub Lives : Option ℕ → Option ℕ → Type 0
 Lives live after = is_some live ≡ true → is_some after ≡ true
@@ -111,85 +106,46 @@ Allowed Drops was live after = was.here ≡ true
 Allowed (Returns keep) was live after = was.here ≡ true
 Allowed Asks was live after = IsVacant was × (is_some after ≡ true)
 Allowed Unlocks was live after = Lives live after
-Allowed (TakesPage lock precious bytes) was live after = lock ≡ 0
+Allowed (TakesPage lock precious bytes) was live after = Unit {0}
 Allowed TakesNothing was live after = Unit {0}
 Allowed TakesError was live after = Unit {0}
-Allowed (TakesLock lock flush) was live after = (lock ≡ 8) × Lives live after
+Allowed (TakesLock lock flush) was live after = Lives live after
 Allowed Begins was live after = Unit {0}
 Allowed Ends was live after = Unit {0}
 Allowed Elsewhere was live after = Lives live after
 
-lock_kept : (flush : Bool) (lock was : ℕ) → lock ≡ 8 → was ≡ 0 → (if flush || lock == 8 then was else lock) ≡ 0
-lock_kept true lock was is open_ = open_
-lock_kept false lock was is open_ = by (lock == 8) (eight lock is)
-  where
-    eight : (l : ℕ) → l ≡ 8 → (l == 8) ≡ true
-    eight l e = grind (arith, nat_tests)
-
-    by : (b : Bool) → b ≡ true → (if b then was else lock) ≡ 0
-    by true e = open_
-    by false e = never e
-
 sane_moved : (size : ℕ) (e : LocalEffect) (was : Local) (live after : Option ℕ) → Allowed e was live after → Sane was live → Sane (local_after size e was) after
-sane_moved size Zeroes was live after c s = record { apart = λ is. c.unasked; living = λ is. never (sym c.unasked ∙ is); unlocked = refl }
-sane_moved size (Raises bytes) was live after c s = record { apart = λ is. c.unasked; living = λ is. never (sym c.unasked ∙ is); unlocked = refl }
-sane_moved size (Stores at bytes) was live after c s = record { apart = s.apart; living = λ is. c (s.living is); unlocked = s.unlocked }
-sane_moved size Drops was live after c s = record { apart = λ is. s.apart c; living = λ is. never (sym (s.apart c) ∙ is); unlocked = refl }
-sane_moved size (Returns true) was live after c s = record { apart = s.apart; living = λ is. never (sym (s.apart c) ∙ is); unlocked = s.unlocked }
-sane_moved size (Returns false) was live after c s = record { apart = λ is. s.apart c; living = λ is. never (sym (s.apart c) ∙ is); unlocked = refl }
-sane_moved size Asks was live after c s = record { apart = λ is. never (sym c.0.away ∙ is); living = λ is. c.1; unlocked = s.unlocked }
-sane_moved size Unlocks was live after c s = record { apart = s.apart; living = λ is. c (s.living is); unlocked = s.unlocked }
+sane_moved size Zeroes was live after c s = record { apart = λ is. c.unasked; living = λ is. never (sym c.unasked ∙ is) }
+sane_moved size (Raises bytes) was live after c s = record { apart = λ is. c.unasked; living = λ is. never (sym c.unasked ∙ is) }
+sane_moved size (Stores at bytes) was live after c s = record { apart = s.apart; living = λ is. c (s.living is) }
+sane_moved size Drops was live after c s = record { apart = λ is. s.apart c; living = λ is. never (sym (s.apart c) ∙ is) }
+sane_moved size (Returns true) was live after c s = record { apart = s.apart; living = λ is. never (sym (s.apart c) ∙ is) }
+sane_moved size (Returns false) was live after c s = record { apart = λ is. s.apart c; living = λ is. never (sym (s.apart c) ∙ is) }
+sane_moved size Asks was live after c s = record { apart = λ is. never (sym c.0.away ∙ is); living = λ is. c.1 }
+sane_moved size Unlocks was live after c s = record { apart = s.apart; living = λ is. c (s.living is) }
 sane_moved size (TakesPage lock precious bytes) was live after c s = by was.asked refl
   where
     by : (b : Bool) → was.asked ≡ b → Sane (if b then record was { here = true; bytes = bytes; lock = lock; dirty = false; precious = precious; unlocking = false; asked = false } else was) after
-    by true is = record { apart = λ x. refl; living = λ x. never x; unlocked = c }
-    by false is = record { apart = s.apart; living = λ x. never (sym is ∙ x); unlocked = s.unlocked }
+    by true is = record { apart = λ x. refl; living = λ x. never x }
+    by false is = record { apart = s.apart; living = λ x. never (sym is ∙ x) }
 sane_moved size TakesNothing was live after c s = by was.asked refl
   where
     by : (b : Bool) → was.asked ≡ b → Sane (if b then record was { asked = false; absent = true } else was) after
-    by true is = record { apart = λ x. refl; living = λ x. never x; unlocked = s.unlocked }
-    by false is = record { apart = s.apart; living = λ x. never (sym is ∙ x); unlocked = s.unlocked }
-sane_moved size TakesError was live after c s = record { apart = λ x. refl; living = λ x. never x; unlocked = s.unlocked }
+    by true is = record { apart = λ x. refl; living = λ x. never x }
+    by false is = record { apart = s.apart; living = λ x. never (sym is ∙ x) }
+sane_moved size TakesError was live after c s = record { apart = λ x. refl; living = λ x. never x }
 sane_moved size (TakesLock lock flush) was live after c s = by was.here
   where
     by : (b : Bool) → Sane (if b then record was { lock = if flush || lock == 8 then was.lock else lock; unlocking = false } else was) after
-    by true = record { apart = s.apart; living = λ is. c.1 (s.living is); unlocked = lock_kept flush lock was.lock c.0 s.unlocked }
-    by false = record { apart = s.apart; living = λ is. c.1 (s.living is); unlocked = s.unlocked }
-sane_moved size Begins was live after c s = record { apart = λ x. refl; living = λ x. never x; unlocked = s.unlocked }
-sane_moved size Ends was live after c s = record { apart = λ x. refl; living = λ x. never x; unlocked = s.unlocked }
-sane_moved size Elsewhere was live after c s = record { apart = s.apart; living = λ is. c (s.living is); unlocked = s.unlocked }
-
--- the messages down have no lock
-abbrev pub IsPlain : Message → Type 0
-IsPlain (message.Supply page lock precious bytes) = lock ≡ 0
-IsPlain (message.Lock page count returns flush lock reply) = lock ≡ 8
-IsPlain other = Unit {0}
-
-abbrev pub ArePlain : List Message → Type 0
-ArePlain [] = Unit {0}
-ArePlain (m ∷ q) = IsPlain m × ArePlain q
-
-plain_if : (b : Bool) (q : List Message) (m : Message) → IsPlain m → ArePlain q → ArePlain (if b then q ++ m ∷ [] else q)
-plain_if false q m one all = all
-plain_if true q m one all = end q all
-  where
-    end : (q : List Message) → ArePlain q → ArePlain (q ++ m ∷ [])
-    end [] all = (one, tt)
-    end (x ∷ q) all = (all.0, end q all.1)
-
-plain_rest : (b : Bool) (q : List Message) → ArePlain q → ArePlain (if b then rest q else q)
-plain_rest false q all = all
-plain_rest true [] all = tt
-plain_rest true (x ∷ q) all = all.1
-
-plain_first : (q : List Message) (m : Message) → first q ≡ Some m → ArePlain q → IsPlain m
-plain_first [] m is all = absurd (cc)
-plain_first (x ∷ q) m is all = let same : x ≡ m = cc in subst (λ (y : Message). IsPlain y) same all.0
+    by true = record { apart = s.apart; living = λ is. c (s.living is) }
+    by false = record { apart = s.apart; living = λ is. c (s.living is) }
+sane_moved size Begins was live after c s = record { apart = λ x. refl; living = λ x. never x }
+sane_moved size Ends was live after c s = record { apart = λ x. refl; living = λ x. never x }
+sane_moved size Elsewhere was live after c s = record { apart = s.apart; living = λ is. c (s.living is) }
 
 pub record Base (header : Header) (host : ℕ) (past : List Event) : Type 0 where
   pub sane : (o p : ℕ) → Sane (page_on header host o p past) (live_control host o past)
   pub numbered : (o : ℕ) → last_control host o past ≡ 0 → is_some (live_control host o past) ≡ false
-  pub plain : (o k : ℕ) → ArePlain (queue (down_port host o k) past)
   pub returns : returns_out host past ≡ outs host (undelivered past)
 
 allowed_if : (t : Bool) (e : LocalEffect) (was : Local) (live after : Option ℕ) → (t ≡ true → Allowed e was live after) → Lives live after → Allowed (if t then e else Elsewhere) was live after
@@ -257,57 +213,45 @@ up_allowed header host at object (message.Unlock control page access) past o p c
 up_allowed header host at object (message.Completed control page count) past o p c = elsewhere_allowed (at.0 == host && object.0 == o) (page_on header host o p past) (live_control host o past)
 up_allowed header host at object m past o p c = absurd c.1
 
-port_there : (header : Header) (host : ℕ) (past : List Event) (at : HostId) (object : ObjectId) (control o : ℕ) (m : Message) → Base header host past → first (queue (Down at object control) past) ≡ Some m → (at.0 == host && object.0 == o) ≡ true → IsPlain m
-port_there header host past at object control o m base head is =
-    plain_first (queue (down_port host o control) past) m (there_two (λ h k. first (queue (down_port h k control) past) ≡ Some m) at.0 object.0 host o is head) (base.plain o control)
-
-pair : (a b c : Bool) → (a && (b && c)) ≡ true → (a && b) ≡ true
-pair true true c e = refl
-pair true false c e = never e
-pair false b c e = never e
-
-down_allowed : (header : Header) (host : ℕ) (at : HostId) (object : ObjectId) (control : ℕ) (m : Message) (past : List Event) (o p : ℕ) → Base header host past → first (queue (Down at object control) past) ≡ Some m
+down_allowed : (header : Header) (host : ℕ) (at : HostId) (object : ObjectId) (control : ℕ) (m : Message) (past : List Event) (o p : ℕ)
     → Allowed (effect host (record { object = o; page = p }) (λ source. local header.size host source past) (event.Taken (Down at object control) m) past) (page_on header host o p past) (live_control host o past) (live_control host o past)
-down_allowed header host at object control (message.Supply page lock precious bytes) past o p base head =
-    allowed_two (at.0 == host && (object.0 == o && is_control control (live_control host o past))) (page.0 == p) (TakesPage lock precious bytes) (page_on header host o p past) (live_control host o past) (live_control host o past)
-    (λ s t. port_there header host past at object control o (message.Supply page lock precious bytes) base head (pair (at.0 == host) (object.0 == o) (is_control control (live_control host o past)) s))
-    (λ is. is)
-down_allowed header host at object control (message.Unavailable page) past o p base head =
+down_allowed header host at object control (message.Supply page lock precious bytes) past o p =
+    allowed_two (at.0 == host && (object.0 == o && is_control control (live_control host o past))) (page.0 == p) (TakesPage lock precious bytes) (page_on header host o p past) (live_control host o past) (live_control host o past) (λ s t. tt) (λ is. is)
+down_allowed header host at object control (message.Unavailable page) past o p =
     allowed_two (at.0 == host && (object.0 == o && is_control control (live_control host o past))) (page.0 == p) TakesNothing (page_on header host o p past) (live_control host o past) (live_control host o past) (λ s t. tt) (λ is. is)
-down_allowed header host at object control (message.Error page reason) past o p base head =
+down_allowed header host at object control (message.Error page reason) past o p =
     allowed_two (at.0 == host && (object.0 == o && is_control control (live_control host o past))) (page.0 == p) TakesError (page_on header host o p past) (live_control host o past) (live_control host o past) (λ s t. tt) (λ is. is)
-down_allowed header host at object control (message.Lock page count returns flush lock reply) past o p base head =
+down_allowed header host at object control (message.Lock page count returns flush lock reply) past o p =
     allowed_two (at.0 == host && (object.0 == o && is_control control (live_control host o past))) (in_range p page.0 count) (TakesLock lock flush) (page_on header host o p past) (live_control host o past) (live_control host o past)
-    (λ s t. (port_there header host past at object control o (message.Lock page count returns flush lock reply) base head (pair (at.0 == host) (object.0 == o) (is_control control (live_control host o past)) s), λ is. is))
-    (λ is. is)
-down_allowed header host at object control m past o p base head = elsewhere_allowed (at.0 == host && (object.0 == o && is_control control (live_control host o past))) (page_on header host o p past) (live_control host o past)
+    (λ s t. λ is. is) (λ is. is)
+down_allowed header host at object control m past o p = elsewhere_allowed (at.0 == host && (object.0 == o && is_control control (live_control host o past))) (page_on header host o p past) (live_control host o past)
 
-allowed_next : (header : Header) (outside : Outside) (host : ℕ) (e : Event) (past : List Event) → AllPaged header → Base header host past → HasCause header outside e past → (o p : ℕ)
+allowed_next : (header : Header) (outside : Outside) (host : ℕ) (e : Event) (past : List Event) → HasCause header outside e past → (o p : ℕ)
     → Allowed (effect host (record { object = o; page = p }) (λ source. local header.size host source past) e past) (page_on header host o p past) (live_control host o past) (live_control host o (e ∷ past))
-allowed_next header outside host (event.Zeroed at object page) past all base c o p =
+allowed_next header outside host (event.Zeroed at object page) past c o p =
     allowed_if (at.0 == host && (object.0 == o && page.0 == p)) Zeroes (page_on header host o p past) (live_control host o past) (live_control host o past)
     (λ is. there (λ h k q. IsVacant (page_on header h k q past)) at.0 object.0 page.0 host o p is (vacant_zeroed header at.0 object.0 page.0 past c.1))
     (λ is. is)
-allowed_next header outside host (event.Raised at lower lower_page upper upper_page) past all base c o p =
+allowed_next header outside host (event.Raised at lower lower_page upper upper_page) past c o p =
     allowed_if (at.0 == host && (upper.0 == o && upper_page.0 == p)) (Raises (page_on header host lower.0 lower_page.0 past).bytes) (page_on header host o p past) (live_control host o past) (live_control host o past)
     (λ is. there (λ h k q. IsVacant (page_on header h k q past)) at.0 upper.0 upper_page.0 host o p is (vacant_raised header at.0 lower.0 lower_page.0 upper.0 upper_page.0 past c.1))
     (λ is. is)
-allowed_next header outside host (event.CopiedPage task page object object_page target) past all base c o p =
+allowed_next header outside host (event.CopiedPage task page object object_page target) past c o p =
     allowed_if (is_on host (host_of task.0 past) && (target.0 == o && page.0 == p)) (Raises (page_on header host object.0 object_page.0 past).bytes) (page_on header host o p past) (live_control host o past) (live_control host o past)
     (λ is. there_two (λ k q. IsVacant (page_on header host k q past)) target.0 page.0 o p (right (is_on host (host_of task.0 past)) (target.0 == o && page.0 == p) is)
     (vacant_copied header host task.0 page.0 object.0 object_page.0 target.0 past c.1 (left (is_on host (host_of task.0 past)) (target.0 == o && page.0 == p) is)))
     (λ is. is)
-allowed_next header outside host (event.Stored task object page at size value) past all base c o p =
+allowed_next header outside host (event.Stored task object page at size value) past c o p =
     allowed_if (is_on host (host_of task.0 past) && (object.0 == o && page.0 == p)) (Stores at (little_endian_bytes size value)) (page_on header host o p past) (live_control host o past) (live_control host o past) (λ is. λ x. x) (λ is. is)
-allowed_next header outside host (event.Dropped at object page) past all base c o p =
+allowed_next header outside host (event.Dropped at object page) past c o p =
     allowed_if (at.0 == host && (object.0 == o && page.0 == p)) Drops (page_on header host o p past) (live_control host o past) (live_control host o past)
     (λ is. there (λ h k q. (page_on header h k q past).here ≡ true) at.0 object.0 page.0 host o p is c.1.here)
     (λ is. is)
-allowed_next header outside host (event.Sent (Up at object) m) past all base c o p = up_allowed header host at object m past o p c
-allowed_next header outside host (event.Sent (Down at object control) m) past all base c o p = λ is. is
-allowed_next header outside host (event.Taken (Up at object) m) past all base c o p = λ is. is
-allowed_next header outside host (event.Taken (Down at object control) m) past all base c o p = down_allowed header host at object control m past o p base c.1.0
-allowed_next header outside host e past all base c o p = λ is. is
+allowed_next header outside host (event.Sent (Up at object) m) past c o p = up_allowed header host at object m past o p c
+allowed_next header outside host (event.Sent (Down at object control) m) past c o p = λ is. is
+allowed_next header outside host (event.Taken (Up at object) m) past c o p = λ is. is
+allowed_next header outside host (event.Taken (Down at object control) m) past c o p = down_allowed header host at object control m past o p
+allowed_next header outside host e past c o p = λ is. is
 
 -- a number of a control is never 0
 numbered_if : (b : Bool) (control last : ℕ) (live : Option ℕ) → 1 ≤ control → (last ≡ 0 → is_some live ≡ false) → (if b then control else last) ≡ 0 → is_some (if b then Some control else live) ≡ false
@@ -319,39 +263,27 @@ none_without true control None is = refl
 none_without true control (Some n) is = never (sym is)
 none_without false control live is = is
 
-numbered_next : (header : Header) (outside : Outside) (host : ℕ) (e : Event) (past : List Event) → AllPaged header → Base header host past → HasCause header outside e past → (o : ℕ) → last_control host o (e ∷ past) ≡ 0 → is_some (live_control host o (e ∷ past)) ≡ false
-numbered_next header outside host (event.Sent (Up at object) (message.Init control size)) past all base c o =
+numbered_next : (header : Header) (outside : Outside) (host : ℕ) (e : Event) (past : List Event) → Base header host past → HasCause header outside e past → (o : ℕ) → last_control host o (e ∷ past) ≡ 0 → is_some (live_control host o (e ∷ past)) ≡ false
+numbered_next header outside host (event.Sent (Up at object) (message.Init control size)) past base c o =
     numbered_if (at.0 == host && object.0 == o) control (last_control host o past) (live_control host o past) (omega (arith, c.1.number)) (base.numbered o)
-numbered_next header outside host (event.Sent (Up at object) (message.Create control size)) past all base c o =
+numbered_next header outside host (event.Sent (Up at object) (message.Create control size)) past base c o =
     numbered_if (at.0 == host && object.0 == o) control (last_control host o past) (live_control host o past) (omega (arith, c.1.number)) (base.numbered o)
-numbered_next header outside host (event.Sent (Up at object) (message.Terminate control)) past all base c o = λ none. none_without (at.0 == host && object.0 == o) control (live_control host o past) (base.numbered o none)
-numbered_next header outside host e past all base c o = base.numbered o
-
-down_plain : (header : Header) (outside : Outside) (doing : Command) (h o k : ℕ) (m : Message) (past : List Event) → MaySendDown header outside doing h o k m past → IsPlain m
-down_plain header outside doing h o k (message.Supply page lock precious bytes) past c = c.2
-down_plain header outside doing h o k (message.Lock page count returns flush lock reply) past c = c.2
-down_plain header outside doing h o k m past c = tt
-
-plain_next : (header : Header) (outside : Outside) (host : ℕ) (e : Event) (past : List Event) → AllPaged header → Base header host past → HasCause header outside e past → (o k : ℕ) → ArePlain (queue (down_port host o k) (e ∷ past))
-plain_next header outside host (event.Sent (Down at object n) m) past all base c o k =
-    plain_if (at.0 == host && (object.0 == o && n == k)) (queue (down_port host o k) past) m (down_plain header outside c.0 at.0 object.0 n m past (paged_may header outside c.0 at.0 object.0 n m past (paged header all object.0) c.1)) (base.plain o k)
-plain_next header outside host (event.Taken (Down at object n) m) past all base c o k = plain_rest (at.0 == host && (object.0 == o && n == k)) (queue (down_port host o k) past) (base.plain o k)
-plain_next header outside host e past all base c o k = base.plain o k
+numbered_next header outside host (event.Sent (Up at object) (message.Terminate control)) past base c o = λ none. none_without (at.0 == host && object.0 == o) control (live_control host o past) (base.numbered o none)
+numbered_next header outside host e past base c o = base.numbered o
 
 returns_next : (header : Header) (outside : Outside) (host : ℕ) (e : Event) (past : List Event) → Base header host past → HasCause header outside e past → returns_out host (e ∷ past) ≡ outs host (undelivered (e ∷ past))
 returns_next header outside host (event.Sent d m) past base c = outs_sent host d m past base.returns
 returns_next header outside host (event.Taken d m) past base c = outs_taken host d m past c.1.0 base.returns
 returns_next header outside host e past base c = base.returns
 
-pub base_next : (header : Header) (outside : Outside) (host : ℕ) (e : Event) (past : List Event) → AllPaged header → Base header host past → HasCause header outside e past → Base header host (e ∷ past)
-base_next header outside host e past all base c =
+pub base_next : (header : Header) (outside : Outside) (host : ℕ) (e : Event) (past : List Event) → Base header host past → HasCause header outside e past → Base header host (e ∷ past)
+base_next header outside host e past base c =
     record {
-      sane = λ o p. sane_moved header.size (effect host (record { object = o; page = p }) (λ source. local header.size host source past) e past) (page_on header host o p past) (live_control host o past) (live_control host o (e ∷ past)) (allowed_next header outside host e past all base c o p) (base.sane o p);
-      numbered = numbered_next header outside host e past all base c;
-      plain = plain_next header outside host e past all base c;
+      sane = λ o p. sane_moved header.size (effect host (record { object = o; page = p }) (λ source. local header.size host source past) e past) (page_on header host o p past) (live_control host o past) (live_control host o (e ∷ past)) (allowed_next header outside host e past c o p) (base.sane o p);
+      numbered = numbered_next header outside host e past base c;
       returns = returns_next header outside host e past base c;
     }
 
-pub base_of : (header : Header) (outside : Outside) (host : ℕ) (history : List Event) → AllPaged header → EachEvent (HasCause header outside) history → Base header host history
-base_of header outside host [] all c = record { sane = λ o p. record { apart = λ is. refl; living = λ is. never is; unlocked = refl }; numbered = λ o is. refl; plain = λ o k. tt; returns = refl }
-base_of header outside host (e ∷ past) all c = base_next header outside host e past all (base_of header outside host past all c.1) c.0
+pub base_of : (header : Header) (outside : Outside) (host : ℕ) (history : List Event) → EachEvent (HasCause header outside) history → Base header host history
+base_of header outside host [] c = record { sane = λ o p. record { apart = λ is. refl; living = λ is. never is }; numbered = λ o is. refl; returns = refl }
+base_of header outside host (e ∷ past) c = base_next header outside host e past (base_of header outside host past c.1) c.0

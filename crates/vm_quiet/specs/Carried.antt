@@ -8,6 +8,8 @@ use Rattle.vm_model.specs.declared.script.Header.{Header}
 use Rattle.vm_model.specs.Channels.{queue, up_port, down_port}
 use Rattle.vm_model.specs.Controls.{live_control}
 use Rattle.vm_legal.specs.Accesses.{is_ready}
+use Rattle.vm_legal.specs.Licences.{is_paged}
+use Rattle.vm_legal.specs.Outside.{is_wild}
 use Rattle.vm_legal.specs.Steps.{is_answer, is_ready_message as says_ready}
 use Rattle.vm_legal.specs.Walks.{page_on}
 
@@ -26,12 +28,12 @@ opens k other = false
 abbrev pub IsUndelivered : (Message → Bool) → Channel → List Event → Type 0
 IsUndelivered such channel history = Any (λ m. such m ≡ true) (queue channel history)
 
--- whoever is asked has a message on its way
+-- whom the pagers of temporary memory and of files are asked by has a message on its way, and so has each control that waits for its pager
 pub record IsCarried (header : Header) (history : List Event) : Type 0 where
-  -- of each page that is asked the request of the live control is undelivered, or an answer to it
-  pub asked : (host object page : ℕ) → (page_on header host object page history).asked ≡ true
+  -- of each page of temporary memory or of a file that is asked the request of the live control is undelivered, or an answer to it
+  pub asked : (host object page : ℕ) → is_paged header object ≡ true → (page_on header host object page history).asked ≡ true
       → (control : ℕ) × (live_control host object history ≡ Some control)
       × (IsUndelivered (is_request control page) (up_port host object) history ⊎ IsUndelivered (is_answer page) (down_port host object control) history)
-  -- of each live control that isn't ready its init or create is undelivered, or a ready
-  pub opening : (host object control : ℕ) → live_control host object history ≡ Some control → is_ready host object history ≡ false
+  -- of each live control that isn't ready, but for wild objects', its init or create is undelivered, or a ready
+  pub opening : (host object control : ℕ) → is_wild header object ≡ false → live_control host object history ≡ Some control → is_ready host object history ≡ false
       → IsUndelivered (opens control) (up_port host object) history ⊎ IsUndelivered says_ready (down_port host object control) history

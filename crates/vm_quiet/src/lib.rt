@@ -1,8 +1,8 @@
 //! Who waits once nothing is on its way, of temporary and file memory: laws of event lists.
 //!
 //! They are about lists of events alone, the newest first, whatever program they come from. Their
-//! premise is that each event has its cause. They hold where each declared object is a file: shared
-//! memory has a law of its own, and nothing is known of wild objects.
+//! premise is that each event has its cause. Shared memory has a law of its own, which says when its
+//! server has answered; nothing is known of what the pagers of wild objects do.
 #![tactic(auto)]
 
 ghost use Rattle.std.specs.Prelude.{ℕ, ◌≡◌, true, false, List, [], Some};
@@ -25,7 +25,7 @@ ghost use Rattle.vm_quiet.specs.Carried.{IsCarried};
 ghost use Rattle.vm_quiet.specs.Full as full;
 ghost use Rattle.vm_quiet.specs.Letters.{messages_on};
 ghost use Rattle.vm_quiet.specs.Places.{AllPaged, FramesAreCounted};
-ghost use Rattle.vm_quiet.specs.Quiet.{NobodyWaitsInVain};
+ghost use Rattle.vm_quiet.specs.Quiet.{AllSupplied, NobodyWaitsInVain, SharedAreAnswered};
 
 /// The queue of a channel is the channel's undelivered messages, in the order in which they were
 /// sent: whether one asks the channel or all letters together, the next message is the same.
@@ -43,16 +43,17 @@ pub fn channels_are_letters()
 /// A page that is here is never asked.
 #[tactic(auto, using(crate::proofs::Counting::frames_counted, crate::proofs::Counting::never_both))]
 pub fn frames_are_counted()
-    ensures counted { (header : Header) (outside : Outside) (host : ℕ) (history : List Event) → AllPaged header → EachEvent (HasCause header outside) history → FramesAreCounted header host history }
-    ensures apart { (header : Header) (outside : Outside) (host o p : ℕ) (history : List Event) → AllPaged header → EachEvent (HasCause header outside) history → (page_on header host o p history).here ≡ true → (page_on header host o p history).asked ≡ false }
+    ensures counted { (header : Header) (outside : Outside) (host : ℕ) (history : List Event) → EachEvent (HasCause header outside) history → FramesAreCounted header host history }
+    ensures apart { (header : Header) (outside : Outside) (host o p : ℕ) (history : List Event) → EachEvent (HasCause header outside) history → (page_on header host o p history).here ≡ true → (page_on header host o p history).asked ≡ false }
 {}
 
-/// Where each step has done what it owes, whoever is asked has a message on its way: of each page that is
-/// asked its request is undelivered, or an answer to it; and of each control that is not ready yet what
-/// tells its pager of it, or that the pager is ready.
+/// Where each step has done what it owes, whoever is asked has a message on its way: of each page of
+/// temporary memory or of a file that is asked its request is undelivered, or an answer to it; and of each
+/// control that is not ready yet, but for wild objects', what tells its pager of it, or that the pager is
+/// ready. What the server of shared memory is asked may wait with the server too.
 #[tactic(auto, using(crate::proofs::Carried::carried))]
 pub fn what_is_asked_is_on_its_way()
-    ensures carried { (header : Header) (outside : Outside) (history : List Event) → AllPaged header → EachEvent (HasCause header outside) history → IsPaid header history → BeforeSteps (IsPaid header) history → IsCarried header history }
+    ensures carried { (header : Header) (outside : Outside) (history : List Event) → EachEvent (HasCause header outside) history → IsPaid header history → BeforeSteps (IsPaid header) history → IsCarried header history }
 {}
 
 /// Where nothing is undelivered, and each step has done what it owes, whoever still waits does so for
@@ -60,8 +61,13 @@ pub fn what_is_asked_is_on_its_way()
 /// host that leaves two frames unwired every access ends once all messages are taken.
 ///
 /// Two are what an access can need at one moment: the page that it copies, and the page that it copies to.
-#[tactic(auto, using(crate::proofs::Quiet::quiet))]
+///
+/// It holds where each declared object is a file. With shared objects too it holds where their server has
+/// answered everybody, which is a matter of the law of shared pages; with wild objects it doesn't, since
+/// nobody says what their pagers answer.
+#[tactic(auto, using(crate::proofs::Quiet::quiet, crate::proofs::Quiet::supplied))]
 pub fn nobody_waits_in_vain()
+    ensures supplied { (header : Header) (outside : Outside) (history : List Event) → AllSupplied header → EachEvent (HasCause header outside) history → BeforeSteps (IsPaid header) history → IsPaid header history → SharedAreAnswered header history → Prompt header history → undelivered history ≡ [] → NobodyWaitsInVain header history }
     ensures quiet { (header : Header) (outside : Outside) (history : List Event) → AllPaged header → EachEvent (HasCause header outside) history → BeforeSteps (IsPaid header) history → IsPaid header history → Prompt header history → undelivered history ≡ [] → NobodyWaitsInVain header history }
 {}
 

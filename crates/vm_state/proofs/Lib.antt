@@ -8,6 +8,7 @@ pub mod Files
 pub mod Fresh
 pub mod Going
 pub mod Knowing
+pub mod Locks
 pub mod Making
 pub mod Marks
 pub mod Places
@@ -20,4 +21,5 @@ pub mod Tallies
 pub mod Told
 pub mod Waited
 pub mod Waiting
+pub mod Waking
 pub mod Walks

@@ -19,8 +19,7 @@ use Rattle.vm_resident.specs.declared.page_row.PageRow.{PageRow}
 use Rattle.vm_shadow.specs.Chains.{ChainTable, CopiesRegion, DropsShadow, ObjectsBelow, PutsRegion, ShadowsRegion, copy_of, region_at, shadow_at}
 use Rattle.vm_shadow.specs.declared.region_row.RegionRow.{RegionRow}
 use Rattle.vm_shadow.specs.declared.shadow_row.ShadowRow.{ShadowRow}
-use Rattle.vm_state.specs.Waiters.{Asker, HasWaiters, IsPlaceOf, LeadsTo, Reason}
-use Rattle.vm_supply.specs.declared.woken.Woken.{Woken}
+use Rattle.vm_state.specs.Waiters.{Asker, HasWaiters, IsPlaceOf, LeadsTo, Reason, is_awaited}
 use Rattle.vm_waits.specs.Wants.{address_in}
 use Rattle.vm_waits.specs.declared.waiting.On.{On}
 use Rattle.vm_waits.specs.declared.waiting.On.TheVariants as on
@@ -28,6 +27,7 @@ use Rattle.vm_waits.specs.declared.waiting.Waiting.{Waiting}
 use Rattle.vm_waits.specs.declared.waiting.Want.{Want}
 use Rattle.vm_state.proofs.Told.{KnowsMore, StillTold, waits_known, waits_referred}
 use Rattle.vm_state.proofs.Waited.{KeepsPlaces, SameTop, leads_kept}
+use Rattle.vm_state.proofs.Waiting.{unawaited_here}
 
 -- where all places stay
 
@@ -38,7 +38,7 @@ reason_placed maps cs cs2 rs os task what (on.Ready object) placed reason = (rea
 reason_placed maps cs cs2 rs os task what (on.Page key) placed reason = (placed key reason.0, reason.1)
 reason_placed maps cs cs2 rs os task what on.Frame placed reason = reason
 
-pub waits_placed : (maps : Mapped) (cs cs2 : ChainTable) (rs : ResidentTable) (os : ObjectTable) (rows : List Waiting) (who : Woken) (waiting_at : ℕ → Option Access)
+pub waits_placed : (maps : Mapped) (cs cs2 : ChainTable) (rs : ResidentTable) (os : ObjectTable) (rows : List Waiting) (who : On → Bool) (waiting_at : ℕ → Option Access)
     → HasWaiters maps cs rs os rows who waiting_at → ((task : ℕ) (what : Want) (key : PageKey) → IsPlaceOf maps cs task what key → IsPlaceOf maps cs2 task what key) → HasWaiters maps cs2 rs os rows who waiting_at
 waits_placed maps cs cs2 rs os rows who waiting_at has placed =
     record {
@@ -105,7 +105,7 @@ place_shadowed maps old new region object row task what key there made below pla
           is = at.is ∙ (ap (λ (z : RegionRow). top_place z page) (sym same) ∙ ap (spot row.top) (further page));
         }
 
-pub waits_shadowed : (maps : Mapped) (old new : ChainTable) (rs : ResidentTable) (os os2 : ObjectTable) (rows : List Waiting) (who : Woken) (waiting_at : ℕ → Option Access) (region : ℕ) (object : ObjectId) (row : RegionRow)
+pub waits_shadowed : (maps : Mapped) (old new : ChainTable) (rs : ResidentTable) (os os2 : ObjectTable) (rows : List Waiting) (who : On → Bool) (waiting_at : ℕ → Option Access) (region : ℕ) (object : ObjectId) (row : RegionRow)
     → HasWaiters maps old rs os rows who waiting_at → region_at old region ≡ Some row → ShadowsRegion region object row old new → ObjectsBelow object.0 old → KnowsMore os os2 → HasWaiters maps new rs os2 rows who waiting_at
 waits_shadowed maps old new rs os os2 rows who waiting_at region object row has there made below more =
     waits_known maps new rs os os2 rows who waiting_at
@@ -145,7 +145,7 @@ place_without maps cs cs2 task what key r put none place = elim (one_case r at.e
     at = place.at
 
 -- who waits has entries on other regions
-pub waits_without : (maps : Mapped) (cs cs2 : ChainTable) (rs : ResidentTable) (os : ObjectTable) (rows : List Waiting) (who : Woken) (waiting_at : ℕ → Option Access) (r : ℕ)
+pub waits_without : (maps : Mapped) (cs cs2 : ChainTable) (rs : ResidentTable) (os : ObjectTable) (rows : List Waiting) (who : On → Bool) (waiting_at : ℕ → Option Access) (r : ℕ)
     → HasWaiters maps cs rs os rows who waiting_at → PutsRegion r None cs cs2 → ((task : ℕ) → has_entry r (rows_in task maps) ≡ false) → HasWaiters maps cs2 rs os rows who waiting_at
 waits_without maps cs cs2 rs os rows who waiting_at r has put none =
     waits_placed maps cs cs2 rs os rows who waiting_at has (λ task what key place. place_without maps cs cs2 task what key r put (none task) place)
@@ -167,16 +167,24 @@ pub place_apart : (maps : Mapped) (cs : ChainTable) (task : ℕ) (what : Want) (
     → ((s : ℕ) (row : ShadowRow) → shadow_at cs s ≡ Some row → row.under.0 ≡ o → ⊥) → IsPlaceOf maps cs task what key → key.object.0 ≡ o → ⊥
 place_apart maps cs task what key o tops unders place = leads_apart cs o unders place.steps place.top key (top_apart maps cs task what place.top o tops place.at) place.leads
 
--- its pages that have rows are here
-pub here_apart : (maps : Mapped) (cs : ChainTable) (rs : ResidentTable) (os : ObjectTable) (rows : List Waiting) (who : Woken) (waiting_at : ℕ → Option Access) (o p : ℕ) (row : PageRow) → HasWaiters maps cs rs os rows who waiting_at
-    → ((r : ℕ) (row : RegionRow) → region_at cs r ≡ Some row → row.top.0 ≡ o → ⊥) → ((s : ℕ) (row : ShadowRow) → shadow_at cs s ≡ Some row → row.under.0 ≡ o → ⊥) → row_at rs o p ≡ Some row → row.here ≡ true
-here_apart maps cs rs os rows who waiting_at o p row has tops unders found = by_test row.here refl
+-- its pages that have rows are here, and no unlock of them is outstanding
+pub unawaited_apart : (maps : Mapped) (cs : ChainTable) (rs : ResidentTable) (os : ObjectTable) (rows : List Waiting) (who : On → Bool) (waiting_at : ℕ → Option Access) (o p : ℕ) (row : PageRow) → HasWaiters maps cs rs os rows who waiting_at
+    → ((r : ℕ) (row : RegionRow) → region_at cs r ≡ Some row → row.top.0 ≡ o → ⊥) → ((s : ℕ) (row : ShadowRow) → shadow_at cs s ≡ Some row → row.under.0 ≡ o → ⊥) → row_at rs o p ≡ Some row → is_awaited row ≡ false
+unawaited_apart maps cs rs os rows who waiting_at o p row has tops unders found = by_test (is_awaited row) refl
   where
-    by_test : (b : Bool) → row.here ≡ b → b ≡ true
-    by_test true here = refl
-    by_test false away =
-        let asker : Asker rows o p = has.askers o p row found away in
+    by_test : (b : Bool) → is_awaited row ≡ b → b ≡ false
+    by_test false none = refl
+    by_test true awaits =
+        let asker : Asker rows o p = has.askers o p row found awaits in
         absurd (place_apart maps cs asker.task asker.row.want (page_key o p) o tops unders (has.aims asker.task asker.row (page_key o p) asker.is asker.waits) refl)
+
+pub here_apart : (maps : Mapped) (cs : ChainTable) (rs : ResidentTable) (os : ObjectTable) (rows : List Waiting) (who : On → Bool) (waiting_at : ℕ → Option Access) (o p : ℕ) (row : PageRow) → HasWaiters maps cs rs os rows who waiting_at
+    → ((r : ℕ) (row : RegionRow) → region_at cs r ≡ Some row → row.top.0 ≡ o → ⊥) → ((s : ℕ) (row : ShadowRow) → shadow_at cs s ≡ Some row → row.under.0 ≡ o → ⊥) → row_at rs o p ≡ Some row → row.here ≡ true
+here_apart maps cs rs os rows who waiting_at o p row has tops unders found = (unawaited_here row (unawaited_apart maps cs rs os rows who waiting_at o p row has tops unders found)).0
+
+pub unsent_apart : (maps : Mapped) (cs : ChainTable) (rs : ResidentTable) (os : ObjectTable) (rows : List Waiting) (who : On → Bool) (waiting_at : ℕ → Option Access) (o p : ℕ) (row : PageRow) → HasWaiters maps cs rs os rows who waiting_at
+    → ((r : ℕ) (row : RegionRow) → region_at cs r ≡ Some row → row.top.0 ≡ o → ⊥) → ((s : ℕ) (row : ShadowRow) → shadow_at cs s ≡ Some row → row.under.0 ≡ o → ⊥) → row_at rs o p ≡ Some row → row.unlock_sent ≡ false
+unsent_apart maps cs rs os rows who waiting_at o p row has tops unders found = (unawaited_here row (unawaited_apart maps cs rs os rows who waiting_at o p row has tops unders found)).1
 
 -- what is known of it may change
 pub told_apart : (maps : Mapped) (cs : ChainTable) (os os2 : ObjectTable) (o : ℕ) (known : Option ObjectRow) → PutsObject o known os os2 → ((r : ℕ) (row : RegionRow) → region_at cs r ≡ Some row → row.top.0 ≡ o → ⊥)
@@ -214,7 +222,7 @@ place_dropped maps cs cs2 task what key o drops tops unders place =
     )
 
 -- and has another number of references
-pub waits_dropped : (maps : Mapped) (cs cs2 : ChainTable) (rs : ResidentTable) (os os2 : ObjectTable) (rows : List Waiting) (who : Woken) (waiting_at : ℕ → Option Access) (o under left : ℕ) (was : ObjectRow)
+pub waits_dropped : (maps : Mapped) (cs cs2 : ChainTable) (rs : ResidentTable) (os os2 : ObjectTable) (rows : List Waiting) (who : On → Bool) (waiting_at : ℕ → Option Access) (o under left : ℕ) (was : ObjectRow)
     → HasWaiters maps cs rs os rows who waiting_at → DropsShadow o cs cs2 → ((r : ℕ) (row : RegionRow) → region_at cs r ≡ Some row → row.top.0 ≡ o → ⊥) → ((s : ℕ) (row : ShadowRow) → shadow_at cs s ≡ Some row → row.under.0 ≡ o → ⊥)
     → object_at os under ≡ Some was → PutsObject under (Some (record was { references = left })) os os2 → HasWaiters maps cs2 rs os2 rows who waiting_at
 waits_dropped maps cs cs2 rs os os2 rows who waiting_at o under left was has drops tops unders found put =

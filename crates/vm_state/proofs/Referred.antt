@@ -13,7 +13,7 @@ use Rattle.vm_shadow.specs.declared.region_row.RegionRow.{RegionRow}
 use Rattle.vm_shadow.specs.declared.shadow_row.ShadowRow.{ShadowRow}
 use Rattle.vm_state.proofs.Changing.{SameButEntries}
 use Rattle.vm_state.proofs.Knowing.{known_cases, known_put, referred_still}
-use Rattle.vm_state.specs.References.{AllReferred, AllReferredBut}
+use Rattle.vm_state.specs.References.{AllReferred, AllReferredBut, MayLock, is_live_in}
 use Rattle.vm_terminate.specs.Finishes.{IsReferred}
 
 pub all_but : (o : ℕ) (cs : ChainTable) (os : ObjectTable) (rs : ResidentTable) → AllReferred cs os rs → AllReferredBut o cs os rs
@@ -21,6 +21,7 @@ all_but o cs os rs all =
     record {
       live = λ x known apart found live. all.live x known found live;
       pages = λ x p row apart found. all.pages x p row found;
+      locks = all.locks;
       shadows = λ x row apart found. all.shadows x row found;
     }
 
@@ -37,6 +38,7 @@ all_ended o cs os rs but quiet bare bottom =
         | inl same ↦ absurd (let bad : None ≡ Some row = sym (subst (λ (z : ℕ). row_at rs z p ≡ None) same.1 (bare p)) ∙ found in cc)
         | inr apart ↦ but.pages x p row apart.1 found
       ];
+      locks = but.locks;
       shadows = λ x row found. elim (eqb_tells o x) [
         | inl same ↦ absurd (let bad : None ≡ Some row = sym bottom ∙ (ap (shadow_at cs) same.1 ∙ found) in cc)
         | inr apart ↦ but.shadows x row apart.1 found
@@ -55,6 +57,7 @@ all_with o cs os rs but is =
         | inl same ↦ subst (λ (z : ℕ). IsReferred os z) same.1 is
         | inr apart ↦ but.pages x p row apart.1 found
       ];
+      locks = but.locks;
       shadows = λ x row found. elim (eqb_tells o x) [
         | inl same ↦ subst (λ (z : ℕ). IsReferred os z) same.1 is
         | inr apart ↦ but.shadows x row apart.1 found
@@ -67,13 +70,28 @@ referred_chains cs cs2 os rs before all =
     record {
       live = all.live;
       pages = all.pages;
+      locks = all.locks;
       shadows = λ x row found. elim (before x row found) [ inl was ↦ all.shadows x row was | inr is ↦ is ];
     }
 
--- one object is known otherwise, and has references still where it had some
+-- whose control lived, it lives still: one object is known otherwise
+pub locks_known : (o : ℕ) (new : ObjectRow) (os os2 : ObjectTable) (rs : ResidentTable) → PutsObject o (Some new) os os2 → ((p : ℕ) (row : PageRow) → row_at rs o p ≡ Some row → is_live_in (object_at os o) ≡ true → new.live ≡ true)
+    → ((x p : ℕ) (row : PageRow) → row_at rs x p ≡ Some row → MayLock os x row) → (x p : ℕ) (row : PageRow) → row_at rs x p ≡ Some row → MayLock os2 x row
+locks_known o new os os2 rs put stays locks x p row found = elim (locks x p row found) [
+  | inl open_now ↦ inl open_now
+  | inr lives ↦ elim (known_cases o new os os2 put x) [
+    | inl this ↦
+        inr
+        (ap is_live_in this.1
+        ∙ stays p row (subst (λ (z : ℕ). row_at rs z p ≡ Some row) (sym this.0) found) (subst (λ (z : ℕ). is_live_in (object_at os z) ≡ true) (sym this.0) lives))
+    | inr other ↦ inr (ap is_live_in other.1 ∙ lives)
+  ]
+]
+
+-- one object is known otherwise, and has references still where it had some, and a control where one lived
 pub referred_known : (o : ℕ) (new : ObjectRow) (cs : ChainTable) (os os2 : ObjectTable) (rs : ResidentTable) → PutsObject o (Some new) os os2 → (IsReferred os o → 0 < new.references) → (new.live ≡ true → 0 < new.references)
-    → AllReferred cs os rs → AllReferred cs os2 rs
-referred_known o new cs os os2 rs put still lives all =
+    → (is_live_in (object_at os o) ≡ true → new.live ≡ true) → AllReferred cs os rs → AllReferred cs os2 rs
+referred_known o new cs os os2 rs put still lives stays all =
     record {
       live = λ x known found live. elim (known_cases o new os os2 put x) [
         | inl this ↦
@@ -82,33 +100,44 @@ referred_known o new cs os os2 rs put still lives all =
         | inr other ↦ all.live x known (sym other.1 ∙ found) live
       ];
       pages = λ x p row found. keeps x (all.pages x p row found);
+      locks = locks_known o new os os2 rs put (λ p row found is. stays is) all.locks;
       shadows = λ x row found. keeps x (all.shadows x row found);
     }
   where
     keeps : (x : ℕ) → IsReferred os x → IsReferred os2 x
     keeps x is = referred_still o new os os2 put x (λ e. still (subst (λ (z : ℕ). IsReferred os z) (sym e) is)) is
 
--- a page comes, goes or changes: its object is referred to, or the page goes
-pub referred_row : (o p : ℕ) (x : Option PageRow) (cs : ChainTable) (os : ObjectTable) (rs rs2 : ResidentTable) → PutsRow o p x rs rs2 → ((row : PageRow) → x ≡ Some row → IsReferred os o) → AllReferred cs os rs → AllReferred cs os rs2
+-- one page has another row, or none
+locks_put : (o p : ℕ) (x : Option PageRow) (os : ObjectTable) (rs rs2 : ResidentTable) → PutsRow o p x rs rs2 → ((row : PageRow) → x ≡ Some row → MayLock os o row) → ((o2 p2 : ℕ) (row : PageRow) → row_at rs o2 p2 ≡ Some row → MayLock os o2 row)
+    → (o2 p2 : ℕ) (row : PageRow) → row_at rs2 o2 p2 ≡ Some row → MayLock os o2 row
+locks_put o p x os rs rs2 put may locks o2 p2 row found = elim (row_cases o p x rs rs2 put o2 p2) [
+  | inl this ↦ subst (λ (z : ℕ). MayLock os z row) this.object (may row (sym this.is ∙ found))
+  | inr other ↦ locks o2 p2 row (sym other.is ∙ found)
+]
+
+-- a page comes, goes or changes: its object is referred to, and lives where the page is locked, or the page goes
+pub referred_row : (o p : ℕ) (x : Option PageRow) (cs : ChainTable) (os : ObjectTable) (rs rs2 : ResidentTable) → PutsRow o p x rs rs2 → ((row : PageRow) → x ≡ Some row → IsReferred os o × MayLock os o row) → AllReferred cs os rs → AllReferred cs os rs2
 referred_row o p x cs os rs rs2 put is all =
     record {
       live = all.live;
       pages = λ o2 p2 row found. elim (row_cases o p x rs rs2 put o2 p2) [
-        | inl this ↦ subst (λ (z : ℕ). IsReferred os z) this.object (is row (sym this.is ∙ found))
+        | inl this ↦ subst (λ (z : ℕ). IsReferred os z) this.object (is row (sym this.is ∙ found)).0
         | inr other ↦ all.pages o2 p2 row (sym other.is ∙ found)
       ];
+      locks = locks_put o p x os rs rs2 put (λ row same. (is row same).1) all.locks;
       shadows = all.shadows;
     }
 
 -- the same, while one object ends
-pub but_row : (one o p : ℕ) (x : Option PageRow) (cs : ChainTable) (os : ObjectTable) (rs rs2 : ResidentTable) → PutsRow o p x rs rs2 → ((row : PageRow) → (one ≡ o → ⊥) → x ≡ Some row → IsReferred os o) → AllReferredBut one cs os rs → AllReferredBut one cs os rs2
-but_row one o p x cs os rs rs2 put is but =
+pub but_row : (one o p : ℕ) (x : Option PageRow) (cs : ChainTable) (os : ObjectTable) (rs rs2 : ResidentTable) → PutsRow o p x rs rs2 → ((row : PageRow) → (one ≡ o → ⊥) → x ≡ Some row → IsReferred os o) → ((row : PageRow) → x ≡ Some row → MayLock os o row) → AllReferredBut one cs os rs → AllReferredBut one cs os rs2
+but_row one o p x cs os rs rs2 put is may but =
     record {
       live = but.live;
       pages = λ o2 p2 row apart found. elim (row_cases o p x rs rs2 put o2 p2) [
         | inl this ↦ subst (λ (z : ℕ). IsReferred os z) this.object (is row (λ e. apart (e ∙ this.object)) (sym this.is ∙ found))
         | inr other ↦ but.pages o2 p2 row apart (sym other.is ∙ found)
       ];
+      locks = locks_put o p x os rs rs2 put may but.locks;
       shadows = but.shadows;
     }
 
@@ -117,17 +146,19 @@ pub referred_gone : (o p : ℕ) (cs : ChainTable) (os : ObjectTable) (rs rs2 : R
 referred_gone o p cs os rs rs2 put all = referred_row o p None cs os rs rs2 put (λ row is. absurd (let bad : None ≡ Some row = is in cc)) all
 
 pub but_gone : (one o p : ℕ) (cs : ChainTable) (os : ObjectTable) (rs rs2 : ResidentTable) → PutsRow o p None rs rs2 → AllReferredBut one cs os rs → AllReferredBut one cs os rs2
-but_gone one o p cs os rs rs2 put but = but_row one o p None cs os rs rs2 put (λ row apart is. absurd (let bad : None ≡ Some row = is in cc)) but
+but_gone one o p cs os rs rs2 put but = but_row one o p None cs os rs rs2 put (λ row apart is. absurd (let bad : None ≡ Some row = is in cc)) (λ row is. absurd (let bad : None ≡ Some row = is in cc)) but
 
 -- the one that ends is known otherwise
-pub but_known : (o : ℕ) (new : ObjectRow) (cs : ChainTable) (os os2 : ObjectTable) (rs : ResidentTable) → PutsObject o (Some new) os os2 → AllReferredBut o cs os rs → AllReferredBut o cs os2 rs
-but_known o new cs os os2 rs put but =
+pub but_known : (o : ℕ) (new : ObjectRow) (cs : ChainTable) (os os2 : ObjectTable) (rs : ResidentTable) → PutsObject o (Some new) os os2 → ((p : ℕ) (row : PageRow) → row_at rs o p ≡ Some row → is_live_in (object_at os o) ≡ true → new.live ≡ true) → AllReferredBut o cs os rs
+    → AllReferredBut o cs os2 rs
+but_known o new cs os os2 rs put stays but =
     record {
       live = λ x known apart found live. elim (known_cases o new os os2 put x) [
         | inl this ↦ absurd (apart this.0)
         | inr other ↦ but.live x known apart (sym other.1 ∙ found) live
       ];
       pages = λ x p row apart found. referred_still o new os os2 put x (λ e. absurd (apart e)) (but.pages x p row apart found);
+      locks = locks_known o new os os2 rs put stays but.locks;
       shadows = λ x row apart found. referred_still o new os os2 put x (λ e. absurd (apart e)) (but.shadows x row apart found);
     }
 
@@ -137,27 +168,27 @@ referred_recounted old new os rs same all = referred_chains old new os rs (λ x 
 
 -- an object has another control
 pub referred_controlled : (o : ℕ) (row row2 : ObjectRow) (cs : ChainTable) (os os2 : ObjectTable) (rs : ResidentTable) → object_at os o ≡ Some row → PutsObject o (Some row2) os os2 → row2.references ≡ row.references
-    → (row2.live ≡ true → 0 < row2.references) → AllReferred cs os rs → AllReferred cs os2 rs
-referred_controlled o row row2 cs os os2 rs found put same lives all =
-    referred_known o row2 cs os os2 rs put (λ is. subst (λ (z : ℕ). 0 < z) (ap (λ z. z.references) (some_is is.row row (sym is.known ∙ found)) ∙ sym same) is.some) lives all
+    → (row2.live ≡ true → 0 < row2.references) → (row.live ≡ true → row2.live ≡ true) → AllReferred cs os rs → AllReferred cs os2 rs
+referred_controlled o row row2 cs os os2 rs found put same lives stays all =
+    referred_known o row2 cs os os2 rs put (λ is. subst (λ (z : ℕ). 0 < z) (ap (λ z. z.references) (some_is is.row row (sym is.known ∙ found)) ∙ sym same) is.some) lives (λ is. stays (sym (ap is_live_in found) ∙ is)) all
 
 -- a region is made over a new object, or is over one that has references
 pub referred_put : (o : ℕ) (new : ObjectRow) (r : ℕ) (row : Option RegionRow) (cs cs2 : ChainTable) (os os2 : ObjectTable) (rs : ResidentTable) → PutsRegion r row cs cs2 → PutsObject o (Some new) os os2 → 0 < new.references
-    → AllReferred cs os rs → AllReferred cs2 os2 rs
-referred_put o new r row cs cs2 os os2 rs put putting some all =
-    referred_chains cs cs2 os2 rs (λ x shadow found. inl (sym (ap (λ f. f x) put.shadows) ∙ found)) (referred_known o new cs os os2 rs putting (λ is. some) (λ live. some) all)
+    → (is_live_in (object_at os o) ≡ true → new.live ≡ true) → AllReferred cs os rs → AllReferred cs2 os2 rs
+referred_put o new r row cs cs2 os os2 rs put putting some stays all =
+    referred_chains cs cs2 os2 rs (λ x shadow found. inl (sym (ap (λ f. f x) put.shadows) ∙ found)) (referred_known o new cs os os2 rs putting (λ is. some) (λ live. some) stays all)
 
 -- a region is copied, and its top has more references
 pub referred_copied : (o : ℕ) (new : ObjectRow) (source copy offset pages : ℕ) (row : RegionRow) (cs cs2 : ChainTable) (os os2 : ObjectTable) (rs : ResidentTable) → CopiesRegion source copy offset pages row cs cs2
-    → PutsObject o (Some new) os os2 → 0 < new.references → AllReferred cs os rs → AllReferred cs2 os2 rs
-referred_copied o new source copy offset pages row cs cs2 os os2 rs copies putting some all =
-    referred_chains cs cs2 os2 rs (λ x shadow found. inl (sym (ap (λ f. f x) copies.shadows) ∙ found)) (referred_known o new cs os os2 rs putting (λ is. some) (λ live. some) all)
+    → PutsObject o (Some new) os os2 → 0 < new.references → (is_live_in (object_at os o) ≡ true → new.live ≡ true) → AllReferred cs os rs → AllReferred cs2 os2 rs
+referred_copied o new source copy offset pages row cs cs2 os os2 rs copies putting some stays all =
+    referred_chains cs cs2 os2 rs (λ x shadow found. inl (sym (ap (λ f. f x) copies.shadows) ∙ found)) (referred_known o new cs os os2 rs putting (λ is. some) (λ live. some) stays all)
 
 -- a region gets an object of its own
 pub referred_shadowed : (region : ℕ) (object : ObjectId) (row : RegionRow) (new : ObjectRow) (cs cs2 : ChainTable) (os os2 : ObjectTable) (rs : ResidentTable) → ShadowsRegion region object row cs cs2
-    → PutsObject object.0 (Some new) os os2 → 0 < new.references → AllReferred cs os rs → AllReferred cs2 os2 rs
-referred_shadowed region object row new cs cs2 os os2 rs shadows putting some all =
-    referred_chains cs cs2 os2 rs before (referred_known object.0 new cs os os2 rs putting (λ is. some) (λ live. some) all)
+    → PutsObject object.0 (Some new) os os2 → 0 < new.references → (is_live_in (object_at os object.0) ≡ true → new.live ≡ true) → AllReferred cs os rs → AllReferred cs2 os2 rs
+referred_shadowed region object row new cs cs2 os os2 rs shadows putting some stays all =
+    referred_chains cs cs2 os2 rs before (referred_known object.0 new cs os os2 rs putting (λ is. some) (λ live. some) stays all)
   where
     before : (x : ℕ) (shadow : ShadowRow) → shadow_at cs2 x ≡ Some shadow → (shadow_at cs x ≡ Some shadow) ⊎ IsReferred os2 x
     before x shadow found = elim (one_case object.0 x (Some (record { under = row.top; shift = row.shift })) (shadow_at cs x) (shadow_at cs2 x) (shadows.under x)) [
@@ -167,15 +198,15 @@ referred_shadowed region object row new cs cs2 os os2 rs shadows putting some al
 
 -- a region goes, and its top may end
 pub but_ended : (r : ℕ) (x : Option RegionRow) (o : ℕ) (new : ObjectRow) (cs cs2 : ChainTable) (os os2 : ObjectTable) (rs : ResidentTable) → PutsRegion r x cs cs2 → PutsObject o (Some new) os os2
-    → AllReferred cs os rs → AllReferredBut o cs2 os2 rs
-but_ended r x o new cs cs2 os os2 rs put putting all =
-    but_known o new cs2 os os2 rs putting (all_but o cs2 os rs (referred_chains cs cs2 os rs (λ y shadow found. inl (sym (ap (λ f. f y) put.shadows) ∙ found)) all))
+    → (is_live_in (object_at os o) ≡ true → new.live ≡ true) → AllReferred cs os rs → AllReferredBut o cs2 os2 rs
+but_ended r x o new cs cs2 os os2 rs put putting stays all =
+    but_known o new cs2 os os2 rs putting (λ p row found is. stays is) (all_but o cs2 os rs (referred_chains cs cs2 os rs (λ y shadow found. inl (sym (ap (λ f. f y) put.shadows) ∙ found)) all))
 
 -- what stood under an object that ends goes, and may end then
 pub but_dropped : (o under : ℕ) (new : ObjectRow) (cs cs2 : ChainTable) (os os2 : ObjectTable) (rs : ResidentTable) → DropsShadow o cs cs2 → PutsObject under (Some new) os os2
-    → ((known : ObjectRow) → object_at os o ≡ Some known → known.live ≡ false) → ((p : ℕ) → row_at rs o p ≡ None) → AllReferredBut o cs os rs → AllReferredBut under cs2 os2 rs
-but_dropped o under new cs cs2 os os2 rs drop putting quiet bare but =
-    but_known under new cs2 os os2 rs putting (all_but under cs2 os rs (all_ended o cs2 os rs dropped quiet bare gone))
+    → (is_live_in (object_at os under) ≡ true → new.live ≡ true) → ((known : ObjectRow) → object_at os o ≡ Some known → known.live ≡ false) → ((p : ℕ) → row_at rs o p ≡ None) → AllReferredBut o cs os rs → AllReferredBut under cs2 os2 rs
+but_dropped o under new cs cs2 os os2 rs drop putting stays quiet bare but =
+    but_known under new cs2 os os2 rs putting (λ p row found is. stays is) (all_but under cs2 os rs (all_ended o cs2 os rs dropped quiet bare gone))
   where
     gone : shadow_at cs2 o ≡ None
     gone = elim (one_case o o None (shadow_at cs o) (shadow_at cs2 o) (drop.at o)) [ inl this ↦ this.1 | inr other ↦ absurd (other.0 refl) ]
@@ -184,6 +215,7 @@ but_dropped o under new cs cs2 os os2 rs drop putting quiet bare but =
     dropped = record {
       live = but.live;
       pages = but.pages;
+      locks = but.locks;
       shadows = λ x row apart found. elim (one_case o x None (shadow_at cs x) (shadow_at cs2 x) (drop.at x)) [
         | inl this ↦ absurd (apart this.0)
         | inr other ↦ but.shadows x row apart (sym other.1 ∙ found)
@@ -191,7 +223,7 @@ but_dropped o under new cs cs2 os os2 rs drop putting quiet bare but =
     }
 
 -- the same, where something else refers to that still
-pub referred_dropped : (o under : ℕ) (new : ObjectRow) (cs cs2 : ChainTable) (os os2 : ObjectTable) (rs : ResidentTable) → DropsShadow o cs cs2 → PutsObject under (Some new) os os2 → 0 < new.references
+pub referred_dropped : (o under : ℕ) (new : ObjectRow) (cs cs2 : ChainTable) (os os2 : ObjectTable) (rs : ResidentTable) → DropsShadow o cs cs2 → PutsObject under (Some new) os os2 → 0 < new.references → (is_live_in (object_at os under) ≡ true → new.live ≡ true)
     → ((known : ObjectRow) → object_at os o ≡ Some known → known.live ≡ false) → ((p : ℕ) → row_at rs o p ≡ None) → AllReferredBut o cs os rs → AllReferred cs2 os2 rs
-referred_dropped o under new cs cs2 os os2 rs drop putting some quiet bare but =
-    all_with under cs2 os2 rs (but_dropped o under new cs cs2 os os2 rs drop putting quiet bare but) (record { row = new; known = known_put under new os os2 putting; some = some })
+referred_dropped o under new cs cs2 os os2 rs drop putting some stays quiet bare but =
+    all_with under cs2 os2 rs (but_dropped o under new cs cs2 os os2 rs drop putting stays quiet bare but) (record { row = new; known = known_put under new os os2 putting; some = some })

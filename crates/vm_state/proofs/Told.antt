@@ -1,5 +1,5 @@
 -- Who waits, while more is known of objects, or another number of references, or a page goes that was here.
-use Rattle.std.proofs.Common.{List, None, Option, Some, ap, false, inl, inr, refl, subst, sym, true, ℕ, ◌∙◌, ◌≡◌}
+use Rattle.std.proofs.Common.{Bool, List, None, Option, Some, ap, false, inl, inr, refl, subst, sym, true, ℕ, ◌∙◌, ◌≡◌}
 use Rattle.vm_base.specs.declared.ids.ObjectId.{ObjectId}
 use Rattle.vm_base.specs.declared.ids.PageKey.{PageKey}
 use Rattle.vm_maps.specs.Maps.{Mapped}
@@ -12,12 +12,11 @@ use Rattle.vm_resident.specs.declared.page_row.PageRow.{PageRow}
 use Rattle.vm_shadow.specs.Chains.{ChainTable}
 use Rattle.vm_state.specs.Pagers.{ready_in}
 use Rattle.vm_state.specs.Waiters.{HasWaiters, IsPagerTold, IsPlaceOf, Reason}
-use Rattle.vm_supply.specs.declared.woken.Woken.{Woken}
 use Rattle.vm_waits.specs.declared.waiting.On.{On}
 use Rattle.vm_waits.specs.declared.waiting.On.TheVariants as on
 use Rattle.vm_waits.specs.declared.waiting.Waiting.{Waiting}
 use Rattle.vm_waits.specs.declared.waiting.Want.{Want}
-use Rattle.vm_state.proofs.Waiting.{here_not_asked, none_not_asked, waiters_page}
+use Rattle.vm_state.proofs.Waiting.{here_unawaited, none_unawaited, waiters_page}
 
 -- the pagers that were told of objects in use are told still
 pub record StillTold (maps : Mapped) (cs : ChainTable) (os os2 : ObjectTable) : Type 0 where
@@ -38,7 +37,7 @@ reason_told maps cs rs os os2 task what (on.Ready object) told reason = (
 reason_told maps cs rs os os2 task what (on.Page key) told reason = reason
 reason_told maps cs rs os os2 task what on.Frame told reason = reason
 
-pub waits_told : (maps : Mapped) (cs : ChainTable) (rs : ResidentTable) (os os2 : ObjectTable) (rows : List Waiting) (who : Woken) (waiting_at : ℕ → Option Access)
+pub waits_told : (maps : Mapped) (cs : ChainTable) (rs : ResidentTable) (os os2 : ObjectTable) (rows : List Waiting) (who : On → Bool) (waiting_at : ℕ → Option Access)
     → HasWaiters maps cs rs os rows who waiting_at → StillTold maps cs os os2
     → ((o p : ℕ) (row : PageRow) → row_at rs o p ≡ Some row → ready_in (object_at os o) ≡ true → ready_in (object_at os2 o) ≡ true) → HasWaiters maps cs rs os2 rows who waiting_at
 waits_told maps cs rs os os2 rows who waiting_at has told ready =
@@ -52,12 +51,12 @@ waits_told maps cs rs os os2 rows who waiting_at has told ready =
       ready = λ o p row found away. ready o p row found (has.ready o p row found away);
     }
 
--- a page that is here has gone, and its pager may have been told
-pub waiters_lost : (maps : Mapped) (cs : ChainTable) (rs rs2 : ResidentTable) (os os2 : ObjectTable) (rows : List Waiting) (who : Woken) (waiting_at : ℕ → Option Access) (o p : ℕ) (row : PageRow)
-    → HasWaiters maps cs rs os rows who waiting_at → row_at rs o p ≡ Some row → row.here ≡ true → PutsRow o p None rs rs2 → ((object : ℕ) → IsPagerTold os object → IsPagerTold os2 object)
+-- a page that is here has gone, of which no unlock was outstanding, and its pager may have been told
+pub waiters_lost : (maps : Mapped) (cs : ChainTable) (rs rs2 : ResidentTable) (os os2 : ObjectTable) (rows : List Waiting) (who : On → Bool) (waiting_at : ℕ → Option Access) (o p : ℕ) (row : PageRow)
+    → HasWaiters maps cs rs os rows who waiting_at → row_at rs o p ≡ Some row → row.here ≡ true → row.unlock_sent ≡ false → PutsRow o p None rs rs2 → ((object : ℕ) → IsPagerTold os object → IsPagerTold os2 object)
     → ((object : ℕ) → ready_in (object_at os object) ≡ true → ready_in (object_at os2 object) ≡ true) → HasWaiters maps cs rs2 os2 rows who waiting_at
-waiters_lost maps cs rs rs2 os os2 rows who waiting_at o p row has found here put told ready =
-    waits_told maps cs rs2 os os2 rows who waiting_at (waiters_page maps cs rs rs2 os rows who waiting_at o p None has put (here_not_asked (row_at rs o p) row found here) (none_not_asked None refl))
+waiters_lost maps cs rs rs2 os os2 rows who waiting_at o p row has found here sent put told ready =
+    waits_told maps cs rs2 os os2 rows who waiting_at (waiters_page maps cs rs rs2 os rows who waiting_at o p None has put (inl (here_unawaited (row_at rs o p) row found here sent)) (none_unawaited None refl))
     (told_all maps cs os os2 told) (λ o2 p2 r there is. ready o2 is)
 
 -- an object has another number of references
@@ -80,7 +79,7 @@ ready_referred r left was os os2 found put o = elim (one_case r o (Some (record 
   | inr other ↦ ap ready_in other.1
 ]
 
-pub waits_referred : (maps : Mapped) (cs : ChainTable) (rs : ResidentTable) (os os2 : ObjectTable) (rows : List Waiting) (who : Woken) (waiting_at : ℕ → Option Access) (r left : ℕ) (was : ObjectRow)
+pub waits_referred : (maps : Mapped) (cs : ChainTable) (rs : ResidentTable) (os os2 : ObjectTable) (rows : List Waiting) (who : On → Bool) (waiting_at : ℕ → Option Access) (r left : ℕ) (was : ObjectRow)
     → HasWaiters maps cs rs os rows who waiting_at → object_at os r ≡ Some was → PutsObject r (Some (record was { references = left })) os os2 → HasWaiters maps cs rs os2 rows who waiting_at
 waits_referred maps cs rs os os2 rows who waiting_at r left was has found put =
     waits_told maps cs rs os os2 rows who waiting_at has (told_referred maps cs r left was os os2 found put) (λ o p row there is. ready_referred r left was os os2 found put o ∙ is)
@@ -98,7 +97,7 @@ knows_made os os2 n row none put =
       ];
     }
 
-pub waits_known : (maps : Mapped) (cs : ChainTable) (rs : ResidentTable) (os os2 : ObjectTable) (rows : List Waiting) (who : Woken) (waiting_at : ℕ → Option Access)
+pub waits_known : (maps : Mapped) (cs : ChainTable) (rs : ResidentTable) (os os2 : ObjectTable) (rows : List Waiting) (who : On → Bool) (waiting_at : ℕ → Option Access)
     → HasWaiters maps cs rs os rows who waiting_at → KnowsMore os os2 → HasWaiters maps cs rs os2 rows who waiting_at
 waits_known maps cs rs os os2 rows who waiting_at has more =
     waits_told maps cs rs os os2 rows who waiting_at has

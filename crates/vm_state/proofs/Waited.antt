@@ -1,5 +1,5 @@
 -- Who waits, while the maps of tasks that don't wait change, and regions count their entries anew.
-use Rattle.std.proofs.Common.{List, None, Option, Some, [], ap, inl, inr, refl, suc, sym, true, zero, ℕ, ◌∙◌, ◌≡◌}
+use Rattle.std.proofs.Common.{Bool, List, None, Option, Some, [], ap, inl, inr, refl, suc, sym, true, zero, ℕ, ◌∙◌, ◌≡◌}
 use Rattle.std.proofs.lemmas.Bool.Decides.{eqb_tells}
 use Rattle.std.specs.Prelude.{is_some, unwrap_or}
 use Rattle.vm_base.specs.declared.entry.Entry.{Entry}
@@ -15,7 +15,6 @@ use Rattle.vm_shadow.specs.Chains.{ChainTable, region_at, shadow_at}
 use Rattle.vm_shadow.specs.declared.region_row.RegionRow.{RegionRow}
 use Rattle.vm_shadow.specs.declared.shadow_row.ShadowRow.{ShadowRow}
 use Rattle.vm_state.specs.Waiters.{HasWaiters, IsPlaceOf, LeadsTo, Reason, waiting_in}
-use Rattle.vm_supply.specs.declared.woken.Woken.{Woken}
 use Rattle.vm_waits.specs.Waits.{entry}
 use Rattle.vm_waits.specs.declared.waiting.On.{On}
 use Rattle.vm_waits.specs.declared.waiting.On.TheVariants as on
@@ -99,7 +98,7 @@ told_changed maps maps2 rows waiting_at task was made told changes lives t here 
 ]
 
 -- who waits has the entries that it had
-pub waits_kept : {waiting2 : ℕ → Option Access} (maps maps2 : Mapped) (cs cs2 : ChainTable) (rs : ResidentTable) (os : ObjectTable) (rows : List Waiting) (who : Woken) (waiting_at : ℕ → Option Access)
+pub waits_kept : {waiting2 : ℕ → Option Access} (maps maps2 : Mapped) (cs cs2 : ChainTable) (rs : ResidentTable) (os : ObjectTable) (rows : List Waiting) (who : On → Bool) (waiting_at : ℕ → Option Access)
     → HasWaiters maps cs rs os rows who waiting_at → ((t : ℕ) (w : Waiting) → entry rows t ≡ Some w → SameOf t maps maps2) → KeepsPlaces cs cs2 → AreTold maps2 rows waiting2
     → HasWaiters maps2 cs2 rs os rows who waiting2
 waits_kept maps maps2 cs cs2 rs os rows who waiting_at has same tops told =
@@ -114,7 +113,7 @@ waits_kept maps maps2 cs cs2 rs os rows who waiting_at has same tops told =
     }
 
 -- one task's entries change, which doesn't wait
-pub waits_changed : {waiting2 : ℕ → Option Access} (maps maps2 : Mapped) (cs cs2 : ChainTable) (rs : ResidentTable) (os : ObjectTable) (rows : List Waiting) (who : Woken) (waiting_at : ℕ → Option Access) (task : ℕ) (made : Option (List Entry))
+pub waits_changed : {waiting2 : ℕ → Option Access} (maps maps2 : Mapped) (cs cs2 : ChainTable) (rs : ResidentTable) (os : ObjectTable) (rows : List Waiting) (who : On → Bool) (waiting_at : ℕ → Option Access) (task : ℕ) (made : Option (List Entry))
     → HasWaiters maps cs rs os rows who waiting_at → ChangesOnly maps maps2 task made → entry rows task ≡ None → KeepsPlaces cs cs2 → AreTold maps2 rows waiting2
     → HasWaiters maps2 cs2 rs os rows who waiting2
 waits_changed maps maps2 cs cs2 rs os rows who waiting_at task made has changes none tops told =

@@ -1,7 +1,10 @@
 -- The accesses that wait, once one of them waits for something else or is over, or a page has come or was asked for.
-use Rattle.std.proofs.Common.{List, None, Option, Some, ap, false, inl, inr, refl, subst, sym, true, ℕ, ◌==◌, ◌∙◌, ◌≡◌}
+use Rattle.std.proofs.Common.{Bool, List, None, Option, Some, ap, false, inl, inr, refl, subst, sym, true, ℕ, ◌==◌, ◌||◌, ◌∙◌, ◌≡◌}
 use Rattle.std.proofs.lemmas.Bool.Decides.{eqb_tells}
-use Rattle.std.specs.Prelude.{if◌then◌else◌}
+use Rattle.std.proofs.lemmas.Bool.{or_right}
+use Rattle.std.specs.Prelude.{if◌then◌else◌, not, ◌⊎◌}
+use Rattle.vm_base.specs.declared.ids.Lock.{Lock}
+use Rattle.vm_fault.specs.Walks.{is_storing, keeps_out}
 use Rattle.vm_base.specs.declared.ids.PageKey.{PageKey}
 use Rattle.vm_maps.specs.Judge.{IsAllowed}
 use Rattle.vm_maps.specs.Maps.{Mapped}
@@ -12,8 +15,7 @@ use Rattle.vm_resident.specs.Resident.{PutsRow, ResidentTable, page_key, row_at}
 use Rattle.vm_resident.specs.declared.page_row.PageRow.{PageRow}
 use Rattle.vm_shadow.specs.Chains.{ChainTable}
 use Rattle.vm_state.specs.Pagers.{ready_in}
-use Rattle.vm_state.specs.Waiters.{Asker, HasWaiters, IsAsked, IsPlaceOf, Reason, waiting_in}
-use Rattle.vm_supply.specs.declared.woken.Woken.{Woken}
+use Rattle.vm_state.specs.Waiters.{Asker, HasWaiters, IsAsked, IsLockedFor, IsPlaceOf, Reason, is_awaited, is_woken, waiting_in}
 use Rattle.vm_supply.specs.declared.woken.Woken.TheVariants as woken
 use Rattle.vm_waits.proofs.Entries.{puts_cases, puts_elsewhere, puts_here}
 use Rattle.vm_waits.specs.Waits.{PutsEntry, entry, is_again, is_frame, with_on}
@@ -24,9 +26,9 @@ use Rattle.vm_waits.specs.declared.waiting.Waiting.{Waiting}
 use Rattle.vm_waits.specs.declared.waiting.Want.{Want}
 use Rattle.vm_state.proofs.Waited.{AreTold}
 
--- the access waits for no page that is asked
+-- the access waits for no page of which a word is outstanding
 pub record AsksNone (resident : ResidentTable) (reason : On) : Type 0 where
-  pub at : (o p : ℕ) (row : PageRow) → row_at resident o p ≡ Some row → row.here ≡ false → reason ≡ on.Page (page_key o p) → ⊥
+  pub at : (o p : ℕ) (row : PageRow) → row_at resident o p ≡ Some row → is_awaited row ≡ true → reason ≡ on.Page (page_key o p) → ⊥
 
 -- who is to be run again waits for no page
 pub asks_none_again : (rs : ResidentTable) (reason : On) → is_again reason ≡ true → AsksNone rs reason
@@ -36,57 +38,109 @@ asks_none_again rs reason is = record { at = λ o p row found away same. absurd 
 pub asks_none_frame : (rs : ResidentTable) (reason : On) → is_frame reason ≡ true → AsksNone rs reason
 asks_none_frame rs reason is = record { at = λ o p row found away same. absurd (let bad : false ≡ true = ap is_frame (sym same) ∙ is in cc) }
 
--- the page, if it has a row, is here
-pub record IsNotAsked (found : Option PageRow) : Type 0 where
-  pub here : (row : PageRow) → found ≡ Some row → row.here ≡ true
+-- of the page, if it has a row, no word is outstanding: it is here, and no unlock was sent
+pub record IsUnawaited (found : Option PageRow) : Type 0 where
+  pub none : (row : PageRow) → found ≡ Some row → is_awaited row ≡ false
 
-pub none_not_asked : (found : Option PageRow) → found ≡ None → IsNotAsked found
-none_not_asked found none = record { here = λ row is. absurd (let bad : None ≡ Some row = sym none ∙ is in cc) }
+pub none_unawaited : (found : Option PageRow) → found ≡ None → IsUnawaited found
+none_unawaited found none = record { none = λ row is. absurd (let bad : None ≡ Some row = sym none ∙ is in cc) }
 
-pub here_not_asked : (found : Option PageRow) (row : PageRow) → found ≡ Some row → row.here ≡ true → IsNotAsked found
-here_not_asked found row some here = record { here = λ other is. ap (λ z. z.here) (some_is other row (sym is ∙ some)) ∙ here }
+pub awaited_not : (row : PageRow) → row.here ≡ true → row.unlock_sent ≡ false → is_awaited row ≡ false
+awaited_not row here sent = ap (λ z. not z || row.unlock_sent) here ∙ sent
 
--- a page that is asked is not one that isn't
-pub asked_apart : {B : Type 0} (found : Option PageRow) (row : PageRow) → IsNotAsked found → found ≡ Some row → row.here ≡ false → B
-asked_apart found row not is away = absurd (let bad : true ≡ false = sym (not.here row is) ∙ away in cc)
+pub here_unawaited : (found : Option PageRow) (row : PageRow) → found ≡ Some row → row.here ≡ true → row.unlock_sent ≡ false → IsUnawaited found
+here_unawaited found row some here sent = record { none = λ other is. ap is_awaited (some_is other row (sym is ∙ some)) ∙ awaited_not row here sent }
+
+pub unawaited_here : (row : PageRow) → is_awaited row ≡ false → (row.here ≡ true) × (row.unlock_sent ≡ false)
+unawaited_here row none = by row.here row.unlock_sent none
+  where
+    by : (a b : Bool) → (not a || b) ≡ false → (a ≡ true) × (b ≡ false)
+    by true false none = (refl, refl)
+    by true true none = absurd (let bad : true ≡ false = none in cc)
+    by false b none = absurd (let bad : true ≡ false = none in cc)
+
+-- it is no page of which one is
+pub awaited_apart : {B : Type 0} (found : Option PageRow) (row : PageRow) → IsUnawaited found → found ≡ Some row → is_awaited row ≡ true → B
+awaited_apart found row not is awaits = absurd (let bad : true ≡ false = sym awaits ∙ not.none row is in cc)
+
+pub away_awaited : (row : PageRow) → row.here ≡ false → is_awaited row ≡ true
+away_awaited row away = ap (λ z. not z || row.unlock_sent) away
+
+pub sent_awaited : (row : PageRow) → row.unlock_sent ≡ true → is_awaited row ≡ true
+sent_awaited row sent = ap (λ z. not row.here || z) sent ∙ or_right (not row.here) true refl
 
 pub row_moved : (rs : ResidentTable) (o p o2 p2 : ℕ) → o ≡ o2 → p ≡ p2 → row_at rs o p ≡ row_at rs o2 p2
 row_moved rs o p o2 p2 same also = ap (λ z. row_at rs z p) same ∙ ap (λ z. row_at rs o2 z) also
 
--- an asked page stays so while another changes
-pub asked_kept : (o p : ℕ) (x : Option PageRow) (rs rs2 : ResidentTable) (o2 p2 : ℕ) → PutsRow o p x rs rs2 → IsNotAsked (row_at rs o p) → IsAsked rs o2 p2 → IsAsked rs2 o2 p2
-asked_kept o p x rs rs2 o2 p2 put not asked = elim (row_cases o p x rs rs2 put o2 p2) [
-  | inl now ↦ asked_apart (row_at rs o p) asked.row not (row_moved rs o p o2 p2 now.object now.page ∙ asked.found) asked.away
-  | inr other ↦ record { row = asked.row; found = other.is ∙ asked.found; away = asked.away }
+-- what is awaited at a place: the page is asked, or an unlock that would let the access in
+abbrev pub IsAwaitedBy : ResidentTable → Want → ℕ → ℕ → Type 0
+IsAwaitedBy rs what o p = IsAsked rs o p ⊎ IsLockedFor rs what o p
+
+pub asked_is : (rs : ResidentTable) (what : Want) (o p : ℕ) (row : PageRow) → row_at rs o p ≡ Some row → row.here ≡ false → IsAwaitedBy rs what o p
+asked_is rs what o p row found away = inl (record { row = row; found = found; away = away })
+
+-- the page has a row that awaits a word
+pub awaited_row : {B : Type 0} (rs : ResidentTable) (what : Want) (o p : ℕ) → IsAwaitedBy rs what o p → ((row : PageRow) → row_at rs o p ≡ Some row → is_awaited row ≡ true → B) → B
+awaited_row rs what o p awaits go = elim awaits [
+  | inl asked ↦ go asked.row asked.found (away_awaited asked.row asked.away)
+  | inr locked ↦ go locked.row locked.found (sent_awaited locked.row locked.sent)
+]
+
+-- it is so while another page has another row
+pub awaited_elsewhere : (o p : ℕ) (x : Option PageRow) (rs rs2 : ResidentTable) (what : Want) (o2 p2 : ℕ) → row_at rs2 o2 p2 ≡ row_at rs o2 p2 → IsAwaitedBy rs what o2 p2 → IsAwaitedBy rs2 what o2 p2
+awaited_elsewhere o p x rs rs2 what o2 p2 same awaits = elim awaits [
+  | inl asked ↦ inl (record { row = asked.row; found = same ∙ asked.found; away = asked.away })
+  | inr locked ↦ inr (record { row = locked.row; found = same ∙ locked.found; here = locked.here; locked = locked.locked; sent = locked.sent })
+]
+
+-- a page of which a word is outstanding stays so while another changes
+pub awaited_kept : (o p : ℕ) (x : Option PageRow) (rs rs2 : ResidentTable) (what : Want) (o2 p2 : ℕ) → PutsRow o p x rs rs2 → IsUnawaited (row_at rs o p) → IsAwaitedBy rs what o2 p2 → IsAwaitedBy rs2 what o2 p2
+awaited_kept o p x rs rs2 what o2 p2 put not awaits = elim (row_cases o p x rs rs2 put o2 p2) [
+  | inl now ↦ awaited_row rs what o2 p2 awaits (λ row found is. awaited_apart (row_at rs o p) row not (row_moved rs o p o2 p2 now.object now.page ∙ found) is)
+  | inr other ↦ awaited_elsewhere o p x rs rs2 what o2 p2 other.is awaits
 ]
 
 -- what an access waits for is so still
-pub reason_kept : (maps : Mapped) (chains : ChainTable) (rs rs2 : ResidentTable) (os : ObjectTable) (t : ℕ) (what : Want) (reason : On) → ((o p : ℕ) → IsAsked rs o p → IsAsked rs2 o p)
+pub reason_kept : (maps : Mapped) (chains : ChainTable) (rs rs2 : ResidentTable) (os : ObjectTable) (t : ℕ) (what : Want) (reason : On) → ((key : PageKey) → reason ≡ on.Page key → IsAwaitedBy rs what key.object.0 key.page.0 → IsAwaitedBy rs2 what key.object.0 key.page.0)
     → Reason maps chains rs os t what reason → Reason maps chains rs2 os t what reason
 reason_kept maps chains rs rs2 os t what on.Again kept is = tt
 reason_kept maps chains rs rs2 os t what (on.Ready object) kept is = is
-reason_kept maps chains rs rs2 os t what (on.Page key) kept is = (is.0, kept key.object.0 key.page.0 is.1)
+reason_kept maps chains rs rs2 os t what (on.Page key) kept is = (is.0, kept key refl is.1)
 reason_kept maps chains rs rs2 os t what on.Frame kept is = tt
 
--- a page has another row, or none, and was not asked before, nor is it now
-pub waiters_page : (maps : Mapped) (chains : ChainTable) (rs rs2 : ResidentTable) (os : ObjectTable) (rows : List Waiting) (who : Woken) (at : ℕ → Option Access) (o p : ℕ) (x : Option PageRow)
-    → HasWaiters maps chains rs os rows who at → PutsRow o p x rs rs2 → IsNotAsked (row_at rs o p) → IsNotAsked x → HasWaiters maps chains rs2 os rows who at
+-- whoever awaits the word of a page loses it, if somebody does, and is to be woken
+abbrev pub IsWokenFor : (On → Bool) → Option PageRow → ℕ → ℕ → Type 0
+IsWokenFor who found o p = IsUnawaited found ⊎ (who (on.Page (page_key o p)) ≡ true)
+
+-- a page has another row, or none; no word of it is outstanding now, nor was before but for those that are to be woken
+pub waiters_page : (maps : Mapped) (chains : ChainTable) (rs rs2 : ResidentTable) (os : ObjectTable) (rows : List Waiting) (who : On → Bool) (at : ℕ → Option Access) (o p : ℕ) (x : Option PageRow)
+    → HasWaiters maps chains rs os rows who at → PutsRow o p x rs rs2 → IsWokenFor who (row_at rs o p) o p → IsUnawaited x → HasWaiters maps chains rs2 os rows who at
 waiters_page maps chains rs rs2 os rows who at o p x has put before now =
     record {
       is = has.is;
       allowed = has.allowed;
       sized = has.sized;
-      reasons = λ t w is asleep. reason_kept maps chains rs rs2 os t w.want w.on (λ o2 p2 asked. asked_kept o p x rs rs2 o2 p2 put before asked) (has.reasons t w is asleep);
+      reasons = λ t w is asleep. reason_kept maps chains rs rs2 os t w.want w.on (λ key same awaits. stays w.want key (ap who (sym same) ∙ asleep) awaits) (has.reasons t w is asleep);
       aims = has.aims;
-      askers = λ o2 p2 row found away. elim (row_cases o p x rs rs2 put o2 p2) [
-        | inl here ↦ asked_apart x row now (sym here.is ∙ found) away
-        | inr other ↦ has.askers o2 p2 row (sym other.is ∙ found) away
+      askers = λ o2 p2 row found awaits. elim (row_cases o p x rs rs2 put o2 p2) [
+        | inl here ↦ awaited_apart x row now (sym here.is ∙ found) awaits
+        | inr other ↦ has.askers o2 p2 row (sym other.is ∙ found) awaits
       ];
       ready = λ o2 p2 row found away. elim (row_cases o p x rs rs2 put o2 p2) [
-        | inl here ↦ asked_apart x row now (sym here.is ∙ found) away
+        | inl here ↦ awaited_apart x row now (sym here.is ∙ found) (away_awaited row away)
         | inr other ↦ has.ready o2 p2 row (sym other.is ∙ found) away
       ];
     }
+  where
+    stays : (what : Want) (key : PageKey) → who (on.Page key) ≡ false → IsAwaitedBy rs what key.object.0 key.page.0 → IsAwaitedBy rs2 what key.object.0 key.page.0
+    stays what key asleep awaits = elim (row_cases o p x rs rs2 put key.object.0 key.page.0) [
+      | inl here ↦ elim before [
+        | inl none ↦ awaited_row rs what key.object.0 key.page.0 awaits (λ row found is. awaited_apart (row_at rs o p) row none (row_moved rs o p key.object.0 key.page.0 here.object here.page ∙ found) is)
+        | inr woken_all ↦
+            absurd (let bad : true ≡ false = sym woken_all ∙ (ap (λ z. who (on.Page (page_key z p))) here.object ∙ (ap (λ z. who (on.Page (page_key key.object.0 z))) here.page ∙ asleep)) in cc)
+      ]
+      | inr other ↦ awaited_elsewhere o p x rs rs2 what key.object.0 key.page.0 other.is awaits
+    ]
 
 -- what the row of an access has to be, but for its reason
 pub record Suits (maps : Mapped) (task : ℕ) (w : Waiting) : Type 0 where
@@ -102,13 +156,13 @@ asker_kept rows rows2 t was x o p put is not asker = elim (eqb_tells t asker.tas
   | inr apart ↦ record { task = asker.task; row = asker.row; is = puts_elsewhere t asker.task x rows rows2 put apart.1 ∙ asker.is; waits = asker.waits }
 ]
 
--- one access is over, or waits for something else, and pages that were asked are so still
+-- one access is over, or waits for something else, and words that were outstanding are so still
 pub waiters_put : (maps : Mapped) (chains : ChainTable) (rs rs2 : ResidentTable) (os : ObjectTable) (rows rows2 : List Waiting) (at at2 : ℕ → Option Access) (t : ℕ) (x : Option Waiting)
-    → HasWaiters maps chains rs os rows woken.Nobody at → PutsEntry t x rows rows2
+    → HasWaiters maps chains rs os rows (is_woken woken.Nobody) at → PutsEntry t x rows rows2
     → AreTold maps rows2 at2
     → ((w : Waiting) → x ≡ Some w → Suits maps t w) → ((w : Waiting) → x ≡ Some w → Reason maps chains rs2 os t w.want w.on)
-    → ((o p : ℕ) → IsAsked rs o p → IsAsked rs2 o p) → ((o p : ℕ) (row : PageRow) → row_at rs2 o p ≡ Some row → row.here ≡ false → Asker rows2 o p)
-    → ((o p : ℕ) (row : PageRow) → row_at rs2 o p ≡ Some row → row.here ≡ false → ready_in (object_at os o) ≡ true) → HasWaiters maps chains rs2 os rows2 woken.Nobody at2
+    → ((what : Want) (o p : ℕ) → IsAwaitedBy rs what o p → IsAwaitedBy rs2 what o p) → ((o p : ℕ) (row : PageRow) → row_at rs2 o p ≡ Some row → is_awaited row ≡ true → Asker rows2 o p)
+    → ((o p : ℕ) (row : PageRow) → row_at rs2 o p ≡ Some row → row.here ≡ false → ready_in (object_at os o) ≡ true) → HasWaiters maps chains rs2 os rows2 (is_woken woken.Nobody) at2
 waiters_put maps chains rs rs2 os rows rows2 at at2 t x has put told suits reason kept askers ready =
     record {
       is = told;
@@ -118,7 +172,7 @@ waiters_put maps chains rs rs2 os rows rows2 at at2 t x has put told suits reaso
       sized = λ u w is. puts_cases {P = IsSizedWant w.want} t u x rows rows2 w put is (λ same it. (suits w it).sized) (λ apart was. has.sized u w was);
       reasons = λ u w is asleep. puts_cases {P = Reason maps chains rs2 os u w.want w.on} t u x rows rows2 w put is
           (λ same it. subst (λ (z : ℕ). Reason maps chains rs2 os z w.want w.on) same (reason w it))
-          (λ apart was. reason_kept maps chains rs rs2 os u w.want w.on kept (has.reasons u w was refl));
+          (λ apart was. reason_kept maps chains rs rs2 os u w.want w.on (λ key why. kept w.want key.object.0 key.page.0) (has.reasons u w was refl));
       aims = λ u w key is waits. puts_cases {P = IsPlaceOf maps chains u w.want key} t u x rows rows2 w put is
           (λ same it. subst (λ (z : ℕ). IsPlaceOf maps chains z w.want key) same (aimed t w.want w.on key waits (reason w it)))
           (λ apart was. has.aims u w key was waits);
@@ -135,15 +189,15 @@ over_is maps rows rows2 t at at2 is put ends u here = elim (eqb_tells t u) [
   | inr apart ↦ ends u ∙ (ap (λ b. if b then None else at u) apart.0 ∙ (is u here ∙ sym (ap waiting_in (put.at u ∙ ap (λ b. if b then None else entry rows u) apart.0))))
 ]
 
--- an access is over that waits for no page that is asked
+-- an access is over that waits for no page of which a word is outstanding
 pub waiters_over : (maps : Mapped) (chains : ChainTable) (rs : ResidentTable) (os : ObjectTable) (rows rows2 : List Waiting) (at at2 : ℕ → Option Access) (t : ℕ) (was : Waiting)
-    → HasWaiters maps chains rs os rows woken.Nobody at → entry rows t ≡ Some was → AsksNone rs was.on → PutsEntry t None rows rows2 → ((u : ℕ) → at2 u ≡ (if t == u then None else at u))
-    → HasWaiters maps chains rs os rows2 woken.Nobody at2
+    → HasWaiters maps chains rs os rows (is_woken woken.Nobody) at → entry rows t ≡ Some was → AsksNone rs was.on → PutsEntry t None rows rows2 → ((u : ℕ) → at2 u ≡ (if t == u then None else at u))
+    → HasWaiters maps chains rs os rows2 (is_woken woken.Nobody) at2
 waiters_over maps chains rs os rows rows2 at at2 t was has is none put ends =
     waiters_put maps chains rs rs os rows rows2 at at2 t None has put (over_is maps rows rows2 t at at2 has.is put ends)
     (λ w it. absurd (let bad : None ≡ Some w = it in cc))
     (λ w it. absurd (let bad : None ≡ Some w = it in cc))
-    (λ o p asked. asked)
+    (λ what o p awaits. awaits)
     (λ o p row found away. asker_kept rows rows2 t was None o p put is (λ reason. none.at o p row found away reason) (has.askers o p row found away))
     has.ready
 
@@ -155,7 +209,7 @@ turned_is maps rows rows2 t was reason at is there put u here = elim (eqb_tells 
   | inr apart ↦ is u here ∙ sym (ap waiting_in (put.at u ∙ ap (λ b. if b then Some (with_on was reason) else entry rows u) apart.0))
 ]
 
-turned_suits : (maps : Mapped) (chains : ChainTable) (rs : ResidentTable) (os : ObjectTable) (rows : List Waiting) (who : Woken) (at : ℕ → Option Access) (t : ℕ) (was w : Waiting) (reason : On)
+turned_suits : (maps : Mapped) (chains : ChainTable) (rs : ResidentTable) (os : ObjectTable) (rows : List Waiting) (who : On → Bool) (at : ℕ → Option Access) (t : ℕ) (was w : Waiting) (reason : On)
     → HasWaiters maps chains rs os rows who at → entry rows t ≡ Some was → Some (with_on was reason) ≡ Some w → Suits maps t w
 turned_suits maps chains rs os rows who at t was w reason has there same =
     subst (λ (z : Waiting). Suits maps t z) (some_is (with_on was reason) w same) (record { allowed = has.allowed t was there; sized = has.sized t was there })
@@ -165,15 +219,15 @@ turned_reason : (maps : Mapped) (chains : ChainTable) (rs : ResidentTable) (os :
 turned_reason maps chains rs os t was w reason holds same =
     subst (λ (z : Waiting). Reason maps chains rs os t z.want z.on) (some_is (with_on was reason) w same) holds
 
--- an access waits for something else; before, for no page that is asked
+-- an access waits for something else; before, for no page of which a word is outstanding
 pub waiters_turned : (maps : Mapped) (chains : ChainTable) (rs : ResidentTable) (os : ObjectTable) (rows rows2 : List Waiting) (at : ℕ → Option Access) (t : ℕ) (was : Waiting) (reason : On)
-    → HasWaiters maps chains rs os rows woken.Nobody at → entry rows t ≡ Some was → AsksNone rs was.on → PutsEntry t (Some (with_on was reason)) rows rows2 → Reason maps chains rs os t was.want reason
-    → HasWaiters maps chains rs os rows2 woken.Nobody at
+    → HasWaiters maps chains rs os rows (is_woken woken.Nobody) at → entry rows t ≡ Some was → AsksNone rs was.on → PutsEntry t (Some (with_on was reason)) rows rows2 → Reason maps chains rs os t was.want reason
+    → HasWaiters maps chains rs os rows2 (is_woken woken.Nobody) at
 waiters_turned maps chains rs os rows rows2 at t was reason has is none put holds =
     waiters_put maps chains rs rs os rows rows2 at at t (Some (with_on was reason)) has put (turned_is maps rows rows2 t was reason at has.is is put)
-    (λ w it. turned_suits maps chains rs os rows woken.Nobody at t was w reason has is it)
+    (λ w it. turned_suits maps chains rs os rows (is_woken woken.Nobody) at t was w reason has is it)
     (λ w it. turned_reason maps chains rs os t was w reason holds it)
-    (λ o p asked. asked)
+    (λ what o p awaits. awaits)
     (λ o p row found away. asker_kept rows rows2 t was (Some (with_on was reason)) o p put is (λ why. none.at o p row found away why) (has.askers o p row found away))
     has.ready
 
@@ -187,38 +241,67 @@ its_asker rows rows2 t was key o p put same also =
       waits = ap (λ z. on.Page (page_key z key.page.0)) same ∙ ap (λ z. on.Page (page_key o z)) also;
     }
 
--- an access waits for a page that was asked for before
+-- an access waits for a page of which a word was outstanding before
 pub waiters_joined : (maps : Mapped) (chains : ChainTable) (rs : ResidentTable) (os : ObjectTable) (rows rows2 : List Waiting) (at : ℕ → Option Access) (t : ℕ) (was : Waiting) (key : PageKey)
-    → HasWaiters maps chains rs os rows woken.Nobody at → entry rows t ≡ Some was → AsksNone rs was.on → IsPlaceOf maps chains t was.want key → IsAsked rs key.object.0 key.page.0 → PutsEntry t (Some (with_on was (on.Page key))) rows rows2
-    → HasWaiters maps chains rs os rows2 woken.Nobody at
-waiters_joined maps chains rs os rows rows2 at t was key has is none aims asked put = waiters_turned maps chains rs os rows rows2 at t was (on.Page key) has is none put (aims, asked)
+    → HasWaiters maps chains rs os rows (is_woken woken.Nobody) at → entry rows t ≡ Some was → AsksNone rs was.on → IsPlaceOf maps chains t was.want key → IsAwaitedBy rs was.want key.object.0 key.page.0 → PutsEntry t (Some (with_on was (on.Page key))) rows rows2
+    → HasWaiters maps chains rs os rows2 (is_woken woken.Nobody) at
+waiters_joined maps chains rs os rows rows2 at t was key has is none aims awaits put = waiters_turned maps chains rs os rows rows2 at t was (on.Page key) has is none put (aims, awaits)
 
--- a page is asked for that had no row, for an access that waits for it now
+-- a word of a page is asked for of which none was outstanding, for an access that waits for it now
 pub waiters_asked : (maps : Mapped) (chains : ChainTable) (rs rs2 : ResidentTable) (os : ObjectTable) (rows rows2 : List Waiting) (at : ℕ → Option Access) (t : ℕ) (was : Waiting) (key : PageKey) (row : PageRow)
-    → HasWaiters maps chains rs os rows woken.Nobody at → entry rows t ≡ Some was → AsksNone rs was.on → IsPlaceOf maps chains t was.want key → row_at rs key.object.0 key.page.0 ≡ None
-    → PutsRow key.object.0 key.page.0 (Some row) rs rs2 → row.here ≡ false → PutsEntry t (Some (with_on was (on.Page key))) rows rows2 → ready_in (object_at os key.object.0) ≡ true
-    → HasWaiters maps chains rs2 os rows2 woken.Nobody at
-waiters_asked maps chains rs rs2 os rows rows2 at t was key row has is none aims absent put away turns ready =
+    → HasWaiters maps chains rs os rows (is_woken woken.Nobody) at → entry rows t ≡ Some was → AsksNone rs was.on → IsPlaceOf maps chains t was.want key → IsUnawaited (row_at rs key.object.0 key.page.0)
+    → PutsRow key.object.0 key.page.0 (Some row) rs rs2 → IsAwaitedBy rs2 was.want key.object.0 key.page.0 → PutsEntry t (Some (with_on was (on.Page key))) rows rows2 → (row.here ≡ false → ready_in (object_at os key.object.0) ≡ true)
+    → HasWaiters maps chains rs2 os rows2 (is_woken woken.Nobody) at
+waiters_asked maps chains rs rs2 os rows rows2 at t was key row has is none aims fresh put awaits turns ready =
     waiters_put maps chains rs rs2 os rows rows2 at at t (Some (with_on was (on.Page key))) has turns (turned_is maps rows rows2 t was (on.Page key) at has.is is turns)
-    (λ w it. turned_suits maps chains rs os rows woken.Nobody at t was w (on.Page key) has is it)
-    (λ w it. turned_reason maps chains rs2 os t was w (on.Page key) (aims, asked) it)
-    (λ o p other. asked_kept key.object.0 key.page.0 (Some row) rs rs2 o p put fresh other)
-    (λ o p r found gone. elim (row_cases key.object.0 key.page.0 (Some row) rs rs2 put o p) [
+    (λ w it. turned_suits maps chains rs os rows (is_woken woken.Nobody) at t was w (on.Page key) has is it)
+    (λ w it. turned_reason maps chains rs2 os t was w (on.Page key) (aims, awaits) it)
+    (λ what o p other. awaited_kept key.object.0 key.page.0 (Some row) rs rs2 what o p put fresh other)
+    (λ o p r found waits. elim (row_cases key.object.0 key.page.0 (Some row) rs rs2 put o p) [
       | inl now ↦ its_asker rows rows2 t was key o p turns now.object now.page
       | inr other ↦
           let was_found = sym other.is ∙ found in
-          asker_kept rows rows2 t was (Some (with_on was (on.Page key))) o p turns is (λ reason. none.at o p r was_found gone reason) (has.askers o p r was_found gone)
+          asker_kept rows rows2 t was (Some (with_on was (on.Page key))) o p turns is (λ reason. none.at o p r was_found waits reason) (has.askers o p r was_found waits)
     ])
     (λ o p r found gone. elim (row_cases key.object.0 key.page.0 (Some row) rs rs2 put o p) [
-      | inl now ↦ subst (λ (z : ℕ). ready_in (object_at os z) ≡ true) now.object ready
+      | inl now ↦ subst (λ (z : ℕ). ready_in (object_at os z) ≡ true) now.object (ready (ap (λ z. z.here) (some_is row r (sym now.is ∙ found)) ∙ gone))
       | inr other ↦ has.ready o p r (sym other.is ∙ found) gone
     ])
-  where
-    fresh : IsNotAsked (row_at rs key.object.0 key.page.0)
-    fresh = none_not_asked (row_at rs key.object.0 key.page.0) absent
 
-    asked : IsAsked rs2 key.object.0 key.page.0
-    asked = elim (row_cases key.object.0 key.page.0 (Some row) rs rs2 put key.object.0 key.page.0) [
-      | inl now ↦ record { row = row; found = now.is; away = away }
-      | inr other ↦ absurd (other.apart refl refl)
+-- who keeps a reader out keeps everybody out
+kept_out_all : (lock : Lock) (writes : Bool) → keeps_out lock writes ≡ true → keeps_out lock true ≡ true
+kept_out_all lock true is = is
+kept_out_all lock false is = by lock.read is
+  where
+    by : (b : Bool) → (b || false) ≡ true → (b || lock.write) ≡ true
+    by true is = refl
+    by false is = absurd (let bad : false ≡ true = is in cc)
+
+-- the row that a page has now
+pub put_now : (o p : ℕ) (x : Option PageRow) (rs rs2 : ResidentTable) → PutsRow o p x rs rs2 → row_at rs2 o p ≡ x
+put_now o p x rs rs2 put = elim (row_cases o p x rs rs2 put o p) [
+  | inl now ↦ now.is
+  | inr other ↦ absurd (other.apart refl refl)
+]
+
+-- whose lock keeps nobody out has no unlock outstanding: for each that is, somebody waits whom the lock keeps out
+pub open_unsent : (maps : Mapped) (chains : ChainTable) (rs : ResidentTable) (os : ObjectTable) (rows : List Waiting) (at : ℕ → Option Access) (o p : ℕ) (row : PageRow) → HasWaiters maps chains rs os rows (is_woken woken.Nobody) at
+    → row_at rs o p ≡ Some row → row.here ≡ true → keeps_out row.lock true ≡ false → row.unlock_sent ≡ false
+open_unsent maps chains rs os rows at o p row has found here open_to = by_test row.unlock_sent refl
+  where
+    none : (what : Want) → IsAwaitedBy rs what o p → ⊥
+    none what awaits = elim awaits [
+      | inl asked ↦ let bad : true ≡ false = sym here ∙ (ap (λ (z : PageRow). z.here) (some_is row asked.row (sym found ∙ asked.found)) ∙ asked.away) in cc
+      | inr locked ↦
+          let same : row ≡ locked.row = some_is row locked.row (sym found ∙ locked.found) in
+          let bad : true ≡ false = sym (kept_out_all row.lock (is_storing what) (ap (λ (z : PageRow). keeps_out z.lock (is_storing what)) same ∙ locked.locked)) ∙ open_to in
+          cc
     ]
+
+    by_test : (b : Bool) → row.unlock_sent ≡ b → b ≡ false
+    by_test false unsent = refl
+    by_test true sent =
+        let asker : Asker rows o p = has.askers o p row found (sent_awaited row sent) in
+        let reason : Reason maps chains rs os asker.task asker.row.want asker.row.on = has.reasons asker.task asker.row asker.is refl in
+        let so : Reason maps chains rs os asker.task asker.row.want (on.Page (page_key o p)) = subst (λ (z : On). Reason maps chains rs os asker.task asker.row.want z) asker.waits reason in
+        absurd (none asker.row.want so.1)

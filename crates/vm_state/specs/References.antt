@@ -1,8 +1,8 @@
 -- How often an object is referred to on a host: by the regions over it, and by the shadows over it.
-use Rattle.std.specs.Prelude.{ℕ, zero, suc, ◌+◌, ◌<◌, ◌≡◌, ◌==◌, Bool, true, false, Option, Some, None}
+use Rattle.std.specs.Prelude.{ℕ, zero, suc, ◌+◌, ◌<◌, ◌≡◌, ◌==◌, ◌⊎◌, Bool, true, false, Option, Some, None}
 use Rattle.vm_objects.specs.Objects.{ObjectTable, object_at}
 use Rattle.vm_objects.specs.declared.row.ObjectRow.{ObjectRow}
-use Rattle.vm_parts.specs.Changes.{one}
+use Rattle.vm_parts.specs.Changes.{one, unlocked}
 use Rattle.vm_resident.specs.Resident.{ResidentTable, row_at}
 use Rattle.vm_resident.specs.declared.page_row.PageRow.{PageRow}
 use Rattle.vm_shadow.specs.Chains.{ChainTable, region_at, shadow_at}
@@ -29,14 +29,25 @@ tally test (suc n) = one (test n) + tally test n
 abbrev pub references_to : ChainTable → ℕ → ℕ → ℕ → ℕ
 references_to chains regions objects o = tally (λ r. is_over o (region_at chains r)) regions + tally (λ s. is_backing o (shadow_at chains s)) objects
 
--- something refers to each object whose control lives, that has a page or whose page is asked, or that is a shadow
+-- a control of the object lives, if the object is known
+abbrev pub is_live_in : Option ObjectRow → Bool
+is_live_in None = false
+is_live_in (Some known) = known.live
+
+-- the page isn't locked, or a control of its object lives, whose pager locked it
+abbrev pub MayLock : ObjectTable → ℕ → PageRow → Type 0
+MayLock objects o row = (row.lock ≡ unlocked) ⊎ (is_live_in (object_at objects o) ≡ true)
+
+-- something refers to each object whose control lives, that has a page or whose page is asked, or that is a shadow; and no page is locked whose pager isn't told
 pub record AllReferred (chains : ChainTable) (objects : ObjectTable) (resident : ResidentTable) : Type 0 where
   pub live : (o : ℕ) (known : ObjectRow) → object_at objects o ≡ Some known → known.live ≡ true → 0 < known.references
   pub pages : (o p : ℕ) (row : PageRow) → row_at resident o p ≡ Some row → IsReferred objects o
+  pub locks : (o p : ℕ) (row : PageRow) → row_at resident o p ≡ Some row → MayLock objects o row
   pub shadows : (o : ℕ) (row : ShadowRow) → shadow_at chains o ≡ Some row → IsReferred objects o
 
 -- something refers to each object in use but one, which ends
 pub record AllReferredBut (o : ℕ) (chains : ChainTable) (objects : ObjectTable) (resident : ResidentTable) : Type 0 where
   pub live : (x : ℕ) (known : ObjectRow) → (o ≡ x → ⊥) → object_at objects x ≡ Some known → known.live ≡ true → 0 < known.references
   pub pages : (x p : ℕ) (row : PageRow) → (o ≡ x → ⊥) → row_at resident x p ≡ Some row → IsReferred objects x
+  pub locks : (x p : ℕ) (row : PageRow) → row_at resident x p ≡ Some row → MayLock objects x row
   pub shadows : (x : ℕ) (row : ShadowRow) → (o ≡ x → ⊥) → shadow_at chains x ≡ Some row → IsReferred objects x

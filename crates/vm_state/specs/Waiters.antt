@@ -1,5 +1,5 @@
 -- The accesses that wait on a host, as its kernel keeps them, and what each waits for.
-use Rattle.std.specs.Prelude.{ℕ, zero, suc, ◌≤◌, ◌≡◌, Bool, true, false, List, [], ◌∷◌, Option, Some, None, is_some}
+use Rattle.std.specs.Prelude.{ℕ, zero, suc, ◌≤◌, ◌≡◌, ◌||◌, ◌⊎◌, not, Bool, true, false, List, [], ◌∷◌, Option, Some, None, is_some}
 use Rattle.vm_base.specs.declared.ids.PageKey.{PageKey}
 use Rattle.vm_maps.specs.Maps.{Mapped, entries_in}
 use Rattle.vm_model.specs.Waiting.{Access, Loading, Storing}
@@ -8,7 +8,7 @@ use Rattle.vm_objects.specs.declared.row.ObjectRow.{ObjectRow}
 use Rattle.vm_objects.specs.declared.row.PagerState.TheVariants as state
 use Rattle.vm_resident.specs.Resident.{ResidentTable, page_key, row_at}
 use Rattle.vm_resident.specs.declared.page_row.PageRow.{PageRow}
-use Rattle.vm_fault.specs.Walks.{IsAt, IsUnder}
+use Rattle.vm_fault.specs.Walks.{IsAt, IsUnder, is_storing, keeps_out}
 use Rattle.vm_shadow.specs.Chains.{ChainTable}
 use Rattle.vm_supply.specs.declared.woken.Woken.{Woken}
 use Rattle.vm_supply.specs.declared.woken.Woken.TheVariants as woken
@@ -49,6 +49,14 @@ pub record IsAsked (resident : ResidentTable) (o p : ℕ) : Type 0 where
   pub found : row_at resident o p ≡ Some row
   pub away : row.here ≡ false
 
+-- an unlock of the page is outstanding, whose lock keeps the access out
+pub record IsLockedFor (resident : ResidentTable) (what : Want) (o p : ℕ) : Type 0 where
+  pub row : PageRow
+  pub found : row_at resident o p ≡ Some row
+  pub here : row.here ≡ true
+  pub locked : keeps_out row.lock (is_storing what) ≡ true
+  pub sent : row.unlock_sent ≡ true
+
 -- the object's pager was told of it, and isn't ready
 pub record IsPagerTold (objects : ObjectTable) (o : ℕ) : Type 0 where
   pub row : ObjectRow
@@ -59,13 +67,17 @@ pub record IsPagerTold (objects : ObjectTable) (o : ℕ) : Type 0 where
 abbrev pub Reason : Mapped → ChainTable → ResidentTable → ObjectTable → ℕ → Want → On → Type 0
 Reason maps chains resident objects task what on.Again = Unit {0}
 Reason maps chains resident objects task what (on.Ready object) = (key : PageKey) × IsPlaceOf maps chains task what key × (key.object ≡ object) × IsPagerTold objects object.0
-Reason maps chains resident objects task what (on.Page key) = IsPlaceOf maps chains task what key × IsAsked resident key.object.0 key.page.0
+Reason maps chains resident objects task what (on.Page key) = IsPlaceOf maps chains task what key × (IsAsked resident key.object.0 key.page.0 ⊎ IsLockedFor resident what key.object.0 key.page.0)
 Reason maps chains resident objects task what on.Frame = Unit {0}
 
 -- the accesses of the rows began one behind the other, from an event on
 abbrev pub BeganInOrder : (ℕ → ℕ) → ℕ → List Waiting → Type 0
 BeganInOrder begun from [] = Unit {0}
 BeganInOrder begun from (w ∷ ws) = (from ≤ begun w.task.0) × BeganInOrder begun (suc (begun w.task.0)) ws
+
+-- somebody's word on the page is outstanding: it is asked, or an unlock of it
+abbrev pub is_awaited : PageRow → Bool
+is_awaited row = not row.here || row.unlock_sent
 
 -- a row of the table of waiting accesses waits for the page
 pub record Asker (rows : List Waiting) (o p : ℕ) : Type 0 where
@@ -81,13 +93,13 @@ is_woken (woken.ReadyOf object) reason = woken_ready object.0 reason
 is_woken (woken.Page key) reason = woken_page key reason
 is_woken (woken.Fails key) reason = woken_page key reason
 
--- The accesses of tasks here that wait in the history wait here, each with an entry that allows it, within a page; each has a reason, but those whom an answer
--- wakes may have lost theirs; and somebody waits for each page that is asked, whose pager is ready.
-pub record HasWaiters (maps : Mapped) (chains : ChainTable) (resident : ResidentTable) (objects : ObjectTable) (rows : List Waiting) (who : Woken) (waiting_at : ℕ → Option Access) : Type 0 where
+-- The accesses of tasks here that wait in the history wait here, each with an entry that allows it, within a page; each has a reason, but those that are to be woken
+-- may have lost theirs; and somebody waits for each page that is asked, whose pager is ready, and for each unlock that is outstanding.
+pub record HasWaiters (maps : Mapped) (chains : ChainTable) (resident : ResidentTable) (objects : ObjectTable) (rows : List Waiting) (who : On → Bool) (waiting_at : ℕ → Option Access) : Type 0 where
   pub is : (t : ℕ) → is_some (entries_in t maps) ≡ true → waiting_at t ≡ waiting_in (entry rows t)
   pub allowed : (t : ℕ) (w : Waiting) → entry rows t ≡ Some w → IsAllowed maps t (address_in w.want) (need_in w.want)
   pub sized : (t : ℕ) (w : Waiting) → entry rows t ≡ Some w → IsSizedWant w.want
-  pub reasons : (t : ℕ) (w : Waiting) → entry rows t ≡ Some w → is_woken who w.on ≡ false → Reason maps chains resident objects t w.want w.on
+  pub reasons : (t : ℕ) (w : Waiting) → entry rows t ≡ Some w → who w.on ≡ false → Reason maps chains resident objects t w.want w.on
   pub aims : (t : ℕ) (w : Waiting) (key : PageKey) → entry rows t ≡ Some w → w.on ≡ on.Page key → IsPlaceOf maps chains t w.want key
-  pub askers : (o p : ℕ) (row : PageRow) → row_at resident o p ≡ Some row → row.here ≡ false → Asker rows o p
+  pub askers : (o p : ℕ) (row : PageRow) → row_at resident o p ≡ Some row → is_awaited row ≡ true → Asker rows o p
   pub ready : (o p : ℕ) (row : PageRow) → row_at resident o p ≡ Some row → row.here ≡ false → ready_in (object_at objects o) ≡ true

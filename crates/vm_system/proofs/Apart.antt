@@ -48,17 +48,17 @@ apart_of header past orderly h o p high away = by (object_home o past) refl
 -- what a pager answers is about the object of the message
 
 abbrev pub IsAbout : ObjectId → Event → Type 0
-IsAbout object (event.Sent (Down host o control) m) = Unit {0}
+IsAbout object (event.Sent (Down host o control) m) = o ≡ object
 IsAbout object (event.DeviceFailed who way o page) = o ≡ object
 IsAbout object (event.NoSlot o page) = o ≡ object
 IsAbout object other = ⊥
 
 requested : (size host : ℕ) (object : ObjectId) (control : ℕ) (page : PageNo) (has : Option Held) (events : List Event) → RequestAnswer size host object control page has events → EachOf (IsAbout object) events
-requested size host object control page None events is = subst (λ (z : List Event). EachOf (IsAbout object) z) (sym is) (tt, tt)
-requested size host object control page (Some held.Lost) events is = subst (λ (z : List Event). EachOf (IsAbout object) z) (sym is) (tt, tt)
-requested size host object control page (Some (held.Torn s)) events is = subst (λ (z : List Event). EachOf (IsAbout object) z) (sym is) (tt, tt)
-requested size host object control page (Some (held.Kept s)) events (inl is) = subst (λ (z : List Event). EachOf (IsAbout object) z) (sym is.2) (tt, tt)
-requested size host object control page (Some (held.Kept s)) events (inr is) = subst (λ (z : List Event). EachOf (IsAbout object) z) (sym is) (tt, (refl, tt))
+requested size host object control page None events is = subst (λ (z : List Event). EachOf (IsAbout object) z) (sym is) (refl, tt)
+requested size host object control page (Some held.Lost) events is = subst (λ (z : List Event). EachOf (IsAbout object) z) (sym is) (refl, tt)
+requested size host object control page (Some (held.Torn s)) events is = subst (λ (z : List Event). EachOf (IsAbout object) z) (sym is) (refl, tt)
+requested size host object control page (Some (held.Kept s)) events (inl is) = subst (λ (z : List Event). EachOf (IsAbout object) z) (sym is.2) (refl, tt)
+requested size host object control page (Some (held.Kept s)) events (inr is) = subst (λ (z : List Event). EachOf (IsAbout object) z) (sym is) (refl, (refl, tt))
 
 put_about : (p : Put) (object : ObjectId) (page : PageNo) → EachOf (IsAbout object) (told_of p object page)
 put_about put.Kept object page = tt
@@ -66,8 +66,8 @@ put_about put.NoSlot object page = (refl, tt)
 put_about put.Failed object page = (refl, tt)
 
 pub about : (m : Message) (object : ObjectId) (old new : SlotTable) (events : List Event) → PagerAnswer m object old new events → EachOf (IsAbout object) events
-about (message.Init control size) object old new events a = subst (λ (z : List Event). EachOf (IsAbout object) z) (sym a.1) (tt, tt)
-about (message.Create control size) object old new events a = subst (λ (z : List Event). EachOf (IsAbout object) z) (sym a.1) (tt, tt)
+about (message.Init control size) object old new events a = subst (λ (z : List Event). EachOf (IsAbout object) z) (sym a.1) (refl, tt)
+about (message.Create control size) object old new events a = subst (λ (z : List Event). EachOf (IsAbout object) z) (sym a.1) (refl, tt)
 about (message.Request control page access) object old new events a = requested old.size old.host object control page (held_at old object.0 page.0) events a.1
 about (message.Return control page dirty keep bytes) object old new events a = subst (λ (z : List Event). EachOf (IsAbout object) z) (sym a.told) (put_about (became events) object page)
 about (message.Terminate control) object old new events a = subst (λ (z : List Event). EachOf (IsAbout object) z) (sym a.1) tt

@@ -1,22 +1,27 @@
 -- A system stands for its history behind the step of a command that takes no message.
-use Rattle.vm_system.proofs.Common.{AllFilesServe, AllInner, AllQueued, AllRest, AllServe, Arming, CanTell, CanTellAll, Channel, Code, Command, Device, DevicesHaveCause, EachOf, Event, FilesAreKept, Header, HostTable, IfOk, IsOrderly, KeepsLegal, LeavesBacking, List, Makes, None, Numbered, OnErr, OnOk, Outside, PagingIsKept, Posts, Result, SameHosts, Some, Spares, State, Stretch, SystemStands, Told, Went, [], all_lined, all_nobodys, all_refused, all_suffice, ap, append_assoc, arith, arms, devices, false, get_or, head, inl, inner_both, is_idle, length, none-some, of_both, queued_lined, queued_refused, refl, refusal, same_Some, slice_get, stretch_none, subst, suc, sym, takes_up, true, zero, ℕ, ◌++◌, ◌<◌, ◌∙◌, ◌∷◌, ◌≡◌}
+use Rattle.vm_system.proofs.Common.{AllFilesServe, AllInner, AllQueued, AllRest, AllServe, Arming, CanTell, CanTellAll, Channel, Code, Command, Device, DevicesHaveCause, EachOf, Event, FilesAreKept, Header, HostTable, IfOk, IsOrderly, KeepsLegal, Lawful, LeavesBacking, List, Makes, None, Numbered, OnErr, OnOk, Outside, PagingIsKept, Posts, Result, SameHosts, Some, Spares, State, Stretch, SystemStands, Told, Went, [], all_lined, all_nobodys, all_refused, all_suffice, ap, append_assoc, arith, arms, devices, false, get_or, head, inl, inner_both, is_idle, length, none-some, of_both, queued_lined, queued_refused, refl, refusal, same_Some, slice_get, stretch_none, subst, suc, sym, takes_up, true, zero, ℕ, ◌++◌, ◌<◌, ◌∙◌, ◌∷◌, ◌≡◌}
 use Rattle.std.specs.Prelude.{Ok, Err}
-use Rattle.vm_model.specs.Ranges.{InRange}
 use Rattle.vm_model.specs.declared.event.Device.TheVariants as device
 use Rattle.vm_model.specs.declared.event.Event.TheVariants as event
 use Rattle.vm_model.specs.declared.command.Command.TheVariants as command
 use Rattle.vm_system.proofs.Agreeing.{IsSpared, carry_spared, content_spared, devices_spared, files_spared, serve_spared, spared_said}
 use Rattle.vm_system.proofs.Cleaning.{IsAsked, asked_fine}
+use Rattle.sms_server.specs.Stands.{IsOther as IsServerOther}
+use Rattle.sms_server.proofs.Acting.{others_serve as served_other, others_stand as server_other}
+use Rattle.vm_system.proofs.Lawfulness.{lawful_line, lawful_more, others_said, served_more, server_more}
 use Rattle.vm_system.proofs.Letters.{orderly_line}
 use Rattle.vm_system.proofs.Sayings.{can_say, orderly_said}
-use Rattle.vm_system.proofs.Following.{fit_same, kept_at, same_files, same_pagers, same_pages}
+use Rattle.vm_system.proofs.Following.{fit_same, kept_at, same_declared, same_files, same_pagers}
 use Rattle.vm_system.proofs.Growth.{front_begun, grew_begun}
+use Rattle.vm_system.proofs.Silent.{all_returned, paid_inner}
 use Rattle.vm_system.proofs.Legal.{head_line, legal_refused, legal_settle}
 
 -- what was told behind a line, and what the hosts are then
-pub record IsTold (header : Header) (line : ℕ) (events : List Event) (hosts : HostTable) (s : State) : Type 0 where
+pub record IsTold (header : Header) (outside : Outside) (line : ℕ) (events : List Event) (hosts : HostTable) (s : State) : Type 0 where
   pub inner : AllInner events
   pub spared : EachOf IsSpared events
+  pub silent : EachOf (IsServerOther header) events
+  pub lawful : Lawful header outside (events ++ event.Line line ∷ s.history.items)
   pub orderly : IsOrderly header (events ++ event.Line line ∷ s.history.items)
   pub rests : AllRest header hosts (events ++ event.Line line ∷ s.history.items)
   pub queues : AllQueued header hosts (events ++ event.Line line ∷ s.history.items)
@@ -27,16 +32,18 @@ pub can_tell : (header : Header) (outside : Outside) (doing : Command) (line : �
 can_tell header outside doing line events s stands stretch =
     let past = event.Line line ∷ s.history.items in
     subst (λ (z : ℕ). CanTellAll z events past) (sym stands.agrees.size)
-    (can_say header outside doing past events stands.built.paged (orderly_line header line s.history.items stands.agrees.orderly) stretch.licensed stretch.said stretch.inner)
+    (can_say header outside doing past events stands.built.supplied (orderly_line header line s.history.items stands.agrees.orderly) stretch.licensed stretch.said stretch.inner)
 
 pub told_said : (header : Header) (outside : Outside) (doing : Command) (line : ℕ) (events : List Event) (hosts : HostTable) (s : State) → SystemStands header outside s → Stretch header outside doing (event.Line line ∷ s.history.items) events
-    → AllRest header hosts (events ++ event.Line line ∷ s.history.items) → AllQueued header hosts (events ++ event.Line line ∷ s.history.items) → IsTold header line events hosts s
+    → AllRest header hosts (events ++ event.Line line ∷ s.history.items) → AllQueued header hosts (events ++ event.Line line ∷ s.history.items) → IsTold header outside line events hosts s
 told_said header outside doing line events hosts s stands stretch rests queues =
     let past = event.Line line ∷ s.history.items in
     record {
       inner = stretch.inner;
       spared = spared_said header events past stretch.said;
-      orderly = orderly_said header outside doing past events stands.built.paged (orderly_line header line s.history.items stands.agrees.orderly) stretch.licensed stretch.said stretch.inner;
+      silent = others_said header events past stretch.said;
+      lawful = lawful_more header outside doing events past stretch.licensed stretch.own_bytes stretch.inner (lawful_line header outside line s.history.items stands.paid stands.agrees.lawful);
+      orderly = orderly_said header outside doing past events stands.built.supplied (orderly_line header line s.history.items stands.agrees.orderly) stretch.licensed stretch.said stretch.inner;
       rests = rests;
       queues = queues;
     }
@@ -51,10 +58,10 @@ can_both size (e ∷ later) front past all before = (subst (λ (z : List Event).
 pub head_of : (header : Header) (doing : Command) (line : ℕ) (h past asked : List Event) → past ≡ event.Line line ∷ h → head header past doing ≡ Some asked → head header h doing ≡ Some asked
 head_of header doing line h past asked front is = sym (head_line header line h doing) ∙ (sym (ap (λ (z : List Event). head header z doing) front) ∙ is)
 
-pub asked_of : (header : Header) (outside : Outside) (doing : Command) (line : ℕ) (s : State) (past asked : List Event) → SystemStands header outside s → InRange header doing → is_idle doing ≡ true → past ≡ event.Line line ∷ s.history.items
+pub asked_of : (header : Header) (outside : Outside) (doing : Command) (line : ℕ) (s : State) (past asked : List Event) → SystemStands header outside s → refusal header s.history.items doing ≡ None → is_idle doing ≡ true → past ≡ event.Line line ∷ s.history.items
     → head header past doing ≡ Some asked → IsAsked header outside doing (event.Line line ∷ s.history.items) asked
-asked_of header outside doing line s past asked stands range idle front is =
-    asked_fine header outside doing line s.history.items asked stands.built range idle (head_of header doing line s.history.items past asked front is)
+asked_of header outside doing line s past asked stands accepted idle front is =
+    asked_fine header outside doing line s.history.items asked accepted idle (head_of header doing line s.history.items past asked front is)
 
 -- the hosts stand for what is asked
 pub asked_rests : (header : Header) (outside : Outside) (doing : Command) (line : ℕ) (asked : List Event) (s : State) → SystemStands header outside s → IsAsked header outside doing (event.Line line ∷ s.history.items) asked
@@ -68,29 +75,33 @@ can_ask header outside doing line asked events hosts s stands says went =
     let past = event.Line line ∷ s.history.items in
     let orderly = orderly_line header line s.history.items stands.agrees.orderly in
     let stretch = went.follows.stretch in
-    let later = can_say header outside doing (asked ++ past) went.more stands.built.paged (says.orderly orderly) stretch.licensed stretch.said stretch.inner in
+    let later = can_say header outside doing (asked ++ past) went.more stands.built.supplied (says.orderly orderly) stretch.licensed stretch.said stretch.inner in
     subst (λ (z : ℕ). CanTellAll z events past) (sym stands.agrees.size)
     (subst (λ (z : List Event). CanTellAll header.size z past) (sym went.is) (can_both header.size went.more asked past later (says.can orderly)))
 
 pub told_asked : (header : Header) (outside : Outside) (doing : Command) (line : ℕ) (asked events : List Event) (hosts : HostTable) (s : State) → SystemStands header outside s
-    → IsAsked header outside doing (event.Line line ∷ s.history.items) asked → Went header outside doing (event.Line line ∷ s.history.items) asked hosts events → IsTold header line events hosts s
+    → IsAsked header outside doing (event.Line line ∷ s.history.items) asked → Went header outside doing (event.Line line ∷ s.history.items) asked hosts events → IsTold header outside line events hosts s
 told_asked header outside doing line asked events hosts s stands says went =
     let past = event.Line line ∷ s.history.items in
     let orderly = orderly_line header line s.history.items stands.agrees.orderly in
     let stretch = went.follows.stretch in
     let more = went.more in
-    let behind : IsOrderly header (more ++ (asked ++ past)) = orderly_said header outside doing (asked ++ past) more stands.built.paged (says.orderly orderly) stretch.licensed stretch.said stretch.inner in
+    let behind : IsOrderly header (more ++ (asked ++ past)) = orderly_said header outside doing (asked ++ past) more stands.built.supplied (says.orderly orderly) stretch.licensed stretch.said stretch.inner in
     let whole : events ++ past ≡ more ++ (asked ++ past) = ap (λ (z : List Event). z ++ past) went.is ∙ append_assoc more asked past in
     record {
       inner = subst AllInner (sym went.is) (inner_both more asked stretch.inner says.inner);
       spared = subst (EachOf IsSpared) (sym went.is) (of_both IsSpared more asked (spared_said header more (asked ++ past) stretch.said) says.spared);
+      silent = subst (EachOf (IsServerOther header)) (sym went.is) (of_both (IsServerOther header) more asked (others_said header more (asked ++ past) stretch.said) says.silent);
+      lawful = subst (Lawful header outside) (sym whole)
+          (lawful_more header outside doing more (asked ++ past) stretch.licensed stretch.own_bytes stretch.inner (lawful_more header outside doing asked past says.licensed says.own_bytes says.inner
+          (lawful_line header outside line s.history.items stands.paid stands.agrees.lawful)));
       orderly = subst (IsOrderly header) (sym whole) behind;
       rests = went.ended.rests;
       queues = went.ended.queues;
     }
 
 -- the system stands for what was told
-pub stands_told : (header : Header) (outside : Outside) (line : ℕ) (events : List Event) (hosts : HostTable) (old new : State) → SystemStands header outside old → IsTold header line events hosts old
+pub stands_told : (header : Header) (outside : Outside) (line : ℕ) (events : List Event) (hosts : HostTable) (old new : State) → SystemStands header outside old → IsTold header outside line events hosts old
     → SameHosts (record old { hosts = hosts }) new → Posts new new.history.items → new.history.items ≡ events ++ event.Line line ∷ old.history.items → SystemStands header outside new
 stands_told header outside line events hosts old new stands told same posts grown =
     let h = old.history.items in
@@ -104,16 +115,20 @@ stands_told header outside line events hosts old new stands told same posts grow
       queues = rw (grown, same.hosts) told.queues;
       agrees = record {
         size = same.size ∙ agrees.size;
-        pages = rw (same_pages (record old { hosts = hosts }) new same) agrees.pages;
+        declared = same_declared (record old { hosts = hosts }) new same ∙ agrees.declared;
         pagers = rw (grown, same_pagers (record old { hosts = hosts }) new same) serve;
         files = rw (grown, same_files (record old { hosts = hosts }) new same) filed;
+        server = rw (grown, same.server) (server_more header old.server events past told.silent (server_other header old.server (event.Line line) h tt agrees.server));
         posts = posts;
         orderly = rw grown told.orderly;
+        lawful = rw grown told.lawful;
       };
+      paid = rw grown (paid_inner header line h events told.inner (all_returned header hosts (events ++ past) told.rests));
+      served = rw grown (served_more header events past told.silent (served_other header (event.Line line) h tt stands.served));
     }
 
 -- the step of a command is what was told behind the line
-pub makes_told : (header : Header) (outside : Outside) (numbered : Numbered) (events : List Event) (hosts : HostTable) (old new : State) → SystemStands header outside old → IsTold header numbered.line events hosts old
+pub makes_told : (header : Header) (outside : Outside) (numbered : Numbered) (events : List Event) (hosts : HostTable) (old new : State) → SystemStands header outside old → IsTold header outside numbered.line events hosts old
     → KeepsLegal header outside numbered old.history.items (events ++ event.Line numbered.line ∷ old.history.items)
     → SameHosts (record old { hosts = hosts }) new → Posts new new.history.items → new.history.items ≡ events ++ event.Line numbered.line ∷ old.history.items → Makes header outside numbered old new
 makes_told header outside numbered events hosts old new stands told legal same posts grown = record {
@@ -156,7 +171,7 @@ spares_by header outside events old new spared pagers files grown = record {
 }
 
 -- so it is with what was told behind a line
-pub spares_told : (header : Header) (outside : Outside) (line : ℕ) (events : List Event) (hosts : HostTable) (old new : State) → IsTold header line events hosts old → SameHosts (record old { hosts = hosts }) new
+pub spares_told : (header : Header) (outside : Outside) (line : ℕ) (events : List Event) (hosts : HostTable) (old new : State) → IsTold header outside line events hosts old → SameHosts (record old { hosts = hosts }) new
     → new.history.items ≡ events ++ event.Line line ∷ old.history.items → Spares header outside old new
 spares_told header outside line events hosts old new told same grown =
     spares_by header outside (events ++ event.Line line ∷ []) old new (of_both IsSpared events (event.Line line ∷ []) told.spared (tt, tt)) (same_pagers (record old { hosts = hosts }) new same) (same_files (record old { hosts = hosts }) new same)
@@ -168,7 +183,7 @@ spares_same header outside hosts old new same items = spares_by header outside [
 
 -- the code of a refusal, or nothing, follows the line
 
-pub told_code : (header : Header) (outside : Outside) (doing : Command) (why : Code) (line : ℕ) (s : State) → SystemStands header outside s → IsTold header line (event.Refused why ∷ []) s.hosts s
+pub told_code : (header : Header) (outside : Outside) (doing : Command) (why : Code) (line : ℕ) (s : State) → SystemStands header outside s → IsTold header outside line (event.Refused why ∷ []) s.hosts s
 told_code header outside doing why line s stands =
     let past = event.Line line ∷ s.history.items in
     let hosts = stands.built.ranged.hosts in
@@ -187,9 +202,9 @@ pub makes_refused : (header : Header) (outside : Outside) (numbered : Numbered) 
     → Posts new new.history.items → new.history.items ≡ event.Refused why ∷ event.Line numbered.line ∷ old.history.items → Makes header outside numbered old new
 makes_refused header outside numbered why old new stands refused same posts grown =
     makes_told header outside numbered (event.Refused why ∷ []) old.hosts old new stands (told_code header outside numbered.command why numbered.line old stands)
-    (legal_refused header outside numbered why old.history.items stands.built.paged refused) same posts grown
+    (legal_refused header outside numbered why old.history.items stands.built.supplied refused) same posts grown
 
-pub told_none : (header : Header) (outside : Outside) (doing : Command) (line : ℕ) (s : State) → SystemStands header outside s → IsTold header line [] s.hosts s
+pub told_none : (header : Header) (outside : Outside) (doing : Command) (line : ℕ) (s : State) → SystemStands header outside s → IsTold header outside line [] s.hosts s
 told_none header outside doing line s stands =
     let h = s.history.items in
     told_said header outside doing line [] s.hosts s stands (stretch_none header outside doing (event.Line line ∷ h)) (all_lined header outside doing s.hosts line h stands.rests) (queued_lined header outside doing s.hosts line h stands.rests stands.queues)
@@ -198,11 +213,12 @@ pub makes_lined : (header : Header) (outside : Outside) (line count : ℕ) (old 
     → new.history.items ≡ event.Line line ∷ old.history.items → Makes header outside (record { line = line; command = command.Settle count }) old new
 makes_lined header outside line count old new stands same posts grown =
     makes_told header outside (record { line = line; command = command.Settle count }) [] old.hosts old new stands (told_none header outside (command.Settle count) line old stands)
-    (legal_settle header outside line count old.history.items stands.built.paged) same posts grown
+    (legal_settle header outside line count old.history.items stands.built.supplied) same posts grown
 
 -- parts that are as they were are so behind two calls
 pub same_hosts : (old mid new : State) → SameHosts old mid → SameHosts mid new → SameHosts old new
-same_hosts old mid new one two = record { size = two.size ∙ one.size; hosts = two.hosts ∙ one.hosts; pagers = two.pagers ∙ one.pagers; files = two.files ∙ one.files; pages = two.pages ∙ one.pages }
+same_hosts old mid new one two =
+    record { size = two.size ∙ one.size; hosts = two.hosts ∙ one.hosts; pagers = two.pagers ∙ one.pagers; declared = two.declared ∙ one.declared; files = two.files ∙ one.files; server = two.server ∙ one.server }
 
 -- one event more on top of a history
 pub one_more : (e : Event) (h old new : List Event) → old ≡ h → new ≡ e ∷ old → new ≡ e ∷ h

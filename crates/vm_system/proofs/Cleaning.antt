@@ -1,7 +1,9 @@
 -- What a file's pager says for a clean.
-use Rattle.vm_system.proofs.Common.{AllInner, AllLicensed, AllPaged, Bool, CanTellAll, CleanEvents, Command, EachIn, EachOf, Event, FileTable, FramesSuffice, Header, IsKnownAs, IsNobodys, IsOfFiles, IsOrderly, Known, KnownControl, List, MakesNoControl, MomentsIn, None, ObjectId, Option, Outside, OwnBytes, PageNo, Some, State, SystemStands, [], ap, arith, clean_head, false, head, home_for, inl, inr, is_file, is_idle, is_made, known_below, known_control, length, named, nat_lt, none-some, not, or_known, refl, reverse, same_Some, slice_get, subst, suc, sym, true, up, zero, ℕ, ◌++◌, ◌<◌, ◌||◌, ◌∙◌, ◌∷◌, ◌≡◌, ◌⊎◌}
+use Rattle.vm_system.proofs.Common.{AllInner, AllLicensed, Bool, CanTellAll, CleanEvents, Command, EachIn, EachOf, Event, FileTable, FramesSuffice, Header, IsKnownAs, IsNobodys, IsOrderly, Known, KnownControl, List, MakesNoControl, MomentsIn, None, ObjectId, Option, Outside, OwnBytes, PageNo, Some, State, SystemStands, [], ap, arith, clean_head, false, head, home_for, inl, inr, is_file, is_idle, is_made, known_below, known_control, length, named, nat_lt, none-some, not, or_known, refl, reverse, same_Some, slice_get, subst, suc, sym, true, up, zero, ℕ, ◌++◌, ◌<◌, ◌||◌, ◌∙◌, ◌∷◌, ◌≡◌, ◌⊎◌, is_shared, refusal, code_where, declared_pages, ◌==◌, ◌+◌}
+use Rattle.vm_base.specs.declared.code.Code.TheVariants as code
 use Rattle.vm_legal.proofs.Served.{paged_sends}
-use Rattle.vm_model.specs.Ranges.{InRange}
+use Rattle.vm_legal.proofs.Unshared.{file_unshared}
+use Rattle.sms_server.specs.Stands.{IsOther as IsServerOther}
 use Rattle.vm_model.specs.declared.command.Command.TheVariants as command
 use Rattle.vm_model.specs.declared.event.Event.TheVariants as event
 use Rattle.vm_model.specs.declared.message.Message.TheVariants as message
@@ -49,35 +51,35 @@ known_there (suc n) o past known is = one (known_there n o past known) (known_be
 
 -- the control that a file's pager knows is the only one, and that of which the head of a clean speaks
 
-known_home : (header : Header) (h o k : ℕ) (past : List Event) → IsOrderly header past → known_control h o past ≡ Some k → home_for header o past ≡ Some h
-known_home header h o k past orderly at = by (is_made (up h o) past) refl
+known_home : (header : Header) (h o k : ℕ) (past : List Event) → IsOrderly header past → is_shared header o ≡ false → known_control h o past ≡ Some k → home_for header o past ≡ Some h
+known_home header h o k past orderly plain at = by (is_made (up h o) past) refl
   where
     by : (b : Bool) → is_made (up h o) past ≡ b → home_for header o past ≡ Some h
-    by true made = (orderly.home h o).made made
+    by true made = (orderly.home h o).made plain made
     by false none = absurd (none-some k (sym ((orderly.made h o).unknown none) ∙ at))
 
 abbrev known_of : Option KnownControl → Option Known
 known_of None = None
 known_of (Some known) = Some (record { host = known.host.0; control = known.control })
 
-known_tie : (header : Header) (o : ℕ) (known : Option KnownControl) (past : List Event) → IsOrderly header past → IsKnownAs o known past → known_below (length header.frames.items) o past ≡ known_of known
-known_tie header o None past orderly is = below_none (length header.frames.items) o past (λ g below. is g)
-known_tie header o (Some known) past orderly is = below_some (length header.frames.items) o known.host.0 known.control past is
-    (λ g k at. same_Some g known.host.0 (sym (known_home header g o k past orderly at) ∙ known_home header known.host.0 o known.control past orderly is)) (orderly.known known.host.0 o known.control is)
+known_tie : (header : Header) (o : ℕ) (known : Option KnownControl) (past : List Event) → IsOrderly header past → is_shared header o ≡ false → IsKnownAs o known past → known_below (length header.frames.items) o past ≡ known_of known
+known_tie header o None past orderly plain is = below_none (length header.frames.items) o past (λ g below. is g)
+known_tie header o (Some known) past orderly plain is = below_some (length header.frames.items) o known.host.0 known.control past is
+    (λ g k at. same_Some g known.host.0 (sym (known_home header g o k past orderly plain at) ∙ known_home header known.host.0 o known.control past orderly plain is)) (orderly.known known.host.0 o known.control is)
 
 head_events : (object : ObjectId) (page : PageNo) (count : ℕ) (flush : Bool) (known : Option KnownControl) (events : List Event) → CleanEvents known object.0 page count flush events → clean_head object page count flush (known_of known) ≡ events
 head_events object page count flush None events is = sym is
 head_events object page count flush (Some known) events is = sym is
 
-pub asked_is : (header : Header) (outside : Outside) (s : State) (object : ObjectId) (page : PageNo) (count : ℕ) (flush : Bool) (line : ℕ) (pager : FileTable) (events : List Event) → SystemStands header outside s → object.0 < named header
+pub asked_is : (header : Header) (outside : Outside) (s : State) (object : ObjectId) (page : PageNo) (count : ℕ) (flush : Bool) (line : ℕ) (pager : FileTable) (events : List Event) → SystemStands header outside s → is_file header object.0 ≡ true
     → slice_get s.files.items object.0 ≡ Some pager → CleanEvents pager.known pager.object page count flush events
     → head header (event.Line line ∷ s.history.items) (command.Clean object page count flush) ≡ Some events
-asked_is header outside s object page count flush line pager events stands declared at says =
+asked_is header outside s object page count flush line pager events stands file at says =
     let past = s.history.items in
     let files = stands.agrees.files in
-    let its = files.stand object.0 pager (stands.built.paged object.0 declared) at in
+    let its = files.stand object.0 pager file at in
     let own : CleanEvents pager.known object.0 page count flush events = subst (λ (o : ℕ). CleanEvents pager.known o page count flush events) its.object_is says in
-    let tie = known_tie header object.0 pager.known past stands.agrees.orderly its.known_is in
+    let tie = known_tie header object.0 pager.known past stands.agrees.orderly (file_unshared header object.0 file) its.known_is in
     ap (λ (z : Option Known). Some (clean_head object page count flush z)) (known_line (length header.frames.items) object.0 line past ∙ tie) ∙ ap (λ (z : List Event). Some z) (head_events object page count flush pager.known events own)
 
 -- what is asked behind a line has its cause, is no host's, and can be told
@@ -90,18 +92,18 @@ pub record IsAsked (header : Header) (outside : Outside) (doing : Command) (past
   pub nobodys : EachOf IsNobodys asked
   pub controls : EachOf MakesNoControl asked
   pub spared : EachOf IsSpared asked
+  pub silent : EachOf (IsServerOther header) asked
   pub orderly : IsOrderly header past → IsOrderly header (asked ++ past)
   pub can : IsOrderly header past → CanTellAll header.size asked past
 
 asked_none : (header : Header) (outside : Outside) (doing : Command) (past : List Event) → IsAsked header outside doing past []
-asked_none header outside doing past = record { back = refl; licensed = tt; own_bytes = tt; frames = λ now. tt; inner = tt; nobodys = tt; controls = tt; spared = tt; orderly = λ orderly. orderly; can = λ orderly. tt }
+asked_none header outside doing past = record { back = refl; licensed = tt; own_bytes = tt; frames = λ now. tt; inner = tt; nobodys = tt; controls = tt; spared = tt; silent = tt; orderly = λ orderly. orderly; can = λ orderly. tt }
 
-asked_one : (header : Header) (outside : Outside) (object : ObjectId) (page : PageNo) (count : ℕ) (flush : Bool) (line : ℕ) (h : List Event) (known : Option Known) → AllPaged header → object.0 < named header
+asked_one : (header : Header) (outside : Outside) (object : ObjectId) (page : PageNo) (count : ℕ) (flush : Bool) (line : ℕ) (h : List Event) (known : Option Known) → is_file header object.0 ≡ true
     → known_below (length header.frames.items) object.0 h ≡ known → IsAsked header outside (command.Clean object page count flush) (event.Line line ∷ h) (clean_head object page count flush known)
-asked_one header outside object page count flush line h None paged declared is = asked_none header outside (command.Clean object page count flush) (event.Line line ∷ h)
-asked_one header outside object page count flush line h (Some known) paged declared is =
+asked_one header outside object page count flush line h None file is = asked_none header outside (command.Clean object page count flush) (event.Line line ∷ h)
+asked_one header outside object page count flush line h (Some known) file is =
     let there = known_there (length header.frames.items) object.0 h known is in
-    let file : is_file header object.0 ≡ true = paged object.0 declared in
     record {
       back = refl;
       licensed = (
@@ -118,7 +120,8 @@ asked_one header outside object page count flush line h (Some known) paged decla
       nobodys = (tt, tt);
       controls = (tt, tt);
       spared = (tt, tt);
-      orderly = λ orderly. orderly_cleaned header known.host object known.control page count flush (event.Line line ∷ h) orderly there.1;
+      silent = (file_unshared header object.0 file, tt);
+      orderly = λ orderly. orderly_cleaned header known.host object known.control page count flush (event.Line line ∷ h) orderly there.1 (file_unshared header object.0 file);
       can = λ orderly. ((tt, (orderly.made known.host object.0).known known.control there.0), tt);
     }
   where
@@ -126,14 +129,22 @@ asked_one header outside object page count flush line h (Some known) paged decla
     either true c is = refl
     either false c is = is
 
-pub asked_fine : (header : Header) (outside : Outside) (doing : Command) (line : ℕ) (h asked : List Event) → IsOfFiles header → InRange header doing → is_idle doing ≡ true → head header h doing ≡ Some asked
+-- what is cleaned is a file
+pub cleaned_file : (header : Header) (past : List Event) (object : ObjectId) (page : PageNo) (count : ℕ) (flush : Bool) → refusal header past (command.Clean object page count flush) ≡ None → is_file header object.0 ≡ true
+cleaned_file header past object page count flush accepted = by (is_file header object.0) (count == 0 || nat_lt (declared_pages header object.0) (page.0 + count)) accepted
+  where
+    by : (b c : Bool) → code_where (not b || c) code.InvalidArgument None ≡ None → b ≡ true
+    by true c accepted = refl
+    by false c accepted = absurd (let bad : Some code.InvalidArgument ≡ None = accepted in cc)
+
+pub asked_fine : (header : Header) (outside : Outside) (doing : Command) (line : ℕ) (h asked : List Event) → refusal header h doing ≡ None → is_idle doing ≡ true → head header h doing ≡ Some asked
     → IsAsked header outside doing (event.Line line ∷ h) asked
-asked_fine header outside (command.FailFiles count) line h asked built range idle is =
+asked_fine header outside (command.FailFiles count) line h asked accepted idle is =
     subst (λ (z : List Event). IsAsked header outside (command.FailFiles count) (event.Line line ∷ h) z) (same_Some [] asked is) (asked_none header outside (command.FailFiles count) (event.Line line ∷ h))
-asked_fine header outside (command.FailPaging count) line h asked built range idle is =
+asked_fine header outside (command.FailPaging count) line h asked accepted idle is =
     subst (λ (z : List Event). IsAsked header outside (command.FailPaging count) (event.Line line ∷ h) z) (same_Some [] asked is) (asked_none header outside (command.FailPaging count) (event.Line line ∷ h))
-asked_fine header outside (command.Clean object page count flush) line h asked built range idle is =
+asked_fine header outside (command.Clean object page count flush) line h asked accepted idle is =
     subst (λ (z : List Event). IsAsked header outside (command.Clean object page count flush) (event.Line line ∷ h) z)
     (same_Some (clean_head object page count flush (known_below (length header.frames.items) object.0 h)) asked is)
-    (asked_one header outside object page count flush line h (known_below (length header.frames.items) object.0 h) built.paged range.0 refl)
-asked_fine header outside other line h asked built range idle is = absurd (let bad : false ≡ true = idle in cc)
+    (asked_one header outside object page count flush line h (known_below (length header.frames.items) object.0 h) (cleaned_file header h object page count flush accepted) refl)
+asked_fine header outside other line h asked accepted idle is = absurd (let bad : false ≡ true = idle in cc)

@@ -14,6 +14,9 @@ pub use Rattle.pg_slots.specs.Contents.{CarriesContent, Content, IsAreaTold, Put
 pub use Rattle.pg_slots.specs.Slots.{KeepsShape, PutEffects, SlotTable, held_at, held_slot, slot_in_table}
 pub use Rattle.pg_slots.specs.declared.answers.Put.{Put}
 pub use Rattle.pg_slots.specs.declared.slot_row.Held.{Held}
+pub use Rattle.sms_server.specs.Answers.{AreServerWords, IsServerWord, IsToServer, ServerAnswer}
+pub use Rattle.sms_server.specs.Stands.{MeetsProtocol, ServerServes, ServerStands}
+pub use Rattle.sms_server.specs.Table.{ServerTable}
 pub use Rattle.std.proofs.Common.{Bool, Err, IsErrOf, List, MatchOption, None, Ok, Option, Some, [], ap, append_assoc, arith, cond, false, if◌then◌else◌, inl, inr, length, length-append, nat_le, not, position, refl, rules, subst, suc, sym, take, true, zero, ℕ, ◌++◌, ◌+◌, ◌<◌, ◌∙◌, ◌∷◌, ◌≡◌, ◌≤◌, ◌⊎◌}
 pub use Rattle.std.proofs.Math.ListN.{length-set, set}
 pub use Rattle.std.proofs.lemmas.Bool.{false≢true, or_left}
@@ -44,38 +47,41 @@ pub use Rattle.vm_kernel.proofs.Growing.{paid_of}
 pub use Rattle.vm_kernel.specs.Abroad.{IsNobodys}
 pub use Rattle.vm_kernel.specs.Begun.{CreatesHere, IsLined, KernelSays, SomeKernelSays}
 pub use Rattle.vm_kernel.specs.Matches.{IsRanged, host_id}
-pub use Rattle.vm_kernel.specs.Taking.{EndsAll, IsAbsencePaid, IsErrorPaid, IsLockPaid, IsPlainWord}
+pub use Rattle.vm_kernel.specs.Taking.{EndsAll, IsAbsencePaid, IsErrorPaid, IsLockPaid, IsWord}
 pub use Rattle.vm_legal.proofs.Groups.{cut_of, open_of, so_far}
 pub use Rattle.vm_legal.proofs.Inside.{before_more, taken_more, takings_more}
 pub use Rattle.vm_legal.proofs.Locks.{no_request}
 pub use Rattle.vm_legal.proofs.Paying.{lock_more, paid_more}
 pub use Rattle.vm_legal.proofs.Stretched.{each_both, each_whole, inner_both, licensed_both, licensed_front, moment_last, moments_both, moments_whole, of_both, steps_whole}
 pub use Rattle.vm_legal.specs.Accesses.{Comes, Copies, Elsewhere, HasPlace, Nowhere, Raises, Waits, WaitsUnlocked, WantsFrame, page_of}
-pub use Rattle.vm_legal.specs.Bytes.{CopiesCurrent, FlatBytes, OwnBytes}
+pub use Rattle.vm_legal.specs.Bytes.{CopiesCurrent, FlatBytes, LoadsCurrent, OwnBytes}
 pub use Rattle.vm_legal.specs.Debts.{IsPaid}
 pub use Rattle.vm_legal.specs.Follows.{Follows, FollowsSoFar, IsConsequence, IsDone, IsDoneSoFar, IsGroup, IsRun, IsWholeGroup, IsWholeSoFar, clean_head, head, take_head}
 pub use Rattle.vm_legal.specs.Frames.{FramesSuffice, Gives, Suffice, change_where, frames_after, frames_held, frames_used, returns_out, taken_down_change, taken_up_change}
 pub use Rattle.vm_legal.specs.Homes.{gives_frame}
-pub use Rattle.vm_legal.specs.Legal.{Holds, IsAtRest, LegalFor}
+pub use Rattle.vm_legal.specs.Legal.{HasOneWriter, Holds, IsAtRest, LegalFor}
 pub use Rattle.vm_legal.specs.Licences.{AllLicensed, HasCause, Licensed, MaySendUp, MayTake, ReturnsOn, created, lock_taken, tells, up}
-pub use Rattle.vm_legal.specs.Outside.{Outside, is_file}
+pub use Rattle.vm_legal.specs.Outside.{Outside, is_file, is_shared, kind_of}
 pub use Rattle.vm_legal.specs.Pagers.{Known, known_after, known_below, known_control, last_return, or_known}
-pub use Rattle.vm_legal.specs.Prompt.{AReady, AnAnswer, AnUnlock, Awaits, HostIsFull, IsExhausted, IsSource, NoneInVain, Prompt, WaitsForPager}
+pub use Rattle.vm_legal.specs.Prompt.{AReady, AnAnswer, AnUnlock, Awaits, HostIsFull, IsExhausted, IsSource, NoneInVain, Prompt, AllServed, WaitsForPager}
 pub use Rattle.vm_legal.specs.Refusal.{acting, code_where, copy_refusal, has_copy_mark, is_copy_full, is_elsewhere, is_empty, is_fork_full, is_full, refusal}
 pub use Rattle.vm_legal.specs.Steps.{Letter, before_step, taken_letter, takings}
 pub use Rattle.vm_legal.specs.Stretches.{AllInner, EachIn, EachOf, IsInner, MomentsIn}
 pub use Rattle.vm_legal.specs.Undelivered.{channel_of_first, is_made, is_of_control, makes, oldest_channel, undelivered, without_first}
 pub use Rattle.vm_model.specs.Channels.{is_channel, queue}
 pub use Rattle.vm_model.specs.Controls.{is_control, last_control, live_control, without_control}
+pub use Rattle.vm_model.specs.Coherence.{PageLegal}
 pub use Rattle.vm_model.specs.Copies.{HasPageOf}
 pub use Rattle.vm_model.specs.Limits.{most_events}
 pub use Rattle.vm_model.specs.Local.{local}
 pub use Rattle.vm_model.specs.Moments.{BeforeSteps, EachEvent, EachMoment, before_last_line}
 pub use Rattle.vm_model.specs.Named.{declared_pages, named}
+pub use Rattle.vm_model.specs.PagePart.{page_part}
 pub use Rattle.vm_model.specs.Regions.{marked_below, marked_regions, next_object, next_region, region_of}
 pub use Rattle.vm_model.specs.Server.{first}
 pub use Rattle.vm_model.specs.Side.{rest}
 pub use Rattle.vm_model.specs.Tasks.{copies, copies_from, entries_of, host_of, is_copied, new_marks}
+pub use Rattle.vm_model.specs.Words.{up_word}
 pub use Rattle.vm_model.specs.Waiting.{Access, is_store, waiting}
 pub use Rattle.vm_model.specs.contracts.message.ChannelPartialEq.TheImpl.{eq-value}
 pub use Rattle.vm_model.specs.declared.command.Command.{Command}
@@ -93,17 +99,18 @@ pub use Rattle.vm_outside.specs.Causes.{CountRises, sum_count}
 pub use Rattle.vm_ports.specs.Ports.{PortTable}
 pub use Rattle.vm_quiet.proofs.Letters.{first_is, is_out, never, outs, outs_sent, outs_taken, queue_is, same_channel, some_out}
 pub use Rattle.vm_quiet.specs.Letters.{messages_on}
-pub use Rattle.vm_quiet.specs.Places.{AllPaged}
+pub use Rattle.vm_quiet.specs.Quiet.{AllSupplied}
 pub use Rattle.vm_system.specs.Channels.{ChannelTable, channel_number}
 pub use Rattle.vm_system.specs.Keeping.{FilesAreTold, FilesCarry, MayHave}
+pub use Rattle.vm_system.specs.Lawful.{Lawful}
 pub use Rattle.vm_system.specs.Making.{Makes, Spares, SparesFiles, SparesPaging}
-pub use Rattle.vm_system.specs.Orderly.{AllLetters, Ending, EndsLast, HasMade, IsHome, IsHostLetter, IsOrderly, IsWordUp, NoEnd, home_for, is_end, is_washed, washed_in}
+pub use Rattle.vm_system.specs.Orderly.{AllLetters, Ending, EndsLast, HasHeard, HasMade, IsHeard, IsHome, IsHostLetter, IsOrderly, IsSharedWord, IsWordUp, NoEnd, home_for, is_end, is_washed, stands_in, washed_in}
 pub use Rattle.vm_system.specs.Posts.{AreSame, CanSend, CanTell, CanTellAll, HasRoom, Posts, SameHosts}
 pub use Rattle.vm_system.specs.Refusing.{channel_code, code_at}
 pub use Rattle.vm_system.specs.Sends.{AreFresh, Delivered, made_by, opened}
 pub use Rattle.vm_system.specs.Settling.{DevicesCounted, StaysOpen}
-pub use Rattle.vm_system.specs.Stands.{Agrees, AllFilesServe, AllServe, AllTold, AreEmpty, AreNamedApart, AreNumbered, FilesAreKept, IsOfFiles, PagingIsKept, SystemStands}
-pub use Rattle.vm_system.specs.Steps.{DevicesHaveCause, EndsCut, GrowsWithinLimit, HasMore, IsBelowLimit, IsMemoryStop, KeepsLegal, KeepsOpen, LeavesBacking, LegalCut, LegalOpen, MayBegin, MayCut, MayCutOpen, arms, device_of, devices, is_device, is_idle, lined, settles, takes_any, takes_up, took_any, took_up}
+pub use Rattle.vm_system.specs.Stands.{Agrees, AllFilesServe, AllServe, AllTold, AreEmpty, AreNamedApart, AreNumbered, FilesAreKept, IsSupplied, PagingIsKept, SystemStands}
+pub use Rattle.vm_system.specs.Steps.{DevicesHaveCause, EndsCut, GrowsWithinLimit, HasMore, IsBelowLimit, IsMemoryStop, KeepsLegal, KeepsOpen, LeavesBacking, LegalCut, LegalOpen, MayBegin, MayCut, MayCutOpen, arms, devices, is_device, is_idle, is_kept_in, lined, settles, takes_any, takes_up, took_any, took_up}
 pub use Rattle.vm_system.specs.Takings.{Followed, MayBeCut, MayTakeFrom, PagerHasAnswered, TakesStep, Took}
 pub use Rattle.vm_system.specs.declared.state.State.{State}
 pub use Rattle.vm_system.specs.declared.stop.SystemStop.{SystemStop}

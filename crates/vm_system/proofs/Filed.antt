@@ -32,14 +32,14 @@ filed_none object events past is = filed_at object events [] past is (record { r
 
 requested : (size host control : ℕ) (object : ObjectId) (page : PageNo) (lost : Bool) (events past : List Event) → RequestAnswer size host object.0 control page lost events → IsFiled object events past
 requested size host control object page true events past is =
-    filed_at object events _ past is (record { replies = (tt, tt); about = (tt, tt); faults = no_fault Files ⊥ (sent_to host object.0 control (error page) ∷ []) past refl (λ t. t) })
+    filed_at object events _ past is (record { replies = (tt, tt); about = (refl, tt); faults = no_fault Files ⊥ (sent_to host object.0 control (error page) ∷ []) past refl (λ t. t) })
 requested size host control object page false events past (inl is) =
-    filed_at object events _ past is.2 (record { replies = (tt, tt); about = (tt, tt); faults = no_fault Files ⊥ _ past refl (λ t. t) })
+    filed_at object events _ past is.2 (record { replies = (tt, tt); about = (refl, tt); faults = no_fault Files ⊥ _ past refl (λ t. t) })
 requested size host control object page false events past (inr (inl is)) =
-    filed_at object events _ past is (record { replies = (tt, tt); about = (tt, tt); faults = no_fault Files ⊥ (sent_to host object.0 control (message.Unavailable page) ∷ []) past refl (λ t. t) })
+    filed_at object events _ past is (record { replies = (tt, tt); about = (refl, tt); faults = no_fault Files ⊥ (sent_to host object.0 control (message.Unavailable page) ∷ []) past refl (λ t. t) })
 requested size host control object page false events past (inr (inr is)) =
     filed_at object events _ past is
-    (record { replies = (tt, (refl, tt)); about = (tt, (refl, tt)); faults = one_fault Files (Unit {0}) (sent_to host object.0 control (error page) ∷ device_failed Read object.0 page ∷ []) past refl tt })
+    (record { replies = (tt, (refl, tt)); about = (refl, (refl, tt)); faults = one_fault Files (Unit {0}) (sent_to host object.0 control (error page) ∷ device_failed Read object.0 page ∷ []) past refl tt })
 
 returned : (stored : Bool) (object : ObjectId) (page : PageNo) (past : List Event) → IsFiled object (told_of stored object.0 page) past
 returned true object page past = record { replies = tt; about = tt; faults = no_fault Files ⊥ [] past refl (λ t. t) }
@@ -47,7 +47,7 @@ returned false object page past = record { replies = (refl, tt); about = (refl, 
 
 greeted : (host control strategy : ℕ) (object : ObjectId) (events past : List Event) → events ≡ sent_to host object.0 control (message.Ready false strategy) ∷ [] → IsFiled object events past
 greeted host control strategy object events past is =
-    filed_at object events _ past is (record { replies = (tt, tt); about = (tt, tt); faults = no_fault Files ⊥ (sent_to host object.0 control (message.Ready false strategy) ∷ []) past refl (λ t. t) })
+    filed_at object events _ past is (record { replies = (tt, tt); about = (refl, tt); faults = no_fault Files ⊥ (sent_to host object.0 control (message.Ready false strategy) ∷ []) past refl (λ t. t) })
 
 pub filed_of : (m : Message) (host : ℕ) (object : ObjectId) (old new : FileTable) (events past : List Event) → old.object ≡ object.0 → FileAnswer m host old new events → IsFiled object events past
 filed_of (message.Init control size) host object old new events past own a = greeted host control 0 object events past (subst (λ (z : ℕ). events ≡ sent_to host z control (message.Ready false 0) ∷ []) own a.1)

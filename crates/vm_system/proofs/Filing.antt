@@ -1,6 +1,6 @@
 -- What leaves the files' pagers, and the files.
 use Rattle.vm_system.proofs.Apart.{IsAbout}
-use Rattle.vm_system.proofs.Common.{AllFilesServe, Bool, Down, EachOf, Event, FileKept, FileTable, FilesCarry, Header, HostId, List, MayHave, Message, None, ObjectId, Option, SameAreas, Some, Told, Up, [], ap, arith, false, false≢true, home_of, homes_stay, inl, inr, is_file, name_of, named, nat_lt, nat_tests, none-some, refl, sym, true, ℕ, ◌&&◌, ◌++◌, ◌<◌, ◌∙◌, ◌∷◌, ◌≡◌, ◌≢◌, ◌≤◌}
+use Rattle.vm_system.proofs.Common.{AllFilesServe, Bool, Down, EachOf, Event, FileKept, FileTable, FilesCarry, Header, HostId, List, MayHave, Message, None, ObjectId, Option, SameAreas, Some, Told, Up, [], ap, arith, false, false≢true, home_of, homes_stay, inl, inr, is_file, name_of, named, nat_lt, nat_tests, none-some, refl, sym, true, ℕ, ◌&&◌, ◌++◌, ◌<◌, ◌∙◌, ◌∷◌, ◌≡◌, ◌≢◌}
 use Rattle.pg_file.proofs.Carrying.{others_carry}
 use Rattle.pg_file.proofs.Standing.{others}
 use Rattle.pg_file.specs.Stands.{IsOther, PagerStands as FileStands}
@@ -45,26 +45,26 @@ kept_about size host object start now about [] past is apart kept = kept
 kept_about size host object start now about (e ∷ events) past is apart kept =
     others_carry size host object start now e (events ++ past) (about_other object about e is.0 apart) (kept_about size host object start now about events past is.1 apart kept)
 
--- nor in a message about a temporary object, and what its pager answers
+-- nor in a message about an object that isn't a file, and what its pager answers
 
-temporary_apart : (header : Header) (about : ObjectId) (object : ℕ) → named header ≤ about.0 → is_file header object ≡ true → about.0 ≢ object
-temporary_apart header about object high file = let low = is_declared header object file in λ same. omega (arith, high, low, same)
+no_file_apart : (header : Header) (about : ObjectId) (object : ℕ) → is_file header about.0 ≡ false → is_file header object ≡ true → about.0 ≢ object
+no_file_apart header about object none file same = absurd (false≢true (sym none ∙ ap (is_file header) same ∙ file))
 
-pub files_about : (header : Header) (files : List FileTable) (host : HostId) (about : ObjectId) (m : Message) (events past : List Event) → EachOf (IsAbout about) events → named header ≤ about.0 → AllFilesServe header files past
+pub files_about : (header : Header) (files : List FileTable) (host : HostId) (about : ObjectId) (m : Message) (events past : List Event) → EachOf (IsAbout about) events → is_file header about.0 ≡ false → AllFilesServe header files past
     → AllFilesServe header files (events ++ event.Taken (Up host about) m ∷ past)
-files_about header files host about m events past is high serve = record {
+files_about header files host about m events past is none serve = record {
   count = serve.count;
   stand = λ object pager file at.
-      let apart = temporary_apart header about object high file in
+      let apart = no_file_apart header about object none file in
       stands_about header object pager about events (event.Taken (Up host about) m ∷ past) is apart (others header object pager (event.Taken (Up host about) m) past apart (serve.stand object pager file at));
 }
 
-pub carry_about : (header : Header) (start areas : List ℕ → Told) (host : HostId) (about : ObjectId) (m : Message) (events past : List Event) → EachOf (IsAbout about) events → named header ≤ about.0 → FilesCarry header start areas past
+pub carry_about : (header : Header) (start areas : List ℕ → Told) (host : HostId) (about : ObjectId) (m : Message) (events past : List Event) → EachOf (IsAbout about) events → is_file header about.0 ≡ false → FilesCarry header start areas past
     → FilesCarry header start areas (events ++ event.Taken (Up host about) m ∷ past)
-carry_about header start areas host about m events past is high carry = record {
+carry_about header start areas host about m events past is none carry = record {
   kept = λ object was file at.
       let had = carry.kept object was file at in
-      let apart = temporary_apart header about object high file in
+      let apart = no_file_apart header about object none file in
       let taken = event.Taken (Up host about) m in (
         had.0,
         had.1,

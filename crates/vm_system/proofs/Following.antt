@@ -1,8 +1,10 @@
 -- What the kernels say leaves the pagers and what was stored.
-use Rattle.vm_system.proofs.Common.{Agrees, AllFilesServe, AllInner, AllServe, AllTold, Bool, CanTellAll, Command, Content, EachIn, Event, FilesAreKept, FilesCarry, Followed, Going, Header, HostId, HostTable, HostsPart, IsOrderly, List, Outside, PagerHasAnswered, PagingIsKept, Posts, SameHosts, SlotTable, SlotsFit, Some, SomeKernelSays, Spares, SparesFiles, SparesPaging, State, Stretch, Told, ap, content_of, declared_pages, devices, named, refl, slice_get, subst, sym, true, ℕ, ◌++◌, ◌<◌, ◌∙◌, ◌≡◌}
+use Rattle.vm_system.proofs.Common.{Agrees, AllFilesServe, AllInner, AllServe, AllServed, AllTold, Bool, CanTellAll, Command, Content, EachIn, Event, FilesAreKept, FilesCarry, Followed, Going, Header, HostId, HostTable, HostsPart, IsOrderly, IsPaid, Lawful, List, Outside, PagerHasAnswered, PagingIsKept, Posts, SameHosts, ServerStands, SlotTable, SlotsFit, Some, SomeKernelSays, Spares, SparesFiles, SparesPaging, State, Stretch, Told, ap, content_of, devices, paid_more, refl, reverse, slice_get, subst, sym, true, ℕ, ◌++◌, ◌∙◌, ◌≡◌, ServerTable}
 use Rattle.vm_model.specs.declared.event.Device.TheVariants.{Files, Paging}
 use Rattle.vm_system.proofs.Agreeing.{carry_spared, content_stays, devices_said, files_spared, serve_said, spared_said}
+use Rattle.vm_system.proofs.Lawfulness.{lawful_more, others_said, served_more, server_more}
 use Rattle.vm_system.proofs.Sayings.{can_say, orderly_said}
+use Rattle.vm_system.proofs.Silent.{all_returned}
 
 pub same_pagers : (old new : State) → SameHosts old new → new.pagers.items ≡ old.pagers.items
 same_pagers old new same = rw same.pagers refl
@@ -10,8 +12,8 @@ same_pagers old new same = rw same.pagers refl
 pub same_files : (old new : State) → SameHosts old new → new.files.items ≡ old.files.items
 same_files old new same = rw same.files refl
 
-pub same_pages : (old new : State) → SameHosts old new → new.pages.items ≡ old.pages.items
-same_pages old new same = rw same.pages refl
+pub same_declared : (old new : State) → SameHosts old new → new.declared.items ≡ old.declared.items
+same_declared old new same = rw same.declared refl
 
 -- slots and areas of each pager fit what the history has stored
 abbrev pub AllFit : Header → (List ℕ → Told) → List SlotTable → List Event → Type 0
@@ -78,17 +80,22 @@ pub both_filing : (header : Header) (outside : Outside) (old mid new : State) �
 both_filing header outside old mid new one two =
     record { kept = λ areas kept. two.kept areas (one.kept areas kept); carried = λ start areas carry. two.carried start areas (one.carried start areas carry); devices = two.devices ∙ one.devices }
 
+pub both_spares : (header : Header) (outside : Outside) (old mid new : State) → Spares header outside old mid → Spares header outside mid new → Spares header outside old new
+both_spares header outside old mid new one two = record { paging = both_paging header outside old mid new one.paging two.paging; files = both_filing header outside old mid new one.files two.files }
+
 -- what agrees with the history does so behind what kernels said
 pub agrees_said : (header : Header) (outside : Outside) (doing : Command) (past events : List Event) (s : State) → IsOrderly header (events ++ past) → AllServe header s.pagers.items past → AllFilesServe header s.files.items past
-    → ((object : ℕ) → object < named header → slice_get s.pages.items object ≡ Some (declared_pages header object)) → Stretch header outside doing past events → s.size ≡ header.size → s.history.items ≡ events ++ past → Posts s s.history.items
+    → ServerStands header s.server past → Lawful header outside past → s.declared.items ≡ reverse header.objects.items → Stretch header outside doing past events → s.size ≡ header.size → s.history.items ≡ events ++ past → Posts s s.history.items
     → Agrees header outside s
-agrees_said header outside doing past events s orderly serve files pages stretch size items posts = record {
+agrees_said header outside doing past events s orderly serve files server lawful declared stretch size items posts = record {
   size = size;
-  pages = pages;
+  declared = declared;
   pagers = rw items (serve_said header s.pagers.items events past stretch.said stretch.inner serve);
   files = rw items (files_spared header s.files.items events past (spared_said header events past stretch.said) files);
+  server = rw items (server_more header s.server events past (others_said header events past stretch.said) server);
   posts = posts;
   orderly = rw items orderly;
+  lawful = rw items (lawful_more header outside doing events past stretch.licensed stretch.own_bytes stretch.inner lawful);
 }
 
 -- what the hosts do behind an answer can be told
@@ -98,13 +105,13 @@ can_follow given host washed old hosts events answered passed =
     let past = given.front ++ given.past in
     let stretch = passed.follows.stretch in
     let orderly : IsOrderly given.header past = subst (λ (z : List Event). IsOrderly given.header z) answered.is answered.agrees.orderly in
-    rw (answered.agrees.size, answered.is) (can_say given.header given.outside given.command past events answered.built.paged orderly stretch.licensed stretch.said stretch.inner)
+    rw (answered.agrees.size, answered.is) (can_say given.header given.outside given.command past events answered.built.supplied orderly stretch.licensed stretch.said stretch.inner)
 
 -- and is told
 pub followed : (given : Going) (host : HostId) (washed : Bool) (old new : State) (events : List Event) → PagerHasAnswered given host washed old
-    → HostsPart given.header given.outside given.command (given.front ++ given.past) new.hosts events → new.size ≡ old.size → new.pagers.items ≡ old.pagers.items → new.files.items ≡ old.files.items → new.pages.items ≡ old.pages.items
-    → new.history.items ≡ events ++ old.history.items → Posts new new.history.items → Followed given new
-followed given host washed old new events answered passed size pagers files pages items posts =
+    → HostsPart given.header given.outside given.command (given.front ++ given.past) new.hosts events → new.size ≡ old.size → new.pagers.items ≡ old.pagers.items → new.files.items ≡ old.files.items → new.declared.items ≡ old.declared.items
+    → new.server ≡ old.server → new.history.items ≡ events ++ old.history.items → Posts new new.history.items → Followed given new
+followed given host washed old new events answered passed size pagers files declared server items posts =
     let past = given.front ++ given.past in
     let header = given.header in
     let stretch = passed.follows.stretch in
@@ -112,13 +119,19 @@ followed given host washed old new events answered passed size pagers files page
     let orderly : IsOrderly header past = subst (λ (z : List Event). IsOrderly header z) answered.is answered.agrees.orderly in
     let serve : AllServe header new.pagers.items past = rw pagers (subst (λ (z : List Event). AllServe header old.pagers.items z) answered.is answered.agrees.pagers) in
     let filed : AllFilesServe header new.files.items past = rw files (subst (λ (z : List Event). AllFilesServe header old.files.items z) answered.is answered.agrees.files) in
+    let heard : ServerStands header new.server past = subst (λ (z : ServerTable). ServerStands header z past) (sym server) (subst (λ (z : List Event). ServerStands header old.server z) answered.is answered.agrees.server) in
+    let lawful : Lawful header given.outside past = subst (λ (z : List Event). Lawful header given.outside z) answered.is answered.agrees.lawful in
+    let owed : IsPaid header past = subst (λ (z : List Event). IsPaid header z) answered.is answered.paid in
+    let served : AllServed header past = subst (λ (z : List Event). AllServed header z) answered.is answered.served in
     record {
       stands = record {
         built = answered.built;
         rests = rw now passed.ended.rests;
         queues = rw now passed.ended.queues;
         agrees = agrees_said header given.outside given.command past events new
-            (orderly_said header given.outside given.command past events answered.built.paged orderly stretch.licensed stretch.said stretch.inner) serve filed (rw pages answered.agrees.pages) stretch (size ∙ answered.agrees.size) now posts;
+            (orderly_said header given.outside given.command past events answered.built.supplied orderly stretch.licensed stretch.said stretch.inner) serve filed heard lawful (declared ∙ answered.agrees.declared) stretch (size ∙ answered.agrees.size) now posts;
+        paid = rw now (paid_more header events past stretch.inner owed (all_returned header new.hosts (events ++ past) passed.ended.rests));
+        served = rw now (served_more header events past (others_said header events past stretch.said) served);
       };
       more = events;
       is = now;

@@ -3,14 +3,20 @@ use Rattle.std.proofs.Common.{zero, suc, length, refl, ap, ℕ, Some, None, Opti
 use Rattle.vm_base.specs.declared.ids.ObjectId.{ObjectId}
 use Rattle.vm_base.specs.declared.ids.TaskId.{TaskId}
 use Rattle.vm_legal.specs.Follows.{clean_head, map_head}
-use Rattle.vm_system.proofs.Common.{AllInner, AllLicensed, AllPaged, Began, Bool, Code, Command, EachEvent, EachIn, Entry, Event, FlatBytes, FollowsSoFar, FramesSuffice, Header, Holds, HostTable, IfNone, IsAtRest, IsDone, IsDoneSoFar, IsGroup, IsPaid, IsRun, IsWholeGroup, IsWholeSoFar, KeepsLegal, List, MomentsIn, None, Numbered, Option, Outside, OwnBytes, Prompt, Some, Went, [], acting, answers, ap, code_where, copies, copies_from, copy_refusal, each_both, each_whole, entries_of, entry_at, false, has_copy_mark, head, host_of, if◌then◌else◌, inl, inner_both, is_copied, is_copy_full, is_elsewhere, is_fork_full, is_full, is_idle, is_none, is_range, is_some, length, licensed_both, marked_below, marked_regions, meets_range, moment_last, moments_both, moments_whole, most_entries, nat_le, new_marks, next_object, next_region, not, refl, refusal, region_of, reverse, settles, so_far, steps_whole, subst, suc, sym, takings_more, true, waiting, zero, ℕ, ◌++◌, ◌+◌, ◌/◌, ◌∙◌, ◌∷◌, ◌≡◌}
+use Rattle.vm_system.proofs.Common.{AllInner, AllLicensed, AllServed, Began, Bool, Code, Command, EachEvent, EachIn, EachOf, Entry, Event, FlatBytes, FollowsSoFar, FramesSuffice, HasCause, Header, Holds, HostTable, IfNone, IsAtRest, IsDone, IsDoneSoFar, IsGroup, IsPaid, IsRun, IsWholeGroup, IsWholeSoFar, KeepsLegal, List, MomentsIn, None, Numbered, Option, Outside, OwnBytes, Prompt, Some, Went, [], acting, answers, ap, code_where, copies, copies_from, copy_refusal, each_both, each_whole, entries_of, entry_at, false, has_copy_mark, head, host_of, if◌then◌else◌, inl, inner_both, is_copied, is_copy_full, is_elsewhere, is_fork_full, is_full, is_idle, is_none, is_range, is_some, length, licensed_both, marked_below, marked_regions, meets_range, moment_last, moments_both, moments_whole, most_entries, nat_le, new_marks, next_object, next_region, not, of_both, refl, refusal, region_of, reverse, settles, so_far, steps_whole, subst, suc, sym, takings_more, true, waiting, zero, ℕ, ◌++◌, ◌+◌, ◌/◌, ◌∙◌, ◌∷◌, ◌≡◌, AllSupplied}
 use Rattle.std.proofs.Common.{◌||◌, ◌&&◌, nat_lt}
 use Rattle.vm_base.specs.declared.code.Code.TheVariants as code
 use Rattle.vm_model.specs.declared.event.Event.TheVariants as event
 use Rattle.vm_model.specs.declared.command.Command.TheVariants as command
 use Rattle.vm_system.proofs.Cleaning.{IsAsked, known_line}
 use Rattle.vm_system.proofs.Silent.{all_returned, paid_inner, prompt_code, prompt_line}
-use Rattle.vm_system.proofs.Unfilled.{all_current}
+use Rattle.sms_server.specs.Stands.{IsOther as IsServerOther}
+use Rattle.vm_shared.proofs.Currents.{copies_current, loads_current}
+use Rattle.vm_system.proofs.Sharing.{writers as one_writer}
+use Rattle.vm_shared.proofs.Pages.{legal as pages_legal}
+use Rattle.sms_server.proofs.Acting.{others_serve as served_other}
+use Rattle.vm_system.proofs.Lawfulness.{others_said, served_more}
+use Rattle.vm_system.proofs.Sharing.{none_temporary}
 
 -- a line in front changes no refusal and no head
 
@@ -95,9 +101,13 @@ head_line header line h other = refl
 
 -- events inside a step take nothing
 
+-- where the server has no part in what is told behind a line it keeps nobody waiting
+served_said : (header : Header) (line : ℕ) (h events : List Event) → EachOf (IsServerOther header) events → AllServed header h → AllServed header (events ++ event.Line line ∷ h)
+served_said header line h events silent served = served_more header events (event.Line line ∷ h) silent (served_other header (event.Line line) h tt served)
+
 -- where each load answers from its own host's page it answers the flat map's bytes
-pub flat_of : (header : Header) (outside : Outside) (run : List Numbered) (h : List Event) → AllPaged header → FollowsSoFar header outside run h → EachEvent (OwnBytes header) h → EachEvent (FlatBytes header outside) h
-flat_of header outside run h paged follows own = let causes = so_far header outside run h follows in answers header outside h causes own (all_current header outside h paged causes)
+pub flat_of : (header : Header) (outside : Outside) (h : List Event) → AllSupplied header → EachEvent (HasCause header outside) h → EachEvent (OwnBytes header) h → EachEvent (FlatBytes header outside) h
+flat_of header outside h supplied causes own = answers header outside h causes own (copies_current header outside h (none_temporary header supplied) causes own) (loads_current header outside h causes own)
 
 -- a command that is no settle is whole so far, where it is whole
 so_far_of : (header : Header) (c : Numbered) (h events : List Event) → (settles c.command ≡ None → IsWholeGroup header h c events) → IsWholeSoFar header h c events
@@ -117,19 +127,23 @@ pub record IsStep (header : Header) (outside : Outside) (c : Numbered) (h events
   pub inner : AllInner events
   pub rests : IsAtRest header h → IsAtRest header (events ++ event.Line c.line ∷ h)
 
-pub legal_step : (header : Header) (outside : Outside) (c : Numbered) (h events : List Event) → AllPaged header → IsStep header outside c h events
+pub legal_step : (header : Header) (outside : Outside) (c : Numbered) (h events : List Event) → AllSupplied header → IsStep header outside c h events
     → KeepsLegal header outside c h (events ++ event.Line c.line ∷ h)
-legal_step header outside c h events paged step run legal =
+legal_step header outside c h events supplied step run legal =
     let past = event.Line c.line ∷ h in
     let now = moment_last (FramesSuffice header) h legal.holds.frames in
     let follows : FollowsSoFar header outside (c ∷ run) (events ++ past) = (h, events, refl, step.made, so_far_of header c h events step.whole, legal.follows) in
     let own : EachEvent (OwnBytes header) (events ++ past) = each_whole (OwnBytes header) events past step.own_bytes (tt, legal.holds.own_bytes) in
+    let causes = so_far header outside (c ∷ run) (events ++ past) follows in
     let holds : Holds header outside (events ++ past) = record {
       own_bytes = own;
-      flat_bytes = flat_of header outside (c ∷ run) (events ++ past) paged follows own;
+      flat_bytes = flat_of header outside (events ++ past) supplied causes own;
       frames = moments_whole (FramesSuffice header) events past (step.frames now) (now, legal.holds.frames);
       prompt = steps_whole (Prompt header) events past step.inner (legal.rests.prompt, legal.holds.prompt);
       paid = steps_whole (IsPaid header) events past step.inner (legal.rests.paid, legal.holds.paid);
+      served = steps_whole (AllServed header) events past step.inner (legal.rests.served, legal.holds.served);
+      one_writer = one_writer header outside (events ++ past) causes own;
+      pages = pages_legal header outside (events ++ past) causes own;
     } in
     let rests = step.rests legal.rests in
     record {
@@ -139,9 +153,9 @@ legal_step header outside c h events paged step run legal =
     }
 
 -- a refused command adds its line and its code
-pub legal_refused : (header : Header) (outside : Outside) (c : Numbered) (why : Code) (h : List Event) → AllPaged header
+pub legal_refused : (header : Header) (outside : Outside) (c : Numbered) (why : Code) (h : List Event) → AllSupplied header
     → refusal header h c.command ≡ Some why → KeepsLegal header outside c h (event.Refused why ∷ event.Line c.line ∷ h)
-legal_refused header outside c why h paged refused = legal_step header outside c h (event.Refused why ∷ []) paged (record {
+legal_refused header outside c why h supplied refused = legal_step header outside c h (event.Refused why ∷ []) supplied (record {
   made = rw refused refl;
   whole = λ none. rw refused tt;
   own_bytes = (tt, tt);
@@ -150,24 +164,25 @@ legal_refused header outside c why h paged refused = legal_step header outside c
   rests = λ rests. record {
     prompt = prompt_code header why (event.Line c.line ∷ h) (prompt_line header c.line h rests.prompt);
     paid = paid_inner header c.line h (event.Refused why ∷ []) (tt, tt) refl;
+    served = served_more header (event.Refused why ∷ event.Line c.line ∷ []) h (tt, (tt, tt)) rests.served;
   };
 })
 
 -- a command's head, and what follows from it
-pub legal_began : (header : Header) (outside : Outside) (c : Numbered) (h events : List Event) (hosts : HostTable) → AllPaged header
+pub legal_began : (header : Header) (outside : Outside) (c : Numbered) (h events : List Event) (hosts : HostTable) → AllSupplied header
     → refusal header h c.command ≡ None → Began header outside c.command (event.Line c.line ∷ h) hosts events → KeepsLegal header outside c h (events ++ event.Line c.line ∷ h)
-legal_began header outside c h events hosts paged fine began =
+legal_began header outside c h events hosts supplied fine began =
     let heads = began.heads in
     let stretch = heads.stretch in
     let is : head header h c.command ≡ Some heads.first = sym (head_line header c.line h c.command) ∙ heads.head in
     let made : IsRun header outside h c heads.first events = record { more = heads.more; is = heads.is; follows = heads.follows; licensed = stretch.licensed } in
-    legal_step header outside c h events paged (record {
+    legal_step header outside c h events supplied (record {
       made = rw (fine, is) made;
       whole = λ none. rw fine began.done;
       own_bytes = stretch.own_bytes;
       frames = λ now. stretch.frames;
       inner = stretch.inner;
-      rests = λ rests. record { prompt = began.ended.prompt; paid = began.paid };
+      rests = λ rests. record { prompt = began.ended.prompt; paid = began.paid; served = served_said header c.line h events (others_said header events (event.Line c.line ∷ h) stretch.said) rests.served };
     })
 
 idle_done : (header : Header) (group past : List Event) (doing : Command) → is_idle doing ≡ true → IsDone header doing group past
@@ -177,10 +192,10 @@ idle_done header group past (command.Clean object page count flush) is = tt
 idle_done header group past other is = absurd (let bad : false ≡ true = is in cc)
 
 -- a command that is no host's: what is asked for it, and what the hosts do behind that
-pub legal_passed : (header : Header) (outside : Outside) (c : Numbered) (h asked events : List Event) (hosts : HostTable) → AllPaged header
+pub legal_passed : (header : Header) (outside : Outside) (c : Numbered) (h asked events : List Event) (hosts : HostTable) → AllSupplied header
     → is_idle c.command ≡ true → refusal header h c.command ≡ None → head header h c.command ≡ Some asked → IsAsked header outside c.command (event.Line c.line ∷ h) asked
     → Went header outside c.command (event.Line c.line ∷ h) asked hosts events → KeepsLegal header outside c h (events ++ event.Line c.line ∷ h)
-legal_passed header outside c h asked events hosts paged idle fine is says went =
+legal_passed header outside c h asked events hosts supplied idle fine is says went =
     let past = event.Line c.line ∷ h in
     let more = went.more in
     let stretch = went.follows.stretch in
@@ -192,23 +207,28 @@ legal_passed header outside c h asked events hosts paged idle fine is says went 
       follows = went.follows.follows;
       licensed = subst (λ (z : List Event). AllLicensed header outside c.command z past) (sym went.is) (licensed_both header outside c.command more asked past stretch.licensed says.licensed);
     } in
-    legal_step header outside c h events paged (record {
+    legal_step header outside c h events supplied (record {
       made = rw (fine, is) made;
       whole = λ none. rw fine (idle_done header events past c.command idle);
       own_bytes = subst (λ (z : List Event). EachIn (OwnBytes header) z past) (sym went.is) (each_both (OwnBytes header) more asked past stretch.own_bytes says.own_bytes);
       frames = λ now. subst (λ (z : List Event). MomentsIn (FramesSuffice header) z past) (sym went.is) (moments_both (FramesSuffice header) more asked past stretch.frames (says.frames now));
       inner = inner;
-      rests = λ rests. record { prompt = went.ended.prompt; paid = paid_inner header c.line h events inner (all_returned header hosts (events ++ past) went.ended.rests) };
+      rests = λ rests. record {
+        prompt = went.ended.prompt;
+        paid = paid_inner header c.line h events inner (all_returned header hosts (events ++ past) went.ended.rests);
+        served = served_said header c.line h events
+            (subst (EachOf (IsServerOther header)) (sym went.is) (of_both (IsServerOther header) more asked (others_said header more (asked ++ past) stretch.said) says.silent)) rests.served;
+      };
     })
 
 -- a settle begins with its line
-pub legal_settle : (header : Header) (outside : Outside) (line count : ℕ) (h : List Event) → AllPaged header
+pub legal_settle : (header : Header) (outside : Outside) (line count : ℕ) (h : List Event) → AllSupplied header
     → KeepsLegal header outside (record { line = line; command = command.Settle count }) h (event.Line line ∷ h)
-legal_settle header outside line count h paged = legal_step header outside (record { line = line; command = command.Settle count }) h [] paged (record {
+legal_settle header outside line count h supplied = legal_step header outside (record { line = line; command = command.Settle count }) h [] supplied (record {
   made = record { more = []; is = refl; follows = tt; licensed = tt };
   whole = λ none. absurd (let bad : Some count ≡ None = none in cc);
   own_bytes = tt;
   frames = λ now. tt;
   inner = tt;
-  rests = λ rests. record { prompt = prompt_line header line h rests.prompt; paid = paid_inner header line h [] tt refl };
+  rests = λ rests. record { prompt = prompt_line header line h rests.prompt; paid = paid_inner header line h [] tt refl; served = served_said header line h [] tt rests.served };
 })

@@ -1,9 +1,13 @@
 -- The letters on their way under events that begin a step, and the first of a channel.
-use Rattle.vm_system.proofs.Common.{AllLetters, Bool, Channel, Down, Ending, Event, Header, HostId, IsHostLetter, IsOrderly, IsWordUp, Letter, List, Message, None, ObjectId, Some, Up, [], false, first, first_is, gives_frame, home_for, host_id, if◌then◌else◌, inr, is_channel, is_ended, is_heard_elsewhere, is_made, known_after, known_control, length, live_control, messages_on, named, never, queue, queue_is, refl, rest, returns_out, same_Some, same_channel, subst, sym, true, undelivered, up, without_first, ℕ, ◌&&◌, ◌++◌, ◌==◌, ◌∙◌, ◌∷◌, ◌≡◌, ◌≢◌, ◌≤◌}
+use Rattle.vm_system.proofs.Common.{AllLetters, Bool, Channel, Down, Ending, Event, HasHeard, Header, HostId, IsHostLetter, IsOrderly, IsWordUp, Letter, List, Message, None, ObjectId, Some, Up, [], false, first, first_is, gives_frame, home_for, host_id, if◌then◌else◌, inr, is_channel, is_ended, is_heard_elsewhere, is_made, is_shared, arith, known_after, known_control, length, live_control, lock_taken, messages_on, named, never, queue, queue_is, refl, rest, returns_out, same_Some, same_channel, subst, sym, true, undelivered, up, without_first, ℕ, ◌&&◌, ◌++◌, ◌==◌, ◌∙◌, ◌∷◌, ◌≡◌, ◌≢◌, ◌≤◌}
 use Rattle.std.specs.Prelude.{◌<◌}
 use Rattle.vm_model.specs.declared.event.Event.TheVariants as event
 use Rattle.vm_model.specs.declared.message.Message.TheVariants as message
+use Rattle.vm_legal.proofs.Unshared.{temporary_unshared}
+use Rattle.vm_legal.specs.Licences.{LockRequest}
+use Rattle.vm_model.specs.Controls.{is_control}
 use Rattle.vm_system.proofs.Endings.{ends_taken}
+use Rattle.vm_system.proofs.Hearing.{heard_next}
 use Rattle.vm_system.proofs.Homes.{elsewhere_taken, home_kept, home_taken, home_temporary}
 use Rattle.vm_system.proofs.Makings.{at_place, ended_is, is_open, made_kept, made_none, made_taken, own}
 use Rattle.vm_system.proofs.Washings.{some_washed, washed_taken}
@@ -24,7 +28,7 @@ word_stays size old new m kept word = absurd word
 
 letter_stays : (header : Header) (old new : List Event) → Grew old new → (c : Channel) (m : Message) → IsHostLetter header old (record { channel = c; message = m }) → IsHostLetter header new (record { channel = c; message = m })
 letter_stays header old new grew (Up host object) m letter =
-    (letter.0, word_stays header.size (λ k. is_made (Down host object k) old) (λ k. is_made (Down host object k) new) m (λ k made. grew.kept (Down host object k) made) letter.1)
+    (letter.0, word_stays header.size (λ k. is_made (Down host object k) old) (λ k. is_made (Down host object k) new) m (λ k made. grew.kept (Down host object k) made) letter.1, letter.2)
 letter_stays header old new grew (Down host object control) m letter = letter
 
 pub letters_stay : (header : Header) (old new : List Event) → Grew old new → (ls : List Letter) → AllLetters header old ls → AllLetters header new ls
@@ -78,19 +82,19 @@ unended_first header h object m past orderly temporary head = one (is_ended h ob
     one false is = is
 
 -- a message is on the way up from the host of its object
-at_home : (header : Header) (host : HostId) (object : ObjectId) (m : Message) (past : List Event) → IsOrderly header past → first (queue (Up host object) past) ≡ Some m → home_for header object.0 past ≡ Some host.0
-at_home header host object m past orderly head = (orderly.home host.0 object.0).made (is_open host.0 object.0 m past (orderly.made host.0 object.0) head)
+at_home : (header : Header) (host : HostId) (object : ObjectId) (m : Message) (past : List Event) → IsOrderly header past → first (queue (Up host object) past) ≡ Some m → is_shared header object.0 ≡ false → home_for header object.0 past ≡ Some host.0
+at_home header host object m past orderly head plain = (orderly.home host.0 object.0).made plain (is_open host.0 object.0 m past (orderly.made host.0 object.0) head)
 
 pub home_first : (header : Header) (h : ℕ) (object : ObjectId) (m : Message) (past : List Event) → IsOrderly header past → named header ≤ object.0 → first (queue (Up (host_id h) object) past) ≡ Some m → is_heard_elsewhere h object.0 past ≡ false
 home_first header h object m past orderly temporary head =
-    (orderly.home h object.0).own temporary (inr (sym (home_temporary header object.0 past temporary) ∙ at_home header (host_id h) object m past orderly head))
+    (orderly.home h object.0).own temporary (inr (sym (home_temporary header object.0 past temporary) ∙ at_home header (host_id h) object m past orderly head (temporary_unshared header object.0 temporary)))
 
--- its pager knows no control of another host
-pub known_first : (header : Header) (h : ℕ) (object : ObjectId) (m : Message) (past : List Event) → IsOrderly header past → first (queue (Up (host_id h) object) past) ≡ Some m → (other : ℕ) → other ≢ h → known_control other object.0 past ≡ None
-known_first header h object m past orderly head other apart = by (is_made (up other object.0) past) refl
+-- its pager knows no control of another host, unless that is the server of shared memory
+pub known_first : (header : Header) (h : ℕ) (object : ObjectId) (m : Message) (past : List Event) → IsOrderly header past → is_shared header object.0 ≡ false → first (queue (Up (host_id h) object) past) ≡ Some m → (other : ℕ) → other ≢ h → known_control other object.0 past ≡ None
+known_first header h object m past orderly plain head other apart = by (is_made (up other object.0) past) refl
   where
     by : (b : Bool) → is_made (up other object.0) past ≡ b → known_control other object.0 past ≡ None
-    by true is = absurd (apart (same_Some other h (sym ((orderly.home other object.0).made is) ∙ at_home header (host_id h) object m past orderly head)))
+    by true is = absurd (apart (same_Some other h (sym ((orderly.home other object.0).made plain is) ∙ at_home header (host_id h) object m past orderly head plain)))
     by false is = (orderly.made other object.0).unknown is
 
 pub elsewhere_first : (header : Header) (h : ℕ) (object : ObjectId) (m : Message) (past : List Event) → IsOrderly header past → first (queue (Up (host_id h) object) past) ≡ Some m → (g : ℕ) → g ≢ h
@@ -108,17 +112,36 @@ pub orderly_none : (header : Header) → IsOrderly header []
 orderly_none header = record {
   letters = tt;
   washed = λ h. refl;
-  home = λ h o. record { made = λ gone. never gone; own = λ temporary home. refl };
+  home = λ h o. record { made = λ plain gone. never gone; own = λ temporary home. refl };
   ending = λ h o temporary. record { living = λ control at. tt; last = tt; over = λ gone. never gone };
   made = λ h o. made_none h o;
   known = λ h o control at. absurd (let bad : None ≡ Some control = at in cc);
+  heard = λ h o p shared. record { holder = λ holds. absurd (omega (arith, holds)); waiter = λ stands. never stands };
+  locks = λ request is shared. absurd (let bad : None ≡ Some request = is in cc);
 }
+
+-- lock requests of the server are of one page
+abbrev HasCounted : Header → List Event → Type 0
+HasCounted header past = (request : LockRequest) → lock_taken past ≡ Some request → is_shared header request.object ≡ true → request.count ≡ 1
 
 -- the event is no message
 abbrev pub IsSilent : Event → Type 0
 IsSilent (event.Sent channel m) = ⊥
 IsSilent (event.Taken channel m) = ⊥
 IsSilent other = Unit {0}
+
+-- the server hears nothing in it
+heard_silent : (header : Header) (e : Event) (past : List Event) → IsSilent e → ((h o p : ℕ) → is_shared header o ≡ true → HasHeard header h o p past) → (h o p : ℕ) → is_shared header o ≡ true → HasHeard header h o p (e ∷ past)
+heard_silent header (event.Sent channel m) past silent old = absurd silent
+heard_silent header (event.Taken channel m) past silent old = absurd silent
+heard_silent header e past silent old = heard_next header e past tt old
+
+-- so it is no lock request
+locks_silent : (header : Header) (e : Event) (past : List Event) → IsSilent e → HasCounted header past → HasCounted header (e ∷ past)
+locks_silent header (event.Sent channel m) past silent old = absurd silent
+locks_silent header (event.Taken channel m) past silent old = absurd silent
+locks_silent header (event.Line line) past silent old = λ request is shared. absurd (let bad : None ≡ Some request = is in cc)
+locks_silent header e past silent old = old
 
 pub orderly_silent : (header : Header) (e : Event) (past : List Event) → IsSilent e → IsOrderly header past → IsOrderly header (e ∷ past)
 orderly_silent header (event.Sent channel m) past silent old = absurd silent
@@ -130,6 +153,8 @@ orderly_silent header e past silent old = record {
   ending = old.ending;
   made = λ h o. let was = old.made h o in record { live = was.live; never = was.never; ended = was.ended; quiet = was.quiet; unmade = was.unmade; unknown = was.unknown; known = was.known };
   known = old.known;
+  heard = λ h o p shared. heard_silent header e past silent old.heard h o p shared;
+  locks = locks_silent header e past silent old.locks;
 }
 
 pub orderly_line : (header : Header) (line : ℕ) (past : List Event) → IsOrderly header past → IsOrderly header (event.Line line ∷ past)
@@ -149,6 +174,20 @@ known_taken header host object m past h o control old here is = by (host.0 == h 
     by true at is = at_place (λ a n. a < length header.frames.items) host.0 object.0 h o at here
     by false at is = old.known h o control is
 
+-- a lock request that is taken was a letter
+locks_taken : (header : Header) (host : HostId) (object : ObjectId) (control : ℕ) (m : Message) (past : List Event) → IsHostLetter header past (record { channel = Down host object control; message = m })
+    → HasCounted header (event.Taken (Down host object control) m ∷ past)
+locks_taken header host object control (message.Lock page count returns flush lock reply) past letter request is shared = by (is_control control (live_control host.0 object.0 past)) is
+  where
+    by : (b : Bool)
+        → (if b then Some (record { host = host.0; object = object.0; control = control; page = page.0; count = count; returns = returns; flush = flush; lock = lock; reply = reply }) else None) ≡ Some request → request.count ≡ 1
+    by true is =
+        let its : object.0 ≡ request.object = cc in
+        let same : count ≡ request.count = cc in
+        sym same ∙ letter.2 (subst (λ (n : ℕ). is_shared header n ≡ true) (sym its) shared)
+    by false is = absurd (let bad : None ≡ Some request = is in cc)
+locks_taken header host object control m past letter request is shared = absurd (let bad : None ≡ Some request = is in cc)
+
 pub orderly_taken : (header : Header) (channel : Channel) (m : Message) (past : List Event) → IsOrderly header past → first (queue channel past) ≡ Some m → IsOrderly header (event.Taken channel m ∷ past)
 orderly_taken header (Up host object) m past old head = record {
   letters = letters_taken header (Up host object) m past old;
@@ -159,6 +198,8 @@ orderly_taken header (Up host object) m past old head = record {
       (ends_taken (host.0 == h && object.0 == o) (is_ended h o past) (live_control h o past) (queue (up h o) past) m (queued header h o past old temporary) (λ is. at_place (λ a n. first (queue (up a n) past) ≡ Some m) host.0 object.0 h o is head)));
   made = λ h o. made_taken host object m header.size past h o (old.made h o) head (letter_first header (Up host object) m past old head).1;
   known = λ h o control at. known_taken header host object m past h o control old (letter_first header (Up host object) m past old head).0 at;
+  heard = heard_next header (event.Taken (Up host object) m) past (letter_first header (Up host object) m past old head) old.heard;
+  locks = λ request is shared. absurd (let bad : None ≡ Some request = is in cc);
 }
 orderly_taken header (Down host object control) m past old head = record {
   letters = letters_taken header (Down host object control) m past old;
@@ -167,4 +208,6 @@ orderly_taken header (Down host object control) m past old head = record {
   ending = λ h o temporary. lettered h o (event.Taken (Down host object control) m ∷ past) (queued header h o past old temporary);
   made = λ h o. made_kept (event.Taken (Down host object control) m) past h o tt (old.made h o);
   known = old.known;
+  heard = heard_next header (event.Taken (Down host object control) m) past tt old.heard;
+  locks = locks_taken header host object control m past (letter_first header (Down host object control) m past old head);
 }

@@ -1,21 +1,25 @@
 -- A history stays legal with one message more taken.
-use Rattle.vm_system.proofs.Common.{AllLicensed, AllPaged, AreSame, BeforeSteps, Channel, ChannelId, Command, EachEvent, EachMoment, EachOf, Event, FollowsSoFar, FramesSuffice, HasCause, HasMore, Header, Holds, IsConsequence, IsGroup, IsPaid, KeepsOpen, LegalOpen, Letter, List, MayBeCut, MayCutOpen, MayTakeFrom, Message, None, Numbered, Outside, OwnBytes, Prompt, Some, State, Step, SystemStands, TakesStep, Took, [], answers, ap, append_assoc, channel_number, channel_of_first, cut_of, each_whole, false, inl, inr, is_some, licensed_both, messages_on, moments_whole, of_both, oldest_channel, queue, queue_is, refl, so_far, steps_whole, subst, sym, takings, takings_more, true, undelivered, ℕ, ◌++◌, ◌∙◌, ◌∷◌, ◌≡◌}
+use Rattle.vm_system.proofs.Common.{AllLicensed, AllServed, AreSame, BeforeSteps, Channel, ChannelId, Command, EachEvent, EachMoment, EachOf, Event, FollowsSoFar, FramesSuffice, HasCause, HasMore, Header, Holds, IsConsequence, IsGroup, IsPaid, KeepsOpen, LegalOpen, Letter, List, MayBeCut, MayCutOpen, MayTakeFrom, Message, None, Numbered, Outside, OwnBytes, Prompt, Some, State, Step, SystemStands, TakesStep, Took, [], ap, append_assoc, channel_number, channel_of_first, cut_of, each_whole, false, inl, inr, is_some, licensed_both, messages_on, moments_whole, of_both, oldest_channel, queue, queue_is, refl, so_far, steps_whole, subst, sym, takings, takings_more, true, undelivered, ℕ, ◌++◌, ◌∙◌, ◌∷◌, ◌≡◌, AllSupplied}
 use Rattle.vm_model.specs.declared.command.Command.TheVariants as command
 use Rattle.vm_model.specs.declared.event.Event.TheVariants as event
 use Rattle.vm_ports.specs.Ports.{oldest as oldest_on}
 use Rattle.vm_ports.specs.declared.letter.Letter.{Letter as Posted}
 use Rattle.vm_system.proofs.Numbers.{is_same}
-use Rattle.vm_system.proofs.Unfilled.{all_current}
+use Rattle.vm_system.proofs.Sharing.{writers as one_writer}
+use Rattle.vm_shared.proofs.Pages.{legal as pages_legal}
+use Rattle.vm_system.proofs.Legal.{flat_of}
 
 -- what holds in front of a taking
 pub record HoldsUpTo (header : Header) (outside : Outside) (past : List Event) : Type 0 where
-  pub paged : AllPaged header
+  pub supplied : AllSupplied header
   pub own_bytes : EachEvent (OwnBytes header) past
   pub frames : EachMoment (FramesSuffice header) past
   pub prompts : BeforeSteps (Prompt header) past
   pub prompt : Prompt header past
   pub payments : BeforeSteps (IsPaid header) past
   pub paid : IsPaid header past
+  pub services : BeforeSteps (AllServed header) past
+  pub served : AllServed header past
 
 -- the events of a step that took a message, on what stands in front of it
 pub step_is : (given : Step) (new : List Event) → (step : TakesStep given new) → new ≡ (step.more ++ event.Taken step.channel step.m ∷ []) ++ given.past
@@ -31,10 +35,13 @@ holds_taken given new step caused front =
     let own : EachEvent (OwnBytes header) new = rw is (each_whole (OwnBytes header) stretch past step.own_bytes front.own_bytes) in
     record {
       own_bytes = own;
-      flat_bytes = answers header outside new caused own (all_current header outside new front.paged caused);
+      flat_bytes = flat_of header outside new front.supplied caused own;
       frames = rw is (moments_whole (FramesSuffice header) stretch past step.frames front.frames);
       prompt = rw step.is (steps_whole (Prompt header) step.more (event.Taken step.channel step.m ∷ past) step.inner (front.prompt, front.prompts));
       paid = rw step.is (steps_whole (IsPaid header) step.more (event.Taken step.channel step.m ∷ past) step.inner (front.paid, front.payments));
+      served = rw step.is (steps_whole (AllServed header) step.more (event.Taken step.channel step.m ∷ past) step.inner (front.served, front.services));
+      one_writer = one_writer header outside new caused own;
+      pages = pages_legal header outside new caused own;
     }
 
 -- the number of messages taken
@@ -59,13 +66,15 @@ settled_more header outside count line run old new stretch is follows licensed (
 -- what holds of an open history that has a kernel
 pub up_to_open : (header : Header) (outside : Outside) (run : List Numbered) (s : State) → SystemStands header outside s → LegalOpen header outside run s.history.items → HoldsUpTo header outside s.history.items
 up_to_open header outside run s stands legal = record {
-  paged = stands.built.paged;
+  supplied = stands.built.supplied;
   own_bytes = legal.holds.own_bytes;
   frames = legal.holds.frames;
   prompts = legal.holds.prompt;
   prompt = legal.rests.prompt;
   payments = legal.holds.paid;
   paid = legal.rests.paid;
+  services = legal.holds.served;
+  served = legal.rests.served;
 }
 
 abbrev settling : Header → Outside → ℕ → List Event → Step
@@ -88,7 +97,7 @@ keeps_open header outside count s new stands took line run legal =
       so_far = record {
         follows = follows;
         holds = holds_taken given items step (so_far header outside (numbered ∷ run) items follows) (up_to_open header outside (numbered ∷ run) s stands legal);
-        rests = record { prompt = took.prompt; paid = took.paid };
+        rests = record { prompt = took.prompt; paid = took.paid; served = took.stands.served };
       };
       more = ap takings step.is ∙ takings_more step.more (event.Taken step.channel step.m ∷ s.history.items) step.inner;
     }

@@ -1,5 +1,5 @@
 -- What holds at the end of a step doesn't change with a line, or with the code of a refusal.
-use Rattle.vm_system.proofs.Common.{AReady, Access, AllInner, AllRest, AnAnswer, AnUnlock, Awaits, Bool, Code, Comes, Copies, Elsewhere, Event, HasPlace, Header, HostIsFull, HostTable, IsExhausted, IsPaid, IsSource, List, None, NoneInVain, Nowhere, Prompt, Raises, Waits, WaitsForPager, WaitsUnlocked, WantsFrame, common_all, created, inl, inr, is_store, page_of, paid_of, refl, ℕ, ◌++◌, ◌∷◌, ◌≡◌}
+use Rattle.vm_system.proofs.Common.{AReady, Access, AllInner, AllRest, AnAnswer, AnUnlock, Awaits, Bool, Code, Comes, Copies, Elsewhere, Event, HasPlace, Header, HostIsFull, HostTable, IsExhausted, IsPaid, IsSource, List, None, NoneInVain, Nowhere, Prompt, Raises, Waits, WaitsForPager, WaitsUnlocked, WantsFrame, common_all, created, inl, inr, is_store, page_of, paid_of, refl, ℕ, ◌++◌, ◌∷◌, ◌≡◌, [], Some, false, true, ap, is_some}
 use Rattle.vm_model.specs.declared.event.Event.TheVariants as event
 
 -- the accesses that wait, and what they wait for
@@ -170,3 +170,20 @@ all_returned header hosts past rests = (common_all header hosts past rests).sett
 
 pub paid_inner : (header : Header) (line : ℕ) (h events : List Event) → AllInner events → created (events ++ event.Line line ∷ h) ≡ None → IsPaid header (events ++ event.Line line ∷ h)
 paid_inner header line h events inner none = paid_of header (event.Line line ∷ h) events (record { line = line; before = h; is = refl }) inner none
+
+-- at the start nothing is owed
+
+nothing_taken : {A R : Type 0} {x : A} → None ≡ Some x → R
+nothing_taken is = absurd (let bad : false ≡ true = ap is_some is in cc)
+
+pub paid_start : (header : Header) → IsPaid header []
+paid_start header = record {
+  returned = refl;
+  init = λ host object control size supplied is. nothing_taken is;
+  create = λ host object control size supplied is. nothing_taken is;
+  request = λ host object control page access paged is. nothing_taken is;
+  error = λ host object page is. nothing_taken is;
+  absence = λ host object page declared is. nothing_taken is;
+  lock = λ request is. nothing_taken is;
+  slot = λ host object control page dirty keep bytes temporary is lacks. nothing_taken is;
+}

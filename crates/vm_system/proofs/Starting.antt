@@ -1,22 +1,27 @@
 -- A new system stands for the empty history.
-use Rattle.vm_system.proofs.Common.{AllFilesServe, AllQueued, AllRest, AllServe, AllTold, AreEmpty, AreNumbered, Content, FileTable, FilesAreKept, FilesAreTold, FilesCarry, Header, IsOfFiles, List, None, Outside, PagerStands, PagingIsKept, Posts, SlotTable, SlotsFit, Some, State, SystemStands, Told, [], ap, arith, content_of, declared_pages, empty, inl, inr, length, length-append, name_of, named, none-some, refl, reverse, same_Some, slice_get, start, subst, suc, sym, true, zero, ℕ, ◌++◌, ◌+◌, ◌<◌, ◌∙◌, ◌∷◌, ◌≡◌, ◌⊎◌}
+use Rattle.vm_system.proofs.Common.{AllFilesServe, AllQueued, AllRest, AllServe, AllTold, AreEmpty, AreNumbered, Content, FileTable, FilesAreKept, FilesAreTold, FilesCarry, Header, IsSupplied, List, None, Outside, PagerStands, PagingIsKept, Posts, SlotTable, SlotsFit, Some, State, SystemStands, Told, [], ap, arith, content_of, empty, inl, inr, length, length-append, name_of, named, none-some, refl, reverse, same_Some, slice_get, start, subst, suc, sym, take, true, zero, ℕ, ◌++◌, ◌+◌, ◌∙◌, ◌∷◌, ◌≡◌, ◌⊎◌}
 use Rattle.pg_file.proofs.Carrying.{empty as file_empty}
 use Rattle.pg_file.proofs.Standing.{start as file_start}
 use Rattle.pg_file.specs.Stands.{PagerStands as FileStands, new_table}
 use Rattle.pg_slots.specs.Contents.{Kept as Stored}
 use Rattle.vm_model.specs.declared.script.Declared.{Declared}
+use Rattle.sms_server.specs.Stands.{IsNewServer}
+use Rattle.sms_server.proofs.Starting.{server_start}
+use Rattle.vm_system.proofs.Sharing.{served_start}
 use Rattle.vm_system.proofs.Letters.{orderly_none}
+use Rattle.vm_system.proofs.Silent.{paid_start}
 
 -- a system to which nothing has happened
 pub record IsNew (header : Header) (s : State) : Type 0 where
-  pub built : IsOfFiles header
+  pub built : IsSupplied header
   pub size : s.size ≡ header.size
   pub rests : AllRest header s.hosts []
   pub queues : AllQueued header s.hosts []
   pub numbered : AreNumbered header s.pagers.items
   pub empty : AreEmpty header s.pagers.items
   pub files : AllFilesServe header s.files.items []
-  pub pages : (object : ℕ) → object < named header → slice_get s.pages.items object ≡ Some (declared_pages header object)
+  pub declared : s.declared.items ≡ reverse header.objects.items
+  pub server : IsNewServer header s.server
   pub channels : s.ports.channels ≡ 0
   pub letters : s.ports.letters ≡ []
   pub made : s.channels.made ≡ []
@@ -41,12 +46,16 @@ new_stands header outside s new = record {
   queues = rw new.history new.queues;
   agrees = record {
     size = new.size;
-    pages = new.pages;
+    declared = new.declared;
     pagers = rw new.history (new_serve header s new);
     files = rw new.history new.files;
+    server = rw new.history (server_start header s.server new.server);
     posts = new_posts header s new;
     orderly = rw new.history (orderly_none header);
+    lawful = rw new.history (record { causes = tt; own_bytes = tt; paid = tt });
   };
+  paid = rw new.history (paid_start header);
+  served = rw new.history (served_start header);
 }
 
 -- an empty table fits where nothing was stored
@@ -120,29 +129,18 @@ files_serve header files made = record {
   stand = λ object pager file at. subst (λ (z : FileTable). FileStands header object z []) (sym (made.new object pager at)) (file_start header object file);
 }
 
--- the pages of the first objects are known
-pub record PagesAreMade (header : Header) (n : ℕ) (pages : List ℕ) : Type 0 where
-  pub count : length pages ≡ n
-  pub at : (object : ℕ) → object < n → slice_get pages object ≡ Some (declared_pages header object)
+-- the first of a list, with the next one
 
-pub no_pages : (header : Header) → PagesAreMade header 0 []
-no_pages header = record { count = refl; at = λ object below. absurd (omega (arith, below)) }
+pub next_taken : {A : Type 0} (xs : List A) (n : ℕ) (x : A) → slice_get xs n ≡ Some x → take n xs ++ x ∷ [] ≡ take (n + 1) xs
+next_taken [] n x is = absurd (none-some x is)
+next_taken {A} (y ∷ xs) zero x is = ap (λ (z : A). z ∷ []) (sym (same_Some y x is))
+next_taken {A} (y ∷ xs) (suc n) x is =
+    let more : suc n + 1 ≡ suc (n + 1) = omega arith in
+    ap (λ (z : List A). y ∷ z) (next_taken xs n x is) ∙ ap (λ (k : ℕ). take k (y ∷ xs)) (sym more)
 
-pub pages_more : (header : Header) (n : ℕ) (pages : List ℕ) (last : ℕ) → PagesAreMade header n pages → last ≡ declared_pages header n → PagesAreMade header (n + 1) (pages ++ last ∷ [])
-pages_more header n pages last was is = record {
-  count = length-append pages (last ∷ []) ∙ ap (λ (z : ℕ). z + 1) was.count;
-  at = λ object below. by object (grind (arith, below));
-}
-  where
-    by : (object : ℕ) → (object < n) ⊎ (n ≡ object) → slice_get (pages ++ last ∷ []) object ≡ Some (declared_pages header object)
-    by object (inl less) = last_before pages last (declared_pages header object) object (was.at object less)
-    by object (inr end) =
-        subst (λ (z : ℕ). slice_get (pages ++ last ∷ []) z ≡ Some (declared_pages header z)) end
-        (subst (λ (z : ℕ). slice_get (pages ++ last ∷ []) z ≡ Some (declared_pages header n)) was.count (last_there pages last ∙ ap (λ (z : ℕ). Some z) is))
-
--- the object with a number, and its pages
-pub pages_of : (header : Header) (n : ℕ) (object : Declared) → slice_get (reverse header.objects.items) n ≡ Some object → object.pages ≡ declared_pages header n
-pages_of header n object at = rw at refl
+pub all_taken : {A : Type 0} (xs : List A) → take (length xs) xs ≡ xs
+all_taken [] = refl
+all_taken {A} (x ∷ xs) = ap (λ (z : List A). x ∷ z) (all_taken xs)
 
 name_is : (header : Header) (n : ℕ) (object : Declared) → slice_get (reverse header.objects.items) n ≡ Some object → object.name ≡ name_of header n
 name_is header n object at = rw at refl

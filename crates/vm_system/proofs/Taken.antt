@@ -1,12 +1,14 @@
 -- A message is taken: what stands in front of that, and its cause.
-use Rattle.vm_system.proofs.Common.{AllFilesServe, AllInner, AllLicensed, AllQueued, AllRest, AllServe, AreSame, Bool, Channel, ChannelId, Command, Device, Down, EachIn, EachOf, Event, FileTable, FilesCarry, FramesSuffice, Gives, Header, HostTable, IfSome, IsConsequence, IsOfFiles, IsOrderly, Letter, Licensed, List, MatchOption, MayTake, MayTakeFrom, Message, MomentsIn, None, Option, Outside, OwnBytes, ReturnsOn, SlotTable, Some, State, Step, TakesStep, Told, Up, [], all_lined, all_suffice, ap, arith, change_where, channel_number, content_of, created, devices, each_both, false, first, frames_after, frames_held, frames_used, if◌then◌else◌, is_channel, is_control, length, licensed_both, lined, live_control, local, messages_on, moments_both, nat_tests, queue, queue_is, queued_lined, refl, reverse, same_channel, slice_get, subst, suc, sym, taken_down_change, taken_up_change, true, undelivered, zero, ℕ, ◌++◌, ◌<◌, ◌∙◌, ◌∷◌, ◌≡◌, ◌≤◌}
+use Rattle.vm_system.proofs.Common.{AllFilesServe, AllInner, AllLicensed, AllQueued, AllRest, AllServe, AllServed, AreSame, Bool, Channel, ChannelId, Command, Device, Down, EachIn, EachOf, Event, FileTable, FilesCarry, FramesSuffice, Gives, Header, HostTable, IfSome, IsConsequence, IsSupplied, IsOrderly, IsPaid, Lawful, Letter, Licensed, List, MatchOption, MayTake, MayTakeFrom, Message, MomentsIn, None, Option, Outside, OwnBytes, ReturnsOn, ServerStands, ServerTable, SlotTable, Some, State, Step, TakesStep, Told, Up, [], all_lined, all_suffice, ap, arith, change_where, channel_number, content_of, created, devices, each_both, false, first, frames_after, frames_held, frames_used, if◌then◌else◌, is_channel, is_control, length, licensed_both, lined, live_control, local, messages_on, moments_both, nat_tests, queue, queue_is, queued_lined, refl, reverse, same_channel, slice_get, subst, suc, sym, taken_down_change, taken_up_change, true, undelivered, zero, ℕ, ◌++◌, ◌<◌, ◌∙◌, ◌∷◌, ◌≡◌, ◌≤◌}
 use Rattle.std.proofs.Common.{◌==◌, ◌&&◌}
 use Rattle.vm_model.specs.declared.event.Event.TheVariants as event
 use Rattle.vm_model.specs.declared.message.Message.TheVariants as message
 use Rattle.vm_ports.specs.Ports.{queue as queue_on}
 use Rattle.vm_ports.specs.declared.letter.Letter.{Letter as Posted}
 use Rattle.vm_system.proofs.Agreeing.{carry_other, files_other, serve_other}
-use Rattle.vm_system.proofs.Silent.{all_returned}
+use Rattle.sms_server.proofs.Acting.{others_serve as served_other, others_stand as server_other}
+use Rattle.vm_system.proofs.Lawfulness.{lawful_line}
+use Rattle.vm_system.proofs.Silent.{all_returned, paid_inner}
 use Rattle.vm_system.proofs.Letters.{orderly_line}
 use Rattle.vm_system.proofs.Numbers.{number_read}
 
@@ -93,6 +95,22 @@ carry_lined : (header : Header) (start areas : List ℕ → Told) (line : Option
 carry_lined header start areas None past carry = carry
 carry_lined header start areas (Some line) past carry = carry_other header start areas (event.Line line) past (λ object. tt) carry
 
+server_lined : (header : Header) (table : ServerTable) (line : Option ℕ) (past : List Event) → ServerStands header table past → ServerStands header table (lined line past)
+server_lined header table None past stands = stands
+server_lined header table (Some line) past stands = server_other header table (event.Line line) past tt stands
+
+served_lined : (header : Header) (line : Option ℕ) (past : List Event) → AllServed header past → AllServed header (lined line past)
+served_lined header None past served = served
+served_lined header (Some line) past served = served_other header (event.Line line) past tt served
+
+lawful_lined : (header : Header) (outside : Outside) (line : Option ℕ) (past : List Event) → IsPaid header past → Lawful header outside past → Lawful header outside (lined line past)
+lawful_lined header outside None past paid lawful = lawful
+lawful_lined header outside (Some line) past paid lawful = lawful_line header outside line past paid lawful
+
+paid_lined : (header : Header) (line : Option ℕ) (past : List Event) → IsPaid header past → IsPaid header (lined line past)
+paid_lined header None past paid = paid
+paid_lined header (Some line) past paid = paid_inner header line past [] tt refl
+
 -- the frames
 
 gives_less : (test : Bool) (held : ℕ) → frames_after (change_where test Gives) held ≤ held
@@ -155,12 +173,16 @@ takes_step given channel m more new is head may settled suffice follows licensed
 
 -- what stands in front of a taking
 pub record Front (given : Step) (s : State) : Type 0 where
-  pub built : IsOfFiles given.header
+  pub built : IsSupplied given.header
   pub rests : AllRest given.header s.hosts given.past
   pub queues : AllQueued given.header s.hosts given.past
   pub pagers : AllServe given.header s.pagers.items given.past
   pub files : AllFilesServe given.header s.files.items given.past
   pub orderly : IsOrderly given.header given.past
+  pub server : ServerStands given.header s.server given.past
+  pub lawful : Lawful given.header given.outside given.past
+  pub paid : IsPaid given.header given.past
+  pub served : AllServed given.header given.past
 
 pub front_of : (given : Step) (line : Option ℕ) (number : ChannelId) (channel : Channel) (s : State) → MayTakeFrom given line number channel s → Front given s
 front_of given line number channel s may =
@@ -174,6 +196,10 @@ front_of given line number channel s may =
       pagers = rw may.past (serve_lined given.header s.pagers.items line items agrees.pagers);
       files = rw may.past (files_lined given.header s.files.items line items agrees.files);
       orderly = rw may.past (orderly_lined given.header line items agrees.orderly);
+      server = rw may.past (server_lined given.header s.server line items agrees.server);
+      lawful = rw may.past (lawful_lined given.header given.outside line items stands.paid agrees.lawful);
+      paid = rw may.past (paid_lined given.header line items stands.paid);
+      served = rw may.past (served_lined given.header line items stands.served);
     }
 
 pub front_settled : (given : Step) (s : State) → Front given s → created given.past ≡ None

@@ -1,8 +1,10 @@
 -- An answer of a pager is taken by its host.
-use Rattle.vm_system.proofs.Common.{AllFilesServe, AllInner, AllServe, Bool, CanTellAll, Channel, ChannelId, Device, Down, EndsAll, Event, Header, HostId, HostTable, HostsPart, IsAbsencePaid, IsErrorPaid, IsLockPaid, IsPaid, IsPlainWord, Letter, Licensed, List, MayTakeFrom, Message, None, ObjectId, Option, Posts, Some, Spares, State, Step, Took, Up, ap, created, devices, false, first, length, queue, sym, taken_letter, taken_more, true, up, ℕ, ◌++◌, ◌<◌, ◌∙◌, ◌∷◌, ◌≡◌}
+use Rattle.vm_system.proofs.Common.{AllFilesServe, AllInner, AllServe, Bool, CanTellAll, Channel, ChannelId, Device, Down, EndsAll, Event, Header, HostId, HostTable, HostsPart, IsAbsencePaid, IsErrorPaid, IsLockPaid, IsPaid, IsWord, Letter, Licensed, List, MayTakeFrom, Message, None, ObjectId, Option, Posts, ServerStands, Some, Spares, State, Step, Took, Up, ap, created, devices, false, first, length, queue, sym, taken_letter, taken_more, true, up, ℕ, ◌++◌, ◌<◌, ◌∙◌, ◌∷◌, ◌≡◌, ServerTable, subst}
 use Rattle.vm_model.specs.declared.event.Device.TheVariants.{Files, Paging}
 use Rattle.vm_model.specs.declared.event.Event.TheVariants as event
 use Rattle.vm_system.proofs.Agreeing.{carry_other, carry_spared, devices_said, files_other, files_spared, serve_other, spared_said}
+use Rattle.sms_server.proofs.Acting.{others_serve as served_other, others_stand as server_other}
+use Rattle.vm_system.proofs.Lawfulness.{lawful_taken, others_said, served_more}
 use Rattle.vm_system.proofs.Silent.{all_returned}
 use Rattle.vm_system.proofs.Letters.{letter_first, orderly_taken}
 use Rattle.vm_system.proofs.Sayings.{can_say, orderly_said}
@@ -10,10 +12,11 @@ use Rattle.vm_system.proofs.Following.{agrees_said, filed_spares, kept_behind}
 use Rattle.vm_system.proofs.Taken.{Front, devices_lined, front_carry, front_content, front_of, front_settled, front_suffice, taken_licensed, takes_step}
 
 pub down_letter : (given : Step) (line : Option ℕ) (number : ChannelId) (host : HostId) (object : ObjectId) (control : ℕ) (m : Message) (s : State) → MayTakeFrom given line number (Down host object control) s
-    → first (queue (Down host object control) given.past) ≡ Some m → (host.0 < length given.header.frames.items) × IsPlainWord given.header.size m
+    → first (queue (Down host object control) given.past) ≡ Some m → (host.0 < length given.header.frames.items) × IsWord given.header.size m
 down_letter given line number host object control m s may head =
     let front = front_of given line number (Down host object control) s may in
-    letter_first given.header (Down host object control) m given.past front.orderly head
+    let letter = letter_first given.header (Down host object control) m given.past front.orderly head in
+    (letter.0, letter.1)
 
 pub down_licensed : (given : Step) (line : Option ℕ) (number : ChannelId) (host : HostId) (object : ObjectId) (control : ℕ) (m : Message) (s : State) → MayTakeFrom given line number (Down host object control) s
     → first (queue (Down host object control) given.past) ≡ Some m → Licensed given.header given.outside given.command (event.Taken (Down host object control) m) given.past
@@ -25,7 +28,7 @@ pub can_down : (given : Step) (host : HostId) (object : ObjectId) (control : ℕ
     → HostsPart given.header given.outside given.command (event.Taken (Down host object control) m ∷ given.past) hosts events → CanTellAll given.header.size events (event.Taken (Down host object control) m ∷ given.past)
 can_down given host object control m s hosts events front head passed =
     let stretch = passed.follows.stretch in
-    can_say given.header given.outside given.command (event.Taken (Down host object control) m ∷ given.past) events front.built.paged
+    can_say given.header given.outside given.command (event.Taken (Down host object control) m ∷ given.past) events front.built.supplied
     (orderly_taken given.header (Down host object control) m given.past front.orderly head) stretch.licensed stretch.said stretch.inner
 
 -- what a step took was no message to a pager
@@ -72,8 +75,8 @@ pub took_down : (given : Step) (line : Option ℕ) (number : ChannelId) (host : 
     → first (queue (Down host object control) given.past) ≡ Some m → HostsPart given.header given.outside given.command (event.Taken (Down host object control) m ∷ given.past) new.hosts events
     → IsErrorPaid given.header (events ++ event.Taken (Down host object control) m ∷ given.past) → IsAbsencePaid given.header (events ++ event.Taken (Down host object control) m ∷ given.past)
     → IsLockPaid given.header (events ++ event.Taken (Down host object control) m ∷ given.past) → EndsAll given.header (events ++ event.Taken (Down host object control) m ∷ given.past) → new.size ≡ s.size
-    → new.pagers.items ≡ s.pagers.items → new.files.items ≡ s.files.items → new.pages.items ≡ s.pages.items → new.history.items ≡ events ++ event.Taken (Down host object control) m ∷ given.past → Posts new new.history.items → Took given new
-took_down given line number host object control m s new events may head passed failed zeroed locked ended size pagers files pages items posts =
+    → new.pagers.items ≡ s.pagers.items → new.files.items ≡ s.files.items → new.declared.items ≡ s.declared.items → new.server ≡ s.server → new.history.items ≡ events ++ event.Taken (Down host object control) m ∷ given.past → Posts new new.history.items → Took given new
+took_down given line number host object control m s new events may head passed failed zeroed locked ended size pagers files declared server items posts =
     let header = given.header in
     let outside = given.outside in
     let doing = given.command in
@@ -84,17 +87,22 @@ took_down given line number host object control m s new events may head passed f
     let orderly = orderly_taken header channel m given.past front.orderly head in
     let serve : AllServe header new.pagers.items past = rw pagers (front_serves given host object control m s front) in
     let filed : AllFilesServe header new.files.items past = rw files (front_filed given host object control m s front) in
+    let heard : ServerStands header new.server past = subst (λ (z : ServerTable). ServerStands header z past) (sym server) (server_other header s.server (event.Taken channel m) given.past tt front.server) in
+    let licence = taken_licensed header outside doing channel m given.past head may.may (front_settled given s front) in
+    let owed : IsPaid header new.history.items = rw items (down_paid header host object control m events given.past stretch.inner (all_returned header new.hosts (events ++ past) passed.ended.rests) failed zeroed locked ended) in
     record {
       stands = record {
         built = front.built;
         rests = rw items passed.ended.rests;
         queues = rw items passed.ended.queues;
-        agrees = agrees_said header outside doing past events new (orderly_said header outside doing past events front.built.paged orderly stretch.licensed stretch.said stretch.inner) serve filed (rw pages may.stands.agrees.pages) stretch
-            (size ∙ may.stands.agrees.size) items posts;
+        agrees = agrees_said header outside doing past events new (orderly_said header outside doing past events front.built.supplied orderly stretch.licensed stretch.said stretch.inner) serve filed heard
+            (lawful_taken header outside doing channel m given.past licence front.paid front.lawful) (declared ∙ may.stands.agrees.declared) stretch (size ∙ may.stands.agrees.size) items posts;
+        paid = owed;
+        served = rw items (served_more header events past (others_said header events past stretch.said) (served_other header (event.Taken channel m) given.past tt front.served));
       };
       step = takes_step given channel m events new.history.items items head may.may (front_settled given s front) (front_suffice given s front) passed.follows.follows stretch.licensed stretch.own_bytes stretch.frames stretch.inner;
       prompt = rw items passed.ended.prompt;
-      paid = rw items (down_paid header host object control m events given.past stretch.inner (all_returned header new.hosts (events ++ past) passed.ended.rests) failed zeroed locked ended);
+      paid = owed;
     }
 
 -- pagers and contents have no part in that

@@ -1,5 +1,5 @@
 -- A message about a declared object is taken by the pager of its file, which answers.
-use Rattle.vm_system.proofs.Common.{AllFilesServe, AllLicensed, AllServe, AnswersKept, Bool, CanTellAll, CarriesFile, ChannelId, Content, DevicesHaveCause, EachIn, Err, Event, FileAnswer, FileKept, FileTable, FilesAreKept, FilesCarry, Followed, FramesSuffice, Header, HostId, IsConsequence, LeavesFile, List, Listed, MayHave, MayTake, MayTakeFrom, Message, MomentsIn, None, ObjectId, Ok, Option, Outside, OwnBytes, PagerHasAnswered, PagingIsKept, Posts, SameAreas, SlotTable, SlotsFit, Some, SparesPaging, State, Step, TakesStep, TellsPage, Told, Took, Up, [], ap, append_assoc, arith, content_of, declared_pages, devices, each_both, first, gives_frame, home_of, inl, inner_both, inr, is_file, length, length-set, licensed_both, moments_both, name_of, named, nat_tests, none-some, of_both, others, others_carry, paid_more, queue, refl, same_Some, set, slice_get, slice_get_within, subst, sym, tells, true, false, ℕ, ◌++◌, ◌<◌, ◌==◌, ◌∙◌, ◌∷◌, ◌≡◌, ◌≢◌, ◌⊎◌}
+use Rattle.vm_system.proofs.Common.{AllFilesServe, AllLicensed, AllServe, AnswersKept, Bool, CanTellAll, CarriesFile, ChannelId, Content, DevicesHaveCause, EachIn, Err, Event, FileAnswer, FileKept, FileTable, FilesAreKept, FilesCarry, Followed, FramesSuffice, Header, HostId, IsConsequence, LeavesFile, List, Listed, MayHave, MayTake, MayTakeFrom, Message, MomentsIn, None, ObjectId, Ok, Option, Outside, OwnBytes, PagerHasAnswered, PagingIsKept, Posts, SameAreas, SlotTable, SlotsFit, Some, SparesPaging, State, Step, TakesStep, TellsPage, Told, Took, Up, [], ap, append_assoc, arith, content_of, devices, each_both, first, gives_frame, home_of, inl, inner_both, inr, is_file, length, length-set, licensed_both, moments_both, name_of, nat_tests, none-some, of_both, others, others_carry, queue, refl, same_Some, set, slice_get, slice_get_within, subst, sym, tells, true, false, ℕ, ◌++◌, ◌<◌, ◌==◌, ◌∙◌, ◌∷◌, ◌≡◌, ◌≢◌, ◌⊎◌, reverse}
 use Rattle.pg_file.proofs.Carrying.{carries, others_carry as carries_apart}
 use Rattle.pg_file.proofs.Causes.{causes}
 use Rattle.pg_file.proofs.Debts.{paid}
@@ -13,13 +13,15 @@ use Rattle.vm_model.specs.declared.message.Message.TheVariants as message
 use Rattle.vm_system.proofs.Answering.{reply_consequences, reply_frames, reply_inner, reply_nobodys, reply_own, reply_spares}
 use Rattle.vm_system.proofs.Apart.{apart_of, declared_fit, declared_stand, set_cases}
 use Rattle.vm_system.proofs.Filed.{IsFiled, filed_of, word_filed}
-use Rattle.vm_system.proofs.Filing.{carry_areas, kept_about, may_back, stands_about}
+use Rattle.vm_system.proofs.Filing.{carry_areas, is_declared, kept_about, may_back, stands_about}
+use Rattle.vm_legal.proofs.Unshared.{file_unshared}
+use Rattle.sms_server.proofs.Acting.{others_serve as served_other, others_stand as server_other}
 use Rattle.vm_system.proofs.Following.{kept_at}
 use Rattle.vm_system.proofs.Homes.{home_declared}
+use Rattle.vm_system.proofs.Lawfulness.{lawful_more, lawful_taken, others_about, served_more, server_more}
 use Rattle.vm_system.proofs.Letters.{known_first, letter_first, orderly_taken, washed_out}
 use Rattle.vm_system.proofs.Makings.{is_open}
 use Rattle.vm_system.proofs.Sayings.{can_file, orderly_filed}
-use Rattle.vm_system.proofs.Silent.{all_returned}
 use Rattle.vm_system.proofs.Taken.{Front, devices_lined, front_carry, front_content, front_of, front_settled, front_suffice, taken_licensed, takes_step, taken_suffice}
 use Rattle.vm_system.proofs.TakenUp.{device_cause, going, up_letter}
 
@@ -28,9 +30,10 @@ pub up_filed : (given : Step) (line : Option ℕ) (number : ChannelId) (host : H
 up_filed given line number host object m s may head = word_filed given.header.size _ m (up_letter given line number host object m s may head).1
 
 -- the object has a pager
-pub filed_known : (given : Step) (line : Option ℕ) (number : ChannelId) (host : HostId) (object : ObjectId) (s : State) → MayTakeFrom given line number (Up host object) s → object.0 < named given.header → object.0 < length s.files.items
-filed_known given line number host object s may declared =
+pub filed_known : (given : Step) (line : Option ℕ) (number : ChannelId) (host : HostId) (object : ObjectId) (s : State) → MayTakeFrom given line number (Up host object) s → is_file given.header object.0 ≡ true → object.0 < length s.files.items
+filed_known given line number host object s may file =
     let count = may.stands.agrees.files.count in
+    let declared = is_declared given.header object.0 file in
     omega (arith, count, declared)
 
 -- what the file's pager answers to a message that stands in front
@@ -38,23 +41,23 @@ pub record Filed (given : Step) (host : HostId) (object : ObjectId) (m : Message
   pub front : Front given s
   pub head : first (queue (Up host object) given.past) ≡ Some m
   pub may : MayTake given.command (Up host object) given.past
-  pub declared : object.0 < named given.header
+  pub file : is_file given.header object.0 ≡ true
   pub home : home_of object.0 given.past ≡ Some host.0
   pub at : slice_get s.files.items object.0 ≡ Some old
   pub serves : PagerServes given.header host.0 given.past object.0 m old new events
   pub licensed : AllLicensed given.header given.outside given.command events (event.Taken (Up host object) m ∷ given.past)
 
 -- only the host of its region speaks of it
-home_filed : (given : Step) (host : HostId) (object : ObjectId) (m : Message) (s : State) → Front given s → object.0 < named given.header → first (queue (Up host object) given.past) ≡ Some m → home_of object.0 given.past ≡ Some host.0
-home_filed given host object m s front declared head =
-    sym (home_declared given.header object.0 given.past declared) ∙ (front.orderly.home host.0 object.0).made (is_open host.0 object.0 m given.past (front.orderly.made host.0 object.0) head)
+home_filed : (given : Step) (host : HostId) (object : ObjectId) (m : Message) (s : State) → Front given s → is_file given.header object.0 ≡ true → first (queue (Up host object) given.past) ≡ Some m → home_of object.0 given.past ≡ Some host.0
+home_filed given host object m s front file head =
+    sym (home_declared given.header object.0 given.past (is_declared given.header object.0 file)) ∙ (front.orderly.home host.0 object.0).made (file_unshared given.header object.0 file) (is_open host.0 object.0 m given.past (front.orderly.made host.0 object.0) head)
 
 -- the pager stands for the history
-pub stands_filed : (given : Step) (line : Option ℕ) (number : ChannelId) (host : HostId) (object : ObjectId) (s : State) (old : FileTable) → MayTakeFrom given line number (Up host object) s → object.0 < named given.header
+pub stands_filed : (given : Step) (line : Option ℕ) (number : ChannelId) (host : HostId) (object : ObjectId) (s : State) (old : FileTable) → MayTakeFrom given line number (Up host object) s → is_file given.header object.0 ≡ true
     → slice_get s.files.items object.0 ≡ Some old → FileStands given.header object.0 old given.past
-stands_filed given line number host object s old may declared at =
+stands_filed given line number host object s old may file at =
     let front = front_of given line number (Up host object) s may in
-    front.files.stand object.0 old (front.built.paged object.0 declared) at
+    front.files.stand object.0 old file at
 
 -- what is told of the files, which have what was returned
 told_filed : (given : Step) (line : Option ℕ) (number : ChannelId) (host : HostId) (object : ObjectId) (areas : List ℕ → Told) (s : State) (old : FileTable) (events : List Event) → MayTakeFrom given line number (Up host object) s
@@ -73,16 +76,16 @@ told_filed given line number host object areas s old events may file home is kep
     }
 
 pub filed_reply : (given : Step) (line : Option ℕ) (number : ChannelId) (host : HostId) (object : ObjectId) (m : Message) (areas : List ℕ → Told) (s : State) (old new : FileTable) (events : List Event) → MayTakeFrom given line number (Up host object) s
-    → object.0 < named given.header → first (queue (Up host object) given.past) ≡ Some m → slice_get s.files.items object.0 ≡ Some old → FileAnswer m host.0 old new events → FilesAreKept given.header given.outside areas s
+    → is_file given.header object.0 ≡ true → first (queue (Up host object) given.past) ≡ Some m → slice_get s.files.items object.0 ≡ Some old → FileAnswer m host.0 old new events → FilesAreKept given.header given.outside areas s
     → ((was : Option (List ℕ)) → areas old.name ≡ Some was → TellsPage old.size was events) → Filed given host object m s old new events
-filed_reply given line number host object m areas s old new events may declared head at answered kept bytes =
+filed_reply given line number host object m areas s old new events may file head at answered kept bytes =
     let header = given.header in
     let front = front_of given line number (Up host object) s may in
-    let is = stands_filed given line number host object s old may declared at in
-    let home = home_filed given host object m s front declared head in
+    let is = stands_filed given line number host object s old may file at in
+    let home = home_filed given host object m s front file head in
     let word = up_filed given line number host object m s may head in
     let serves : PagerServes header host.0 given.past object.0 m old new events = record {
-      own = λ other apart. known_first header host.0 object m given.past front.orderly head other apart;
+      own = λ other apart. known_first header host.0 object m given.past front.orderly (file_unshared header object.0 file) head other apart;
       whole = subst (λ (z : ℕ). ReturnsWhole z m) (sym is.size_is) word.1;
       stands = is;
       answered = answered;
@@ -91,12 +94,12 @@ filed_reply given line number host object m areas s old new events may declared 
       front = front;
       head = head;
       may = may.may;
-      declared = declared;
+      file = file;
       home = home;
       at = at;
       serves = serves;
       licensed = causes header given.outside given.command host.0 given.past object.0 m old new events serves
-          (told_filed given line number host object areas s old events may (front.built.paged object.0 declared) home is kept bytes);
+          (told_filed given line number host object areas s old events may file home is kept bytes);
     }
 
 -- its events
@@ -109,7 +112,7 @@ can_reply_filed given host object m s old new events filed =
     let orderly = filed.front.orderly in
     let is = filed.serves.stands in
     can_file given.header host.0 object m given.past old new events (orderly_taken given.header (Up host object) m given.past orderly filed.head) (letter_first given.header (Up host object) m given.past orderly filed.head) is.object_is is.size_is
-    filed.serves.answered
+    (file_unshared given.header object.0 filed.file) filed.serves.answered
 
 -- all files' pagers stand for the history behind the answer
 serve_filed : (given : Step) (host : HostId) (object : ObjectId) (m : Message) (s : State) (old new : FileTable) (events : List Event) → Filed given host object m s old new events
@@ -142,8 +145,8 @@ paged_filed given host object m s old new events filed =
     let taken = event.Taken (Up host object) m in
     record {
       numbered = filed.front.pagers.numbered;
-      stand = λ h pager at. declared_stand header h pager object events (taken ∷ given.past) filed.declared (filed_events given host object m s old new events (taken ∷ given.past) filed).about
-          (others header h pager taken given.past (inl filed.declared) (filed.front.pagers.stand h pager at));
+      stand = λ h pager at. declared_stand header h pager object events (taken ∷ given.past) (is_declared header object.0 filed.file) (filed_events given host object m s old new events (taken ∷ given.past) filed).about
+          (others header h pager taken given.past (inl (is_declared header object.0 filed.file)) (filed.front.pagers.stand h pager at));
     }
 
 pub spares_filed : (given : Step) (line : Option ℕ) (number : ChannelId) (host : HostId) (object : ObjectId) (m : Message) (s now : State) (old new : FileTable) (events : List Event) → MayTakeFrom given line number (Up host object) s
@@ -166,9 +169,9 @@ spares_filed given line number host object m s now old new events may filed page
     fit areas kept on h pager at =
         let told = kept.told on h pager at in
         let own = apart_of header past (orderly_taken header (Up host object) m given.past filed.front.orderly filed.head) h in
-        let over = others_carry header h pager (event.Taken (Up host object) m) given.past areas (inl filed.declared) own in
+        let over = others_carry header h pager (event.Taken (Up host object) m) given.past areas (inl (is_declared header object.0 filed.file)) own in
         let was = subst (λ (z : Content). SlotsFit areas pager z) (sym (front_content given line number (Up host object) s may h)) (kept.fits on h pager at) in
-        declared_fit header h pager object areas events past filed.declared is.about own told (over.fits told was)
+        declared_fit header h pager object areas events past (is_declared header object.0 filed.file) is.about own told (over.fits told was)
 
 -- the file has what was returned to it, and all others what they had
 carry_filed : (given : Step) (host : HostId) (object : ObjectId) (m : Message) (s : State) (old new : FileTable) (events : Listed Event) (start before after : List ℕ → Told) → Filed given host object m s old new events.items
@@ -266,27 +269,37 @@ filed_failed header outside m table s now before after e files leaves items kept
 
 -- the hosts' part begins
 pub answered_filed : (given : Step) (host : HostId) (object : ObjectId) (m : Message) (s now : State) (old new : FileTable) (events : List Event) → Filed given host object m s old new events → now.pagers.items ≡ s.pagers.items
-    → now.files.items ≡ set s.files.items object.0 new → ((o : ℕ) → o < named given.header → slice_get now.pages.items o ≡ Some (declared_pages given.header o)) → now.hosts ≡ s.hosts → now.size ≡ given.header.size
+    → now.files.items ≡ set s.files.items object.0 new → now.declared.items ≡ reverse given.header.objects.items → now.server ≡ s.server → now.hosts ≡ s.hosts → now.size ≡ given.header.size
     → now.history.items ≡ events ++ event.Taken (Up host object) m ∷ given.past → Posts now now.history.items → PagerHasAnswered (going given host object m events) host (gives_frame m) now
-answered_filed given host object m s now old new events filed pagers files pages hosts size items posts =
+answered_filed given host object m s now old new events filed pagers files declared server hosts size items posts =
     let header = given.header in
     let front = filed.front in
     let taken = event.Taken (Up host object) m in
     let letter = letter_first header (Up host object) m given.past front.orderly filed.head in
     let orderly = orderly_taken header (Up host object) m given.past front.orderly filed.head in
     let is = filed.serves.stands in
+    let plain = file_unshared header object.0 filed.file in
+    let past = taken ∷ given.past in
+    let its = filed_events given host object m s old new events past filed in
+    let silent = others_about header object events plain its.about in
+    let licence = taken_licensed header given.outside given.command (Up host object) m given.past filed.head filed.may (front_settled given s front) in
     record {
       built = front.built;
       is = items ∙ sym (append_assoc events (taken ∷ []) given.past);
       rests = rw hosts front.rests;
       agrees = record {
         size = size;
-        pages = pages;
+        declared = declared;
         pagers = rw (pagers, items) (paged_filed given host object m s old new events filed);
         files = rw (files, items) (serve_filed given host object m s old new events filed);
+        server = rw (server, items) (server_more header s.server events past silent (server_other header s.server taken given.past plain front.server));
         posts = posts;
-        orderly = rw items (orderly_filed header host.0 object m given.past old new events orderly letter is.object_is is.size_is filed.serves.answered);
+        orderly = rw items (orderly_filed header host.0 object m given.past old new events orderly letter is.object_is is.size_is plain filed.serves.answered);
+        lawful = rw items (lawful_more header given.outside given.command events past filed.licensed (reply_own header Files events past its.replies) (reply_inner Files events its.replies)
+            (lawful_taken header given.outside given.command (Up host object) m given.past licence front.paid front.lawful));
       };
+      paid = rw items (paid header host.0 given.past object.0 m old new events filed.serves);
+      served = rw items (served_more header events past silent (served_other header taken given.past plain front.served));
       answers = record {
         known = letter.0;
         object = object;
@@ -295,10 +308,9 @@ answered_filed given host object m s now old new events filed pagers files pages
         is = refl;
         gives = refl;
         out = λ washed. washed_out header host.0 object m given.past front.orderly filed.head washed;
-        nobodys = reply_nobodys Files events (filed_events given host object m s old new events (taken ∷ given.past) filed).replies;
-        inner = reply_inner Files events (filed_events given host object m s old new events (taken ∷ given.past) filed).replies;
-        licensed = licensed_both header given.outside given.command events (taken ∷ []) given.past filed.licensed
-            (taken_licensed header given.outside given.command (Up host object) m given.past filed.head filed.may (front_settled given s front), tt);
+        nobodys = reply_nobodys Files events its.replies;
+        inner = reply_inner Files events its.replies;
+        licensed = licensed_both header given.outside given.command events (taken ∷ []) given.past filed.licensed (licence, tt);
       };
     }
 
@@ -333,13 +345,12 @@ took_filed given host object m s new old table events filed followed =
     let own = each_both (OwnBytes header) more events past (subst (λ (z : List Event). EachIn (OwnBytes header) more z) same stretch.own_bytes) (reply_own header Files events past told) in
     let frames = moments_both (FramesSuffice header) more events past (subst (λ (z : List Event). MomentsIn (FramesSuffice header) more z) same stretch.frames)
     (reply_frames header Files events past told (taken_suffice header (Up host object) m given.past suffice)) in
-    let owed = paid header host.0 given.past object.0 m old table events filed.serves in
     record {
       stands = followed.stands;
       step = takes_step given (Up host object) m (more ++ events) new.history.items (items ∙ sym (append_assoc more events past)) filed.head filed.may (front_settled given s front) suffice
           (of_both IsConsequence more events followed.follows.follows (reply_consequences Files events told)) licensed own frames (inner_both more events stretch.inner (reply_inner Files events told));
       prompt = followed.prompt;
-      paid = rw items (paid_more header more (events ++ past) stretch.inner owed (rw (sym items) (all_returned header new.hosts new.history.items followed.stands.rests)));
+      paid = followed.stands.paid;
     }
 
 pub devices_filed : (given : Step) (line : Option ℕ) (number : ChannelId) (host : HostId) (object : ObjectId) (m : Message) (s : State) (old table : FileTable) (events : Listed Event) (before now : ℕ) (new : List Event)

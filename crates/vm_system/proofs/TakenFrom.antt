@@ -3,6 +3,7 @@ use Rattle.vm_system.proofs.Common.{Channel, Event, Follows, FollowsSoFar, Frame
 use Rattle.vm_model.specs.declared.command.Command.TheVariants as command
 use Rattle.vm_model.specs.declared.event.Event.TheVariants as event
 use Rattle.vm_system.proofs.Opening.{HoldsUpTo, holds_taken, step_is}
+use Rattle.sms_server.proofs.Acting.{others_serve as served_other}
 use Rattle.vm_system.proofs.Silent.{prompt_line}
 
 some_none : {A : Type 0} → {x : A} → Some x ≡ None → ⊥
@@ -44,13 +45,15 @@ up_to_line : (header : Header) (outside : Outside) (line : ℕ) (run : List Numb
 up_to_line header outside line run s stands legal =
     let items = s.history.items in
     record {
-      paged = stands.built.paged;
+      supplied = stands.built.supplied;
       own_bytes = (tt, legal.holds.own_bytes);
       frames = (moment_last (FramesSuffice header) items legal.holds.frames, legal.holds.frames);
       prompts = (legal.rests.prompt, legal.holds.prompt);
       prompt = prompt_line header line items legal.rests.prompt;
       payments = (legal.rests.paid, legal.holds.paid);
       paid = paid_line header line items;
+      services = (legal.rests.served, legal.holds.served);
+      served = served_other header (event.Line line) items tt legal.rests.served;
     }
 
 pub keeps_taken : (header : Header) (outside : Outside) (line : ℕ) (channel : Channel) (s new : State) → SystemStands header outside s → refusal header s.history.items (command.Take channel) ≡ None
@@ -62,7 +65,7 @@ keeps_taken header outside line channel s new stands fine took run legal =
     let follows : Follows header outside (numbered ∷ run) items = follows_take header outside line channel run s.history.items items fine took.step legal.follows in
     let opened : FollowsSoFar header outside (numbered ∷ run) items = open_of header outside (numbered ∷ run) items follows in
     let holds : Holds header outside items = holds_taken given items took.step (so_far header outside (numbered ∷ run) items opened) (up_to_line header outside line run s stands legal) in
-    let rests : IsAtRest header items = record { prompt = took.prompt; paid = took.paid } in
+    let rests : IsAtRest header items = record { prompt = took.prompt; paid = took.paid; served = took.stands.served } in
     record {
       so_far = record { follows = opened; holds = holds; rests = rests };
       whole = λ none. record { follows = follows; holds = holds; rests = rests };

@@ -1,5 +1,5 @@
 -- A message about a temporary object is taken by the default pager of a host, which answers.
-use Rattle.vm_system.proofs.Common.{AllFilesServe, AllLicensed, AllServe, AnswerHasCause, AreNumbered, CanTellAll, CarriesContent, Channel, ChannelId, Content, CountRises, Device, DevicesHaveCause, EachIn, Err, Event, Followed, FramesSuffice, Going, HasRoom, Header, HostId, IsAreaTold, IsConsequence, IsHostLetter, IsToPager, KeepsShape, LeavesAreas, List, Listed, MayTake, MayTakeFrom, Message, MomentsIn, ObjectId, Ok, Option, Outside, OwnBytes, PagerHasAnswered, PagerServes, PagerStands, PagingIsKept, Posts, ReturnsWhole, SameAreas, SameHosts, SlotTable, SlotsFit, Some, SparesFiles, State, Step, SuppliesStored, TakesStep, TellsFault, Told, Took, Up, [], after_message, ap, append_assoc, area_name, arith, carries, causes, content_of, declared_pages, devices, each_both, first, get_or, gives_frame, inl, inner_both, inr, is_heard_elsewhere, length, length-append, length-set, licensed_both, lined, moments_both, named, of_both, others, others_carry, paid, paid_more, queue, refl, same_Some, set, slice_get, slice_get-get_or, slice_get_within, stands, subst, suc, sym, take, true, zero, ℕ, ◌++◌, ◌+◌, ◌<◌, ◌∙◌, ◌∷◌, ◌≡◌, ◌≤◌, ◌⊎◌}
+use Rattle.vm_system.proofs.Common.{AllFilesServe, AllLicensed, AllServe, AnswerHasCause, AreNumbered, CanTellAll, CarriesContent, Channel, ChannelId, Content, CountRises, Device, DevicesHaveCause, EachIn, Err, Event, Followed, FramesSuffice, Going, HasRoom, Header, HostId, IsAreaTold, IsConsequence, IsHostLetter, IsToPager, KeepsShape, LeavesAreas, List, Listed, MayTake, MayTakeFrom, Message, MomentsIn, ObjectId, Ok, Option, Outside, OwnBytes, PagerHasAnswered, PagerServes, PagerStands, PagingIsKept, Posts, ReturnsWhole, SameAreas, SameHosts, SlotTable, SlotsFit, Some, SparesFiles, State, Step, SuppliesStored, TakesStep, TellsFault, Told, Took, Up, [], after_message, ap, append_assoc, area_name, arith, carries, causes, content_of, devices, each_both, first, get_or, gives_frame, inl, inner_both, inr, is_heard_elsewhere, length, length-append, length-set, licensed_both, lined, moments_both, named, of_both, others, others_carry, paid, queue, refl, same_Some, set, slice_get, slice_get-get_or, slice_get_within, stands, subst, suc, sym, take, true, zero, ℕ, ◌++◌, ◌+◌, ◌<◌, ◌∙◌, ◌∷◌, ◌≡◌, ◌≤◌, ◌⊎◌, reverse}
 use Rattle.std.proofs.Common.{◌≢◌}
 use Rattle.pg_default.specs.Answers.{PagerAnswer as Answers}
 use Rattle.vm_base.specs.declared.failure.NoMemory.{NoMemory}
@@ -9,10 +9,13 @@ use Rattle.vm_model.specs.declared.message.Message.TheVariants as message
 use Rattle.vm_system.proofs.Answering.{Faults, faults, replies, reply_consequences, reply_frames, reply_inner, reply_nobodys, reply_own, reply_spares, told_after, word_up}
 use Rattle.vm_system.proofs.Apart.{about, apart_of, areas_others, fits_still, other_area, others_fit, others_stand, set_cases, told_still}
 use Rattle.vm_system.proofs.Filing.{carry_about, files_about}
-use Rattle.vm_system.proofs.Silent.{all_returned}
+use Rattle.vm_legal.proofs.Files.{not_file}
+use Rattle.vm_legal.proofs.Unshared.{temporary_unshared}
+use Rattle.sms_server.proofs.Acting.{others_serve as served_other, others_stand as server_other}
+use Rattle.vm_system.proofs.Lawfulness.{lawful_more, lawful_taken, others_about, served_more, server_more}
 use Rattle.vm_system.proofs.Letters.{elsewhere_first, home_first, letter_first, orderly_taken, unended_first, washed_out}
 use Rattle.vm_system.proofs.Sayings.{can_answer, orderly_answered}
-use Rattle.vm_system.proofs.Following.{filed_spares, kept_at, same_files, same_pages, same_pagers}
+use Rattle.vm_system.proofs.Following.{filed_spares, kept_at, same_declared, same_files, same_pagers}
 use Rattle.vm_system.proofs.Taken.{Front, devices_lined, front_carry, front_content, front_of, front_settled, front_suffice, taken_licensed, takes_step, taken_suffice}
 
 -- what stands on a channel up is a host's letter
@@ -87,7 +90,7 @@ pub can_reply : (given : Step) (host : HostId) (object : ObjectId) (m : Message)
 can_reply given host object m s old new events reply =
     let front = reply.front in
     let pager = front.pagers.stand host.0 old reply.at in
-    can_answer given.header host.0 object m given.past old new events (orderly_taken given.header (Up host object) m given.past front.orderly reply.head) (reply_letter given host object m s old new events reply) pager.host_is pager.size reply.answered
+    can_answer given.header host.0 object m given.past old new events (orderly_taken given.header (Up host object) m given.past front.orderly reply.head) (reply_letter given host object m s old new events reply) pager.host_is pager.size (temporary_unshared given.header object.0 reply.temporary) reply.answered
 
 -- the answered pager keeps its number
 reply_host : (given : Step) (host : HostId) (object : ObjectId) (m : Message) (s : State) (old new : SlotTable) (events : List Event) → Reply given host object m s old new events → new.host ≡ host.0
@@ -132,7 +135,7 @@ serve_up given host object m s old new events reply = record {
 
 files_up : (given : Step) (host : HostId) (object : ObjectId) (m : Message) (s : State) (old new : SlotTable) (events : List Event) → Reply given host object m s old new events
     → AllFilesServe given.header s.files.items (events ++ event.Taken (Up host object) m ∷ given.past)
-files_up given host object m s old new events reply = files_about given.header s.files.items host object m events given.past (about m object old new events reply.answered) reply.temporary reply.front.files
+files_up given host object m s old new events reply = files_about given.header s.files.items host object m events given.past (about m object old new events reply.answered) (not_file given.header object.0 reply.temporary) reply.front.files
 
 pub spares_up : (given : Step) (line : Option ℕ) (number : ChannelId) (host : HostId) (object : ObjectId) (m : Message) (s now : State) (old new : SlotTable) (events : List Event) → MayTakeFrom given line number (Up host object) s
     → Reply given host object m s old new events → now.files.items ≡ s.files.items → now.history.items ≡ events ++ event.Taken (Up host object) m ∷ given.past → SparesFiles given.header given.outside s now
@@ -140,7 +143,7 @@ spares_up given line number host object m s now old new events may reply files i
     let header = given.header in
     let past = event.Taken (Up host object) m ∷ given.past in
     filed_spares header given.outside s now (rw (files, items) (files_up given host object m s old new events reply))
-    (λ start areas carry. rw items (carry_about header start areas host object m events given.past (about m object old new events reply.answered) reply.temporary (front_carry given line number (Up host object) s may start areas carry)))
+    (λ start areas carry. rw items (carry_about header start areas host object m events given.past (about m object old new events reply.answered) (not_file header object.0 reply.temporary) (front_carry given line number (Up host object) s may start areas carry)))
     (ap (devices Files) items ∙ reply_spares Paging Files events past refl (replies m object old new events reply.answered) ∙ ap (devices Files) may.past ∙ devices_lined Files line s.history.items)
 
 -- the hosts' part begins
@@ -148,8 +151,8 @@ abbrev pub going : Step → HostId → ObjectId → Message → List Event → G
 going given host object m events = record { header = given.header; outside = given.outside; command = given.command; past = given.past; front = events ++ event.Taken (Up host object) m ∷ [] }
 
 pub answered_up : (given : Step) (host : HostId) (object : ObjectId) (m : Message) (s now : State) (old new : SlotTable) (events : List Event) → Reply given host object m s old new events → now.pagers.items ≡ set s.pagers.items host.0 new
-    → now.files.items ≡ s.files.items → ((o : ℕ) → o < named given.header → slice_get now.pages.items o ≡ Some (declared_pages given.header o)) → now.hosts ≡ s.hosts → now.size ≡ given.header.size → now.history.items ≡ events ++ event.Taken (Up host object) m ∷ given.past → Posts now now.history.items → PagerHasAnswered (going given host object m events) host (gives_frame m) now
-answered_up given host object m s now old new events reply pagers files pages hosts size items posts =
+    → now.files.items ≡ s.files.items → now.declared.items ≡ reverse given.header.objects.items → now.server ≡ s.server → now.hosts ≡ s.hosts → now.size ≡ given.header.size → now.history.items ≡ events ++ event.Taken (Up host object) m ∷ given.past → Posts now now.history.items → PagerHasAnswered (going given host object m events) host (gives_frame m) now
+answered_up given host object m s now old new events reply pagers files declared server hosts size items posts =
     let header = given.header in
     let front = reply.front in
     let told = replies m object old new events reply.answered in
@@ -157,18 +160,27 @@ answered_up given host object m s now old new events reply pagers files pages ho
     let letter = reply_letter given host object m s old new events reply in
     let orderly = orderly_taken header (Up host object) m given.past front.orderly reply.head in
     let pager = front.pagers.stand host.0 old reply.at in
+    let plain = temporary_unshared header object.0 reply.temporary in
+    let past = taken ∷ given.past in
+    let silent = others_about header object events plain (about m object old new events reply.answered) in
+    let licence = taken_licensed header given.outside given.command (Up host object) m given.past reply.head reply.may (front_settled given s front) in
     record {
       built = front.built;
       is = items ∙ sym (append_assoc events (taken ∷ []) given.past);
       rests = rw hosts front.rests;
       agrees = record {
         size = size;
-        pages = pages;
+        declared = declared;
         pagers = rw (pagers, items) (serve_up given host object m s old new events reply);
         files = rw (files, items) (files_up given host object m s old new events reply);
+        server = rw (server, items) (server_more header s.server events past silent (server_other header s.server taken given.past plain front.server));
         posts = posts;
-        orderly = rw items (orderly_answered header host.0 object m given.past old new events orderly letter pager.host_is pager.size reply.answered);
+        orderly = rw items (orderly_answered header host.0 object m given.past old new events orderly letter pager.host_is pager.size plain reply.answered);
+        lawful = rw items (lawful_more header given.outside given.command events past reply.licensed (reply_own header Paging events past told) (reply_inner Paging events told)
+            (lawful_taken header given.outside given.command (Up host object) m given.past licence front.paid front.lawful));
       };
+      paid = rw items (paid header host.0 given.past object m old new events (reply_serves given host object m s old new events reply));
+      served = rw items (served_more header events past silent (served_other header taken given.past plain front.served));
       answers = record {
         known = letter.0;
         object = object;
@@ -179,8 +191,7 @@ answered_up given host object m s now old new events reply pagers files pages ho
         out = λ washed. washed_out header host.0 object m given.past front.orderly reply.head washed;
         nobodys = reply_nobodys Paging events told;
         inner = reply_inner Paging events told;
-        licensed = licensed_both header given.outside given.command events (taken ∷ []) given.past reply.licensed
-            (taken_licensed header given.outside given.command (Up host object) m given.past reply.head reply.may (front_settled given s front), tt);
+        licensed = licensed_both header given.outside given.command events (taken ∷ []) given.past reply.licensed (licence, tt);
       };
     }
 
@@ -215,13 +226,12 @@ took_up given host object m s new old slots events reply followed =
     let own = each_both (OwnBytes header) more events past (subst (λ (z : List Event). EachIn (OwnBytes header) more z) same stretch.own_bytes) (reply_own header Paging events past told) in
     let frames = moments_both (FramesSuffice header) more events past (subst (λ (z : List Event). MomentsIn (FramesSuffice header) more z) same stretch.frames)
     (reply_frames header Paging events past told (taken_suffice header (Up host object) m given.past suffice)) in
-    let owed = paid header host.0 given.past object m old slots events (reply_serves given host object m s old slots events reply) in
     record {
       stands = followed.stands;
       step = takes_step given (Up host object) m (more ++ events) new.history.items (items ∙ sym (append_assoc more events past)) reply.head reply.may (front_settled given s front) suffice
           (of_both IsConsequence more events followed.follows.follows (reply_consequences Paging events told)) licensed own frames (inner_both more events stretch.inner (reply_inner Paging events told));
       prompt = followed.prompt;
-      paid = rw items (paid_more header more (events ++ past) stretch.inner owed (rw (sym items) (all_returned header new.hosts new.history.items followed.stands.rests)));
+      paid = followed.stands.paid;
     }
 
 -- what was stored stands in the areas behind the answer
@@ -348,7 +358,7 @@ may_reserved given line number channel s t may same items made numbers letters b
         queues = rw (same.hosts, items) stands.queues;
         agrees = record {
           size = same.size ∙ agrees.size;
-          pages = rw (same_pages s t same) agrees.pages;
+          declared = same_declared s t same ∙ agrees.declared;
           pagers = rw (same_pagers s t same, items) agrees.pagers;
           files = rw (same_files s t same, items) agrees.files;
           posts = record {
@@ -357,8 +367,12 @@ may_reserved given line number channel s t may same items made numbers letters b
             letters = rw (made, letters, items) posts.letters;
             buffers = buffers ∙ posts.buffers ∙ sym same.size;
           };
+          server = rw (same.server, items) agrees.server;
           orderly = rw items agrees.orderly;
+          lawful = rw items agrees.lawful;
         };
+        paid = rw items stands.paid;
+        served = rw items stands.served;
       };
       past = may.past ∙ ap (λ (z : List Event). lined line z) (sym items);
       made = rw made may.made;

@@ -1,5 +1,7 @@
 pub mod Channels
+pub mod Flat
 pub mod Keeping
+pub mod Lawful
 pub mod Making
 pub mod Orderly
 pub mod Posts

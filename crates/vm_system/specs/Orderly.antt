@@ -1,5 +1,5 @@
--- What holds of the letters on their way, in a history of temporary memory and of files.
-use Rattle.std.specs.Prelude.{ℕ, ◌+◌, ◌<◌, ◌≤◌, ◌==◌, ◌&&◌, ◌≡◌, ◌⊎◌, Bool, true, false, List, [], ◌∷◌, length, nat_lt, Option, Some, None, if◌then◌else◌}
+-- What holds of the letters on their way, where no object is wild.
+use Rattle.std.specs.Prelude.{ℕ, ◌+◌, ◌<◌, ◌≤◌, ◌==◌, ◌&&◌, ◌||◌, ◌≡◌, ◌⊎◌, Bool, true, false, List, [], ◌∷◌, length, nat_lt, Option, Some, None, if◌then◌else◌}
 use Rattle.vm_model.specs.declared.event.Event.{Event}
 use Rattle.vm_model.specs.declared.message.Channel.{Channel}
 use Rattle.vm_model.specs.declared.message.Channel.TheVariants.{Up, Down}
@@ -8,9 +8,13 @@ use Rattle.vm_model.specs.declared.message.Message.TheVariants as message
 use Rattle.vm_model.specs.declared.script.Header.{Header}
 use Rattle.vm_model.specs.Channels.{queue}
 use Rattle.vm_model.specs.Controls.{last_control, live_control}
+use Rattle.vm_model.specs.PagePart.{page_part}
+use Rattle.vm_model.specs.Server.{Wanting, line}
+use Rattle.vm_model.specs.Side.{side}
 use Rattle.vm_legal.specs.Frames.{returns_out}
 use Rattle.vm_legal.specs.Homes.{gives_frame}
-use Rattle.vm_legal.specs.Licences.{up}
+use Rattle.vm_legal.specs.Licences.{LockRequest, lock_taken, up}
+use Rattle.vm_legal.specs.Outside.{is_shared}
 use Rattle.vm_legal.specs.Pagers.{known_control}
 use Rattle.vm_legal.specs.Steps.{Letter}
 use Rattle.vm_legal.specs.Undelivered.{is_made, undelivered}
@@ -19,7 +23,8 @@ use Rattle.pg_default.specs.Stands.{is_ended, is_heard_elsewhere}
 use Rattle.vm_abroad.specs.Home.{home_of, object_home}
 use Rattle.vm_model.specs.Named.{named}
 use Rattle.vm_kernel.specs.Matches.{host_id}
-use Rattle.vm_kernel.specs.Taking.{IsPlainWord}
+use Rattle.vm_kernel.specs.Taking.{IsWord}
+use Rattle.sms_server.specs.Answers.{IsServerWord, IsToServer}
 
 -- what a kernel says to a pager, where a page has so many bytes; the control that is to be answered has its channel
 abbrev pub IsWordUp : ℕ → (ℕ → Bool) → Message → Type 0
@@ -32,13 +37,19 @@ IsWordUp size made (message.Completed control page count) = Unit {0}
 IsWordUp size made (message.Terminate control) = Unit {0}
 IsWordUp size made other = ⊥
 
--- a letter from a host of the header, or an answer to it
+-- what the server of shared memory is told; a first control that is made for a reclaim is never one of its objects'
+abbrev pub IsSharedWord : Message → Type 0
+IsSharedWord (message.Create control size) = ⊥
+IsSharedWord m = IsToServer m
+
+-- a letter from a host of the header, or an answer to it; of a shared object one that its server understands, or says
 abbrev pub IsHostLetter : Header → List Event → Letter → Type 0
 IsHostLetter header past letter = IsOn letter.channel letter.message
   where
     IsOn : Channel → Message → Type 0
-    IsOn (Up host object) m = (host.0 < length header.frames.items) × IsWordUp header.size (λ control. is_made (Down host object control) past) m
-    IsOn (Down host object control) m = (host.0 < length header.frames.items) × IsPlainWord header.size m
+    IsOn (Up host object) m =
+        (host.0 < length header.frames.items) × IsWordUp header.size (λ control. is_made (Down host object control) past) m × (is_shared header object.0 ≡ true → IsSharedWord m)
+    IsOn (Down host object control) m = (host.0 < length header.frames.items) × IsWord header.size m × (is_shared header object.0 ≡ true → IsServerWord header.size m)
 
 abbrev pub AllLetters : Header → List Event → List Letter → Type 0
 AllLetters header past [] = Unit {0}
@@ -89,10 +100,25 @@ pub record HasMade (h o : ℕ) (past : List Event) : Type 0 where
 abbrev pub home_for : Header → ℕ → List Event → Option ℕ
 home_for header o past = if nat_lt o (named header) then home_of o past else object_home o past
 
--- only the pager of the host of an object's region hears of the object
+-- only the pager of the host of an object's region hears of the object, but of shared ones
 pub record IsHome (header : Header) (h o : ℕ) (past : List Event) : Type 0 where
-  pub made : is_made (up h o) past ≡ true → home_for header o past ≡ Some h
+  pub made : is_shared header o ≡ false → is_made (up h o) past ≡ true → home_for header o past ≡ Some h
   pub own : named header ≤ o → (object_home o past ≡ None) ⊎ (object_home o past ≡ Some h) → is_heard_elsewhere h o past ≡ false
+
+-- a host stands in a line
+abbrev pub stands_in : ℕ → List Wanting → Bool
+stands_in h [] = false
+stands_in h (w ∷ ws) = w.host == h || stands_in h ws
+
+-- a channel leads down to the control from which the host asked last for a page
+abbrev pub IsHeard : Header → ℕ → ℕ → ℕ → List Event → Type 0
+IsHeard header h o p past =
+    (h < length header.frames.items) × (is_made (Down (host_id h) (record { 0 = o }) (side h (page_part header.size o p past)).heard) past ≡ true)
+
+-- so it is of a host that holds the page, by the server's words, or stands in line for it
+pub record HasHeard (header : Header) (h o p : ℕ) (past : List Event) : Type 0 where
+  pub holder : 0 < (side h (page_part header.size o p past)).holds → IsHeard header h o p past
+  pub waiter : stands_in h (line (page_part header.size o p past)) ≡ true → IsHeard header h o p past
 
 pub record IsOrderly (header : Header) (past : List Event) : Type 0 where
   pub letters : AllLetters header past (undelivered past)
@@ -101,3 +127,5 @@ pub record IsOrderly (header : Header) (past : List Event) : Type 0 where
   pub ending : (h o : ℕ) → named header ≤ o → Ending (live_control h o past) (is_ended h o past) (messages_on (up h o) (undelivered past))
   pub made : (h o : ℕ) → HasMade h o past
   pub known : (h o control : ℕ) → known_control h o past ≡ Some control → h < length header.frames.items
+  pub heard : (h o p : ℕ) → is_shared header o ≡ true → HasHeard header h o p past
+  pub locks : (request : LockRequest) → lock_taken past ≡ Some request → is_shared header request.object ≡ true → request.count ≡ 1

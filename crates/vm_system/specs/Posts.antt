@@ -57,5 +57,6 @@ pub record SameHosts (old new : State) : Type 0 where
   pub size : new.size ≡ old.size
   pub hosts : new.hosts ≡ old.hosts
   pub pagers : new.pagers ≡ old.pagers
+  pub declared : new.declared ≡ old.declared
   pub files : new.files ≡ old.files
-  pub pages : new.pages ≡ old.pages
+  pub server : new.server ≡ old.server

@@ -1,11 +1,12 @@
 -- Why a taking is refused, from what a system keeps.
-use Rattle.std.specs.Prelude.{ℕ, ◌+◌, ◌==◌, ◌||◌, nat_lt, List, Option, Some, None}
+use Rattle.std.specs.Prelude.{ℕ, ◌+◌, ◌==◌, ◌||◌, not, nat_lt, List, Option, Some, None}
 use Rattle.vm_base.specs.declared.code.Code.{Code}
 use Rattle.vm_base.specs.declared.code.Code.TheVariants.{EmptyPort, InvalidArgument, NoSuchName}
 use Rattle.vm_base.specs.declared.ids.ObjectId.{ObjectId}
 use Rattle.vm_base.specs.declared.ids.PageNo.{PageNo}
 use Rattle.vm_model.specs.declared.script.Header.{Header}
 use Rattle.vm_model.specs.Named.{declared_pages}
+use Rattle.vm_legal.specs.Outside.{is_file}
 use Rattle.vm_legal.specs.Refusal.{code_where, is_empty}
 use Rattle.vm_model.specs.declared.message.Channel.{Channel}
 use Rattle.vm_model.specs.declared.message.Message.{Message}
@@ -21,6 +22,6 @@ code_at (Some number) letters = code_where (is_empty (queue number letters)) Emp
 abbrev pub channel_code : Channel → List Channel → List (Posted Message) → Option Code
 channel_code channel made letters = code_at (channel_number channel made) letters
 
--- the code of a clean of pages of a declared file
+-- the code of a clean of pages of a declared object
 abbrev pub clean_code : Header → ObjectId → PageNo → ℕ → Option Code
-clean_code header object page count = code_where (count == 0 || nat_lt (declared_pages header object.0) (page.0 + count)) InvalidArgument None
+clean_code header object page count = code_where (not (is_file header object.0) || (count == 0 || nat_lt (declared_pages header object.0) (page.0 + count))) InvalidArgument None

@@ -1,14 +1,18 @@
 -- A system stands for its history, and the paging areas and the files have what was returned.
-use Rattle.std.specs.Prelude.{ℕ, ◌≡◌, ◌<◌, true, List, [], length, Some, slice_get}
+use Rattle.std.specs.Prelude.{ℕ, ◌≡◌, true, List, [], length, reverse, Some, slice_get}
 use Rattle.vm_model.specs.declared.script.Header.{Header}
 use Rattle.vm_model.specs.declared.event.Event.{Event}
-use Rattle.vm_model.specs.Named.{declared_pages, named}
+use Rattle.vm_model.specs.Named.{named}
+use Rattle.vm_legal.specs.Debts.{IsPaid}
 use Rattle.vm_legal.specs.Outside.{Outside, is_file}
+use Rattle.vm_legal.specs.Prompt.{AllServed}
 use Rattle.vm_kernel.specs.Matches.{IsRanged}
-use Rattle.vm_quiet.specs.Places.{AllPaged}
+use Rattle.vm_quiet.specs.Quiet.{AllSupplied}
 use Rattle.pg_file.specs.Files.{FileTable}
 use Rattle.pg_file.specs.Stands.{PagerStands as FileStands, name_of}
+use Rattle.sms_server.specs.Stands.{ServerStands}
 use Rattle.vm_system.specs.Keeping.{FilesAreTold, FilesCarry}
+use Rattle.vm_system.specs.Lawful.{Lawful}
 use Rattle.vm_outside.specs.Areas.{Told}
 use Rattle.pg_slots.specs.Contents.{IsAreaTold, SlotsFit}
 use Rattle.pg_slots.specs.Slots.{SlotTable}
@@ -41,31 +45,35 @@ pub record AllFilesServe (header : Header) (pagers : List FileTable) (past : Lis
 abbrev pub AreNamedApart : Header → Type 0
 AreNamedApart header = (one other : ℕ) → is_file header one ≡ true → is_file header other ≡ true → name_of header one ≡ name_of header other → one ≡ other
 
--- a header that a system can run: its numbers are in their ranges, and each declared object is a file with a name of its own
-pub record IsOfFiles (header : Header) : Type 0 where
+-- a header that a system can run: its numbers are in their ranges, and each declared object is a shared one, or a file with a name of its own
+pub record IsSupplied (header : Header) : Type 0 where
   pub ranged : IsRanged header
-  pub paged : AllPaged header
+  pub supplied : AllSupplied header
   pub names : AreNamedApart header
 
 -- their areas are told
 abbrev pub AllTold : (List ℕ → Told) → List SlotTable → Type 0
 AllTold areas pagers = (h : ℕ) (pager : SlotTable) → slice_get pagers h ≡ Some pager → IsAreaTold areas pager
 
--- pagers, ports and letters are those of the history, also inside a step
+-- pagers, server, ports and letters are those of the history, which is lawful so far, also inside a step
 pub record Agrees (header : Header) (outside : Outside) (s : State) : Type 0 where
   pub size : s.size ≡ header.size
-  pub pages : (object : ℕ) → object < named header → slice_get s.pages.items object ≡ Some (declared_pages header object)
+  pub declared : s.declared.items ≡ reverse header.objects.items
   pub pagers : AllServe header s.pagers.items s.history.items
   pub files : AllFilesServe header s.files.items s.history.items
+  pub server : ServerStands header s.server s.history.items
   pub posts : Posts s s.history.items
   pub orderly : IsOrderly header s.history.items
+  pub lawful : Lawful header outside s.history.items
 
--- and so are the kernels, at a step's end
+-- and so are the kernels, at a step's end, which owes nothing, and where the server keeps nobody waiting in vain
 pub record SystemStands (header : Header) (outside : Outside) (s : State) : Type 0 where
-  pub built : IsOfFiles header
+  pub built : IsSupplied header
   pub rests : AllRest header s.hosts s.history.items
   pub queues : AllQueued header s.hosts s.history.items
   pub agrees : Agrees header outside s
+  pub paid : IsPaid header s.history.items
+  pub served : AllServed header s.history.items
 
 -- The pagers stand for the history; and where the paging areas tell, each page that was returned and not lost stands at its slot. This holds
 -- inside a step too.

@@ -1,5 +1,5 @@
 -- What a system's steps make of its history, and of the backings.
-use Rattle.std.specs.Prelude.{ℕ, ◌+◌, ◌<◌, ◌≤◌, ◌≡◌, ◌⊎◌, Bool, true, false, List, [], ◌∷◌, ◌++◌, length, nat_lt, if◌then◌else◌, Option, Some, None}
+use Rattle.std.specs.Prelude.{ℕ, ◌+◌, ◌<◌, ◌≤◌, ◌≡◌, ◌⊎◌, Bool, true, false, not, List, [], ◌∷◌, ◌++◌, length, nat_lt, if◌then◌else◌, Option, Some, None}
 use Rattle.vm_model.specs.declared.event.Event.{Event}
 use Rattle.vm_model.specs.declared.event.Event.TheVariants as event
 use Rattle.vm_model.specs.declared.event.Device.{Device}
@@ -15,7 +15,7 @@ use Rattle.vm_model.specs.Limits.{most_events}
 use Rattle.vm_model.specs.Moments.{BeforeSteps}
 use Rattle.vm_legal.specs.Follows.{FollowsCut, FollowsSoFar}
 use Rattle.vm_legal.specs.Legal.{Holds, IsAtRest, LegalFor}
-use Rattle.vm_legal.specs.Outside.{Outside}
+use Rattle.vm_legal.specs.Outside.{Outside, is_file}
 use Rattle.vm_legal.specs.Steps.{takings}
 use Rattle.vm_outside.specs.Arming.{Arming}
 use Rattle.vm_outside.specs.Causes.{CountRises}
@@ -112,15 +112,16 @@ abbrev pub lined : Option ℕ → List Event → List Event
 lined None past = past
 lined (Some line) past = event.Line line ∷ past
 
--- the backing of an object's pager: the files where the object is declared, and else the paging area
-abbrev pub device_of : Header → ObjectId → Device
-device_of header object = if nat_lt object.0 (named header) then device.Files else device.Paging
+-- the object's pager asks this backing: the files for a file, and the paging area for a temporary object
+abbrev pub is_kept_in : Header → Device → ObjectId → Bool
+is_kept_in header device.Files object = is_file header object.0
+is_kept_in header device.Paging object = not (nat_lt object.0 (named header))
 
 -- the step began with a message that a pager of this backing took
 abbrev pub took_up : Header → Device → List Event → Bool
 took_up header who [] = false
 took_up header who (event.Line line ∷ past) = false
-took_up header who (event.Taken (Up host object) m ∷ past) = is_device who (device_of header object)
+took_up header who (event.Taken (Up host object) m ∷ past) = is_kept_in header who object
 took_up header who (event.Taken channel m ∷ past) = false
 took_up header who (e ∷ past) = took_up header who past
 
@@ -134,7 +135,7 @@ took_any (e ∷ past) = took_any past
 
 -- the command takes a message that goes to a pager of this backing
 abbrev pub takes_up : Header → Device → Command → Bool
-takes_up header who (command.Take (Up host object)) = is_device who (device_of header object)
+takes_up header who (command.Take (Up host object)) = is_kept_in header who object
 takes_up header who other = false
 
 -- the command takes a message that goes to a pager

@@ -12,12 +12,12 @@ use Rattle.vm_legal.specs.Debts.{IsPaid}
 use Rattle.vm_legal.specs.Follows.{IsConsequence}
 use Rattle.vm_legal.specs.Frames.{FramesSuffice}
 use Rattle.vm_legal.specs.Licences.{AllLicensed, MayTake}
-use Rattle.vm_legal.specs.Prompt.{Prompt}
+use Rattle.vm_legal.specs.Prompt.{AllServed, Prompt}
 use Rattle.vm_legal.specs.Stretches.{AllInner, EachIn, EachOf, MomentsIn}
 use Rattle.vm_hosts.specs.Hosts.{AllRest}
 use Rattle.vm_hosts.specs.Steps.{EventsFollow, Going, PagerStep, Step}
 use Rattle.vm_system.specs.Channels.{channel_number}
-use Rattle.vm_system.specs.Stands.{Agrees, IsOfFiles, SystemStands}
+use Rattle.vm_system.specs.Stands.{Agrees, IsSupplied, SystemStands}
 use Rattle.vm_system.specs.Steps.{lined}
 use Rattle.vm_system.specs.declared.state.State.{State}
 
@@ -54,10 +54,12 @@ MayBeCut given old new = (new ≡ old) ⊎ TakesStep given new
 
 -- the pager of a host took a message and answered, and no kernel did anything yet
 pub record PagerHasAnswered (given : Going) (host : HostId) (washed : Bool) (s : State) : Type 0 where
-  pub built : IsOfFiles given.header
+  pub built : IsSupplied given.header
   pub is : s.history.items ≡ given.front ++ given.past
   pub rests : AllRest given.header s.hosts given.past
   pub agrees : Agrees given.header given.outside s
+  pub paid : IsPaid given.header s.history.items
+  pub served : AllServed given.header s.history.items
   pub answers : PagerStep given.header given.outside given.command host washed given.past given.front
 
 -- the hosts went on behind that

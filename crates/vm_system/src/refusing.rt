@@ -11,7 +11,7 @@ ghost use Rattle.vm_system.specs.Stands.{SystemStands};
 ghost use Rattle.vm_hosts.specs.Steps.{Step};
 
 use crate::state::State;
-use vm_base::{Code, HostId, ObjectId, PageNo};
+use vm_base::{Code, HostId, ObjectId, ObjectKind, PageNo};
 use vm_model::{Channel, Command};
 
 impl State {
@@ -44,15 +44,17 @@ impl State {
         requires declared { object.0 < named given.header }
         ensures { result ≡ clean_code given.header object page count }
     {
-        if count == 0
-            || u64::from(page.0) + u64::from(count) > u64::from(self.pages[object.0 as usize])
+        let declared = self.declared[object.0 as usize];
+        if declared.kind != ObjectKind::File
+            || count == 0
+            || u64::from(page.0) + u64::from(count) > u64::from(declared.pages)
         {
             return Some(Code::InvalidArgument);
         }
         None
     }
 
-    // Nothing is said for a file, whose pager is the system's own.
+    // Nothing is said for a file or a shared object: their pagers are the system's own.
     fn say_refusal(&self, host: HostId, object: ObjectId) -> Code
         ghost given: { Step }
         requires stands { SystemStands given.header given.outside self.now }

@@ -61,6 +61,7 @@ impl State {
         requires past { (line : ℕ) × (given.past ≡ event.Line line ∷ self.now.history.items) }
         requires range { InRange given.header command.now }
         requires idle { is_idle command.now ≡ true }
+        requires accepted { refusal given.header self.now.history.items command.now ≡ None }
         ensures { IfOk result (λ events. head given.header given.past command.now ≡ Some events.items) }
     {
         match command {

@@ -3,10 +3,11 @@
 use crate::channels::Channels;
 use pg_default::DefaultPager;
 use pg_file::FilePager;
+use sms_server::Server;
 use std::alloc::Global;
 use vm_base::{Buffers, PageSize};
 use vm_hosts::Hosts;
-use vm_model::{History, Message};
+use vm_model::{Declared, History, Message};
 use vm_ports::Ports;
 
 #[derive(Drop)]
@@ -16,10 +17,12 @@ pub struct State {
     pub hosts: Hosts,
     // By the numbers of their hosts.
     pub pagers: Vec<DefaultPager>,
-    // By the numbers of the declared objects, all of which are files.
+    // The declared objects, by their numbers.
+    pub declared: Vec<Declared>,
+    // By these numbers too: those of files are asked.
     pub files: Vec<FilePager>,
-    // The pages of these objects.
-    pub pages: Vec<u32>,
+    // Of all shared objects.
+    pub server: Server,
     pub ports: Ports<Message>,
     pub channels: Channels,
     pub buffers: Buffers,

@@ -1,5 +1,5 @@
 // The whole system.
-ghost use Rattle.std.specs.Prelude.{◌≡◌, ◌≢◌, ◌+◌, ◌≤◌, ◌<◌, ◌↔◌, ◌⊎◌, ◌&&◌, ◌^◌, ◌∷◌, ℕ, List, [], true, false, None, Ok, Some, IfOk, IsErrOf, IsOkAnd, IsSome, IsTrue, OnOk, OnErr, is_none, length, nat_le, slice_get};
+ghost use Rattle.std.specs.Prelude.{◌≡◌, ◌≢◌, ◌+◌, ◌≤◌, ◌<◌, ◌↔◌, ◌⊎◌, ◌&&◌, ◌^◌, ◌∷◌, ℕ, List, [], true, false, None, Ok, Some, IfOk, IsErrOf, IsOkAnd, IsSome, IsTrue, OnOk, OnErr, is_none, length, nat_le, reverse};
 ghost use Rattle.vm_base.specs.Limits.{most_slots};
 ghost use Rattle.vm_base.specs.declared.code.Code.{Code};
 ghost use Rattle.vm_model.specs.Limits.{most_events};
@@ -17,9 +17,9 @@ ghost use Rattle.vm_legal.specs.Steps.{before_step, takings};
 ghost use Rattle.vm_model.specs.Moments.{before_last_line};
 ghost use Rattle.vm_kernel.specs.Matches.{IsRanged};
 ghost use Rattle.vm_legal.specs.Follows.{head};
-ghost use Rattle.vm_model.specs.Named.{declared_pages, named};
+ghost use Rattle.vm_model.specs.Named.{named};
 ghost use Rattle.vm_hosts.specs.Steps.{Step};
-ghost use Rattle.vm_system.specs.Stands.{AllFilesServe, AllTold, AreEmpty, AreNumbered, FilesAreKept, IsOfFiles, PagingIsKept, SystemStands};
+ghost use Rattle.vm_system.specs.Stands.{AllFilesServe, AllTold, AreEmpty, AreNumbered, FilesAreKept, IsSupplied, PagingIsKept, SystemStands};
 ghost use Rattle.vm_system.specs.Steps.{DevicesHaveCause, GrowsWithinLimit, HasMore, IsMemoryStop, KeepsLegal, KeepsOpen, LeavesBacking, MayCut, MayCutOpen, Setting, arms, takes_any, took_up};
 
 use crate::channels::Channels;
@@ -27,12 +27,13 @@ use crate::state::State;
 use crate::stop::SystemStop;
 use pg_default::DefaultPager;
 use pg_file::FilePager;
+use sms_server::Server;
 use std::alloc::Global;
 use std::marker::Model;
 use vm_base::{Buffers, Code, HostId, NoMemory, ObjectId};
 use vm_hosts::Hosts;
 use vm_model::limits::MOST_EVENTS;
-use vm_model::{Command, Header, History};
+use vm_model::{Command, Declared, Header, History};
 use vm_outside::{Armed, Backing};
 use vm_ports::Ports;
 
@@ -55,7 +56,7 @@ impl Model for System {
 impl System {
     /// Nothing has happened yet; the hosts' frames are taken.
     pub fn new(alloc: Global, header: &Header) -> Result<System, NoMemory>
-        requires built { IsOfFiles header.now }
+        requires built { IsSupplied header.now }
         requires few { header.now.slots ≤ most_slots }
         ensures stands { (outside : Outside) → IfOk result (λ system. SystemStands header.now outside system) }
         ensures kept { (outside : Outside) → (areas : List ℕ → Told) → IfOk result (λ system. (outside.paging ≡ true → AllTold areas system.pagers.items) → PagingIsKept header.now outside areas system) }
@@ -67,14 +68,15 @@ impl System {
         let hosts = Hosts::new(alloc, header)?;
         let pagers = make_pagers(alloc, header)?;
         let files = make_files(alloc, header)?;
-        let pages = make_pages(alloc, header)?;
+        let declared = make_declared(alloc, header)?;
         let state = State {
             alloc,
             size: header.size,
             hosts,
             pagers,
+            declared,
             files,
-            pages,
+            server: Server::new(alloc, header.size),
             ports: Ports::new(alloc),
             channels: Channels::new(alloc),
             buffers: Buffers::new(alloc, header.size),
@@ -229,7 +231,8 @@ impl System {
     pub fn into_history(self) -> History
         ensures { result ≡ self.history }
     {
-        self.state.history
+        let state = self.state;
+        state.history
     }
 
     /// Whether nothing is undelivered.
@@ -255,7 +258,7 @@ fn make_pagers(alloc: Global, header: &Header) -> Result<Vec<DefaultPager>, NoMe
     Ok(pagers)
 }
 
-// The pagers of the declared objects.
+// The pagers of the declared objects, as if all were files.
 fn make_files(alloc: Global, header: &Header) -> Result<Vec<FilePager>, NoMemory>
     requires { named header.now < 2 ^ 32 }
     ensures { IfOk result (λ files. AllFilesServe header.now files.items []) }
@@ -269,13 +272,13 @@ fn make_files(alloc: Global, header: &Header) -> Result<Vec<FilePager>, NoMemory
     Ok(files)
 }
 
-// The pages of the declared objects.
-fn make_pages(alloc: Global, header: &Header) -> Result<Vec<u32>, NoMemory>
-    ensures { IfOk result (λ pages. (object : ℕ) → object < named header.now → slice_get pages.items object ≡ Some (declared_pages header.now object)) }
+// The declared objects.
+fn make_declared(alloc: Global, header: &Header) -> Result<Vec<Declared>, NoMemory>
+    ensures { IfOk result (λ objects. objects.items ≡ reverse header.now.objects.items) }
 {
-    let mut pages = Vec::new(alloc);
+    let mut objects = Vec::new(alloc);
     'objects: for object in 0..header.objects.len() {
-        pages.push(header.objects.at(object).pages)?;
+        objects.push(*header.objects.at(object))?;
     }
-    Ok(pages)
+    Ok(objects)
 }

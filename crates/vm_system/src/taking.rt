@@ -1,5 +1,5 @@
 // Messages are taken.
-ghost use Rattle.std.specs.Prelude.{◌≡◌, ◌≢◌, ◌+◌, ◌<◌, ◌≤◌, ◌∷◌, ◌++◌, ℕ, List, None, Some, OnOk, OnErr, true, false, [], IfOk, length, slice_get};
+ghost use Rattle.std.specs.Prelude.{◌≡◌, ◌≢◌, ◌+◌, ◌<◌, ◌≤◌, ◌∷◌, ◌++◌, ℕ, List, None, Some, OnOk, OnErr, true, false, [], IfOk, length, reverse, slice_get};
 ghost use Rattle.vm_model.specs.declared.command.Command.TheVariants as command;
 ghost use Rattle.vm_model.specs.declared.message.Channel.{Channel};
 ghost use Rattle.vm_model.specs.declared.message.Channel.TheVariants as channels;
@@ -11,12 +11,13 @@ ghost use Rattle.vm_model.specs.Named.{named};
 ghost use Rattle.vm_system.specs.Making.{Spares, SparesFiles, SparesPaging};
 ghost use Rattle.vm_system.specs.Stands.{FilesAreKept, PagingIsKept};
 ghost use Rattle.vm_legal.specs.Homes.{gives_frame};
+ghost use Rattle.vm_legal.specs.Outside.{is_file, is_shared, kind_of};
 ghost use Rattle.vm_hosts.specs.Steps.{Going, Step};
 ghost use Rattle.vm_system.specs.Steps.{DevicesHaveCause, takes_any, takes_up};
 ghost use Rattle.vm_system.specs.Takings.{Followed, MayBeCut, MayTakeFrom, PagerHasAnswered, Took};
 
 use crate::state::State;
-use vm_base::{ChannelId, HostId, NoMemory, ObjectId};
+use vm_base::{ChannelId, HostId, NoMemory, ObjectId, ObjectKind};
 use vm_model::{Channel, Message};
 use vm_outside::{Armed, Backing};
 
@@ -124,10 +125,23 @@ impl State {
         ensures later { ⟦<Armed<P> as Backing>⟧.later paging.old paging.new }
         ensures files_later { ⟦<Armed<F> as Backing>⟧.later files.old files.new }
     {
-        if (object.0 as usize) < self.files.len() {
-            self.take_filed(line, number, host, object, files)
-        } else {
-            self.take_paged(line, number, host, object, paging)
+        match self.kind(object) {
+            ObjectKind::Temp => self.take_paged(line, number, host, object, paging),
+            ObjectKind::File => self.take_filed(line, number, host, object, files),
+            ObjectKind::Shared => self.take_shared(line, number, host, object),
+            ObjectKind::Wild => unreachable!(),
+        }
+    }
+
+    // The kind of an object: temporary, where none with its number is declared.
+    fn kind(&self, object: ObjectId) -> ObjectKind
+        ghost given: { Step }
+        requires { self.now.declared.items ≡ reverse given.header.objects.items }
+        ensures { result ≡ kind_of given.header object.0 }
+    {
+        match self.declared.get(object.0 as usize) {
+            Some(declared) => declared.kind,
+            None => ObjectKind::Temp,
         }
     }
 
@@ -175,7 +189,7 @@ impl State {
     ) -> Result<(), NoMemory>
         ghost given: { Step }
         requires may { MayTakeFrom given line number (channels.Up host object) self.old }
-        requires declared { object.0 < named given.header }
+        requires file { is_file given.header object.0 ≡ true }
         requires files { FilesAreKept given.header given.outside (F.area files.old.inner) self.old }
         ensures took { OnOk result (Took given self.new) }
         ensures cut { OnErr result (MayBeCut given self.old.history.items self.new.history.items) }
@@ -195,6 +209,36 @@ impl State {
         let fresh = replies.len() + 1;
         self.take_first(line, number);
         self.commit(replies);
+        self.follow(host, fresh, washed)
+    }
+
+    // The server of shared memory takes a message.
+    fn take_shared(
+        &mut self,
+        line: Option<u32>,
+        number: ChannelId,
+        host: HostId,
+        object: ObjectId,
+    ) -> Result<(), NoMemory>
+        ghost given: { Step }
+        requires may { MayTakeFrom given line number (channels.Up host object) self.old }
+        requires shared { is_shared given.header object.0 ≡ true }
+        ensures took { OnOk result (Took given self.new) }
+        ensures cut { OnErr result (MayBeCut given self.old.history.items self.new.history.items) }
+        ensures spares { Spares given.header given.outside self.old self.new }
+    {
+        let Some(message) = self.ports.head(number) else {
+            unreachable!()
+        };
+        let washed = gives_frame(message);
+        let words = self.server.answer(host, object, message)?;
+        let Some(count) = words.len().checked_add(2) else {
+            return Err(NoMemory);
+        };
+        self.reserve(count)?;
+        let fresh = words.len() + 1;
+        self.take_first(line, number);
+        self.commit(words);
         self.follow(host, fresh, washed)
     }
 

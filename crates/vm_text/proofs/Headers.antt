@@ -1,9 +1,10 @@
--- Where no header line is one for which nothing is built, a script has one host, and each object that it declares is a file.
-use Rattle.std.proofs.Common.{◌≡◌, ℕ, ◌+◌, ◌-◌, ◌≤◌, nat_lt, nat_le, Bool, true, false, ◌&&◌, ◌||◌, cond, List, [], ◌∷◌, length, reverse, replicate, Option, Some, None, Result, Ok, Err, refl, ap, arith, slice_set, subst}
+-- Where no header line is one for which nothing is built, a script declares files and shared objects alone.
+use Rattle.std.proofs.Common.{◌≡◌, ℕ, inl, inr, ◌+◌, ◌-◌, ◌≤◌, nat_lt, nat_le, Bool, true, false, ◌&&◌, ◌||◌, cond, List, [], ◌∷◌, length, reverse, replicate, Option, Some, None, Result, Ok, Err, refl, ap, arith, slice_set, subst}
 use Rattle.std.proofs.lemmas.Bool.{ltb-true, ltb-false}
 use Rattle.std.proofs.lemmas.List.{length-set, length-replicate, length-reverse}
 use Rattle.std.proofs.lemmas.List.Elements.{All-nil, All-cons}
 use Rattle.std.specs.List.{All}
+use Rattle.vm_base.specs.declared.ids.ObjectKind.{ObjectKind}
 use Rattle.vm_base.specs.declared.ids.ObjectKind.TheVariants as kinds
 use Rattle.vm_model.specs.declared.fault.ScriptFault.{ScriptFault}
 use Rattle.vm_model.specs.declared.fault.ScriptFault.TheVariants.{UnknownWord}
@@ -14,13 +15,16 @@ use Rattle.vm_text.specs.declared.meaning.HeaderWord.TheVariants as heads
 use Rattle.vm_text.specs.declared.meaning.CommandWord.{CommandWord}
 use Rattle.vm_text.specs.Forms.{Heading, header_words, command_words, stands_already, header_form, hosts_line, frames_line, page_line, slots_line, new_name, object_line, command_form, host_in_word, page_size}
 use Rattle.vm_text.specs.Script.{Reading, nothing_read, Whole, whole_of, header_line, command_line, line_read, lines_read, script_of, whole_script}
-use Rattle.vm_text.specs.Unbuilt.{names_several, is_unbuilt_header, is_unbuilt, unbuilt_from, IsBuilt}
+use Rattle.vm_text.specs.Unbuilt.{is_unbuilt_header, is_unbuilt, unbuilt_from, IsBuilt, IsSuppliedKind}
 use Rattle.vm_text.specs.Words.{◌>>=◌, lines_of, words_of, is_comment, word_in, one_word, two_words, number_of, number_between, within}
 
--- at most one host so far, and no object but files
+-- these objects are such
+abbrev Supplied : List Declared → Type 0
+Supplied objects = All (λ (object : Declared). IsSuppliedKind object.kind) objects
+
+-- those that were declared so far are
 record SoFar (heading : Heading) : Type 0 where
-  few : length heading.frames ≤ 1
-  files : All (λ object. object.kind ≡ kinds.File) heading.objects
+  supplied : Supplied heading.objects
 
 -- what went before, and what came of it
 bound : {A B : Type 0} (r : Result A ScriptFault) (f : A → Result B ScriptFault) (y : B) → (r >>= f) ≡ Ok y → (x : A) × (r ≡ Ok x) × (f x ≡ Ok y)
@@ -36,25 +40,14 @@ reached : {A F : Type 0} (t : Bool) (r : Result A F) (fault : F) (y : A) → con
 reached true r fault y is = (refl, is)
 reached false r fault y is = absurd (cc)
 
-one_at_most : (read : Result ℕ ScriptFault) (n : ℕ) → elim read [ Ok number ↦ nat_lt 1 number | Err fault ↦ false ] ≡ false → (read >>= within 1 8) ≡ Ok n → n ≤ 1
-one_at_most (Ok number) n few is =
-    let e = (reached (nat_le 1 number && nat_le number 8) (Ok number) _ n is).1 in
-    let b = ltb-false 1 number few in
-    let same : number ≡ n = cc in
-    omega (arith, b, same)
-one_at_most (Err fault) n few is = absurd (cc)
-
-hosts_ok : (old new : Heading) (line : List (List ℕ)) → hosts_line old line ≡ Ok new → names_several line ≡ false → SoFar old → SoFar new
-hosts_ok old new [] is few so = absurd (cc)
-hosts_ok old new (a ∷ []) is few so = absurd (cc)
-hosts_ok old new (a ∷ b ∷ []) is few so =
-    let one = bound (number_between 1 8 a) _ new is in
-    let two = bound (number_between 2 4096 b) _ new one.2 in
-    let new_is : record old { frames = replicate one.0 two.0 } ≡ new = cc in
-    let less = one_at_most (number_of a) one.0 few one.1 in
-    let made : SoFar (record old { frames = replicate one.0 two.0 }) = record { few = rw (length-replicate one.0 two.0) less; files = so.files } in
+hosts_ok : (old new : Heading) (line : List (List ℕ)) → hosts_line old line ≡ Ok new → SoFar old → SoFar new
+hosts_ok old new line is so =
+    let one = bound (two_words line) _ new is in
+    let two = bound (number_between 1 8 one.0.0) _ new one.2 in
+    let three = bound (number_between 2 4096 one.0.1) _ new two.2 in
+    let new_is : record old { frames = replicate two.0 three.0 } ≡ new = cc in
+    let made : SoFar (record old { frames = replicate two.0 three.0 }) = record { supplied = so.supplied } in
     subst SoFar new_is made
-hosts_ok old new (a ∷ b ∷ c ∷ line) is few so = absurd (cc)
 
 frames_ok : (old new : Heading) (line : List (List ℕ)) → frames_line old line ≡ Ok new → SoFar old → SoFar new
 frames_ok old new line is so =
@@ -62,7 +55,7 @@ frames_ok old new line is so =
     let two = bound (host_in_word old one.0.0) _ new one.2 in
     let three = bound (number_between 2 4096 one.0.1) _ new two.2 in
     let new_is : record old { frames = slice_set old.frames two.0.0 three.0 } ≡ new = cc in
-    let made : SoFar (record old { frames = slice_set old.frames two.0.0 three.0 }) = record { few = rw (length-set old.frames two.0.0 three.0) so.few; files = so.files } in
+    let made : SoFar (record old { frames = slice_set old.frames two.0.0 three.0 }) = record { supplied = so.supplied } in
     subst SoFar new_is made
 
 page_ok : (old new : Heading) (line : List (List ℕ)) → page_line old line ≡ Ok new → SoFar old → SoFar new
@@ -70,7 +63,7 @@ page_ok old new line is so =
     let one = bound (one_word line) _ new is in
     let two = bound (page_size one.0) _ new one.2 in
     let new_is : record old { size = Some two.0 } ≡ new = cc in
-    let made : SoFar (record old { size = Some two.0 }) = record { few = so.few; files = so.files } in
+    let made : SoFar (record old { size = Some two.0 }) = record { supplied = so.supplied } in
     subst SoFar new_is made
 
 slots_ok : (old new : Heading) (line : List (List ℕ)) → slots_line old line ≡ Ok new → SoFar old → SoFar new
@@ -78,29 +71,29 @@ slots_ok old new line is so =
     let one = bound (one_word line) _ new is in
     let two = bound (number_between 0 65536 one.0) _ new one.2 in
     let new_is : record old { slots = Some two.0 } ≡ new = cc in
-    let made : SoFar (record old { slots = Some two.0 }) = record { few = so.few; files = so.files } in
+    let made : SoFar (record old { slots = Some two.0 }) = record { supplied = so.supplied } in
     subst SoFar new_is made
 
-file_ok : (old new : Heading) (line : List (List ℕ)) → object_line kinds.File old line ≡ Ok new → SoFar old → SoFar new
-file_ok old new line is so =
+object_ok : (kind : ObjectKind) (old new : Heading) (line : List (List ℕ)) → IsSuppliedKind kind → object_line kind old line ≡ Ok new → SoFar old → SoFar new
+object_ok kind old new line supplied is so =
     let one = bound (two_words line) _ new is in
     let two = bound (new_name old one.0.0) _ new one.2 in
     let three = bound (number_between 1 4096 one.0.1) _ new two.2 in
-    let object : Declared = record { name = two.0; kind = kinds.File; pages = three.0 } in
+    let object : Declared = record { name = two.0; kind = kind; pages = three.0 } in
     let new_is : record old { objects = object ∷ old.objects } ≡ new = cc in
-    let made : SoFar (record old { objects = object ∷ old.objects }) = record { few = so.few; files = All-cons (λ o. o.kind ≡ kinds.File) object old.objects refl so.files } in
+    let made : SoFar (record old { objects = object ∷ old.objects }) = record { supplied = All-cons (λ (o : Declared). IsSuppliedKind o.kind) object old.objects supplied so.supplied } in
     subst SoFar new_is made
 
-header_ok : (old new : Heading) (word : HeaderWord) (line : List (List ℕ)) → header_form old word line ≡ Ok new → is_unbuilt_header word line ≡ false → SoFar old → SoFar new
-header_ok old new heads.Hosts line is built so = hosts_ok old new line is built so
+header_ok : (old new : Heading) (word : HeaderWord) (line : List (List ℕ)) → header_form old word line ≡ Ok new → is_unbuilt_header word ≡ false → SoFar old → SoFar new
+header_ok old new heads.Hosts line is built so = hosts_ok old new line is so
 header_ok old new heads.Frames line is built so = frames_ok old new line (reached (nat_lt 0 (length old.frames)) (frames_line old line) _ new is).1 so
 header_ok old new heads.Page line is built so = page_ok old new line is so
 header_ok old new heads.Slots line is built so = slots_ok old new line is so
-header_ok old new heads.File line is built so = file_ok old new line is so
-header_ok old new heads.Shared line is built so = absurd (cc)
+header_ok old new heads.File line is built so = object_ok kinds.File old new line (inl refl) is so
+header_ok old new heads.Shared line is built so = object_ok kinds.Shared old new line (inr refl) is so
 header_ok old new heads.Wild line is built so = absurd (cc)
 
-header_line_ok : (old new : Reading) (word : HeaderWord) (line : List (List ℕ)) → header_line old word line ≡ Ok new → is_unbuilt_header word line ≡ false → SoFar old.heading → SoFar new.heading
+header_line_ok : (old new : Reading) (word : HeaderWord) (line : List (List ℕ)) → header_line old word line ≡ Ok new → is_unbuilt_header word ≡ false → SoFar old.heading → SoFar new.heading
 header_line_ok old new word line is built so =
     let read = passed (nat_lt 0 (length old.commands) || stands_already old.heading word) _ _ new is in
     let one = bound (header_form old.heading word line) _ new read in
@@ -117,7 +110,7 @@ command_line_ok number old new word line is so =
 -- a line by the meanings of its first word, as a header and as a command
 meant_ok : (number : ℕ) (old new : Reading) (header : Option HeaderWord) (command : Option CommandWord) (line : List (List ℕ))
     → ◌≡◌ {A = Result Reading ScriptFault} (elim header [ Some meaning ↦ header_line old meaning line | None ↦ elim command [ Some meaning ↦ command_line number old meaning line | None ↦ Err UnknownWord ] ]) (Ok new)
-    → ◌≡◌ {A = Bool} (elim header [ Some meaning ↦ is_unbuilt_header meaning line | None ↦ false ]) false → SoFar old.heading → SoFar new.heading
+    → ◌≡◌ {A = Bool} (elim header [ Some meaning ↦ is_unbuilt_header meaning | None ↦ false ]) false → SoFar old.heading → SoFar new.heading
 meant_ok number old new (Some meaning) command line is built so = header_line_ok old new meaning line is built so
 meant_ok number old new None (Some meaning) line is built so = command_line_ok number old new meaning line is so
 meant_ok number old new None None line is built so = absurd (cc)
@@ -131,18 +124,11 @@ line_ok number old new [] is built so = let same : old ≡ new = cc in subst (λ
 line_ok number old new (word ∷ line) is built so =
     commented number old new (is_comment word) _ is (λ meant. meant_ok number old new (word_in header_words word) (word_in command_words word) line meant built so) so
 
--- one host at the least, and at the most
 ended : (number : ℕ) (reading : Reading) (script : Script) → lines_read number reading [] ≡ Ok (whole_script script) → SoFar reading.heading → IsBuilt script.header
 ended number reading script is so =
     let end = reached (nat_lt 0 (length reading.heading.frames)) (Ok (whole_of reading (number - 1))) _ (whole_script script) is in
-    let some = ltb-true 0 (length reading.heading.frames) end.0 in
     let whole : whole_of reading (number - 1) ≡ whole_script script = cc in
-    let frames : length reading.heading.frames ≡ length (reverse script.header.frames.items) = ap (λ (w : Whole). length w.frames) whole in
-    let count = length-reverse script.header.frames.items in
-    record {
-      one_host = omega (arith, some, so.few, frames, count);
-      files = subst (All (λ object. object.kind ≡ kinds.File)) (ap (λ (w : Whole). w.objects) whole) so.files;
-    }
+    record { supplied = subst Supplied (ap (λ (w : Whole). w.objects) whole) so.supplied }
 
 passed_over : (t : Bool) (n : ℕ) (more : Option ℕ) → cond t (Some n) more ≡ None → (t ≡ false) × (more ≡ None)
 passed_over true n more is = absurd (cc)
@@ -164,4 +150,4 @@ lines_ok number reading (line ∷ lines) script is none so =
 
 pub built : (bytes : List ℕ) (script : Script) → unbuilt_from 1 (lines_of bytes) ≡ None → script_of bytes ≡ Ok (whole_script script) → IsBuilt script.header
 built bytes script none is =
-    lines_ok 1 nothing_read (lines_of bytes) script (passed (nat_lt 1048576 (length bytes)) _ _ (whole_script script) is) none (record { few = omega arith; files = All-nil (λ object. object.kind ≡ kinds.File) })
+    lines_ok 1 nothing_read (lines_of bytes) script (passed (nat_lt 1048576 (length bytes)) _ _ (whole_script script) is) none (record { supplied = All-nil (λ (object : Declared). IsSuppliedKind object.kind) })

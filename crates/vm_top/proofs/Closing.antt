@@ -1,5 +1,5 @@
 -- A run that has ended is legal as far as it goes.
-use Rattle.std.proofs.Common.{◌≡◌, ℕ, ◌≤◌, inl, inr, List, [], ◌∷◌, ◌++◌, reverse, refl, sym, arith, slice_get, None, Some, Option, append-nil}
+use Rattle.std.proofs.Common.{false, true, ◌≡◌, ℕ, ◌≤◌, inl, inr, List, [], ◌∷◌, ◌++◌, reverse, refl, sym, arith, slice_get, None, Some, Option, append-nil}
 use Rattle.std.specs.Prelude.{IfSome}
 use Rattle.vm_model.specs.declared.event.Event.{Event}
 use Rattle.vm_model.specs.declared.command.Numbered.{Numbered}
@@ -10,6 +10,7 @@ use Rattle.vm_legal.specs.Legal.{LegalSoFar}
 use Rattle.vm_legal.specs.Outside.{Outside}
 use Rattle.vm_legal.specs.Prompt.{NoneInVain}
 use Rattle.vm_legal.proofs.Groups.{open_of}
+use Rattle.vm_shared.proofs.Pages.{legal}
 use Rattle.vm_top.specs.Run.{IsOutOfEvents, IsPart, IsWholeRun}
 
 some_frames : (frames : Option ℕ) → IfSome frames (λ count. 0 ≤ count)
@@ -48,10 +49,14 @@ none_legal script outside = record {
     frames = λ host. some_frames (slice_get (reverse script.header.frames.items) host);
     prompt = tt;
     paid = tt;
+    served = tt;
+    one_writer = λ writer reader object page shared apart can. absurd (let bad : false ≡ true = can.here in cc);
+    pages = λ object page shared. legal script.header outside [] tt tt object page shared;
   };
   rests = record {
     prompt = λ host below. record { waits = none_waits script.header host; swept = record { pages = λ object page temporary away. refl; controls = λ object temporary away. refl; declared_pages = λ object page below unheld. refl; declared_controls = λ object below unheld. refl } };
     paid = none_owed script.header;
+    served = λ object page shared some. absurd (some refl);
   };
 }
 

@@ -10,7 +10,7 @@ use Rattle.vm_model.specs.declared.script.Header.{Header}
 use Rattle.vm_model.specs.Moments.{before_last_line}
 use Rattle.vm_model.specs.Summary.{count_of, is_line}
 use Rattle.vm_legal.specs.Steps.{before_step, takings}
-use Rattle.vm_system.specs.Steps.{arms, device_of, is_device, took_any, took_up}
+use Rattle.vm_system.specs.Steps.{arms, is_kept_in, took_any, took_up}
 use Rattle.vm_top.specs.Arming.{is_untouched}
 
 -- a step that begins with a line has one line more
@@ -54,7 +54,7 @@ pub untouched_line : (header : Header) (who : Device) (n : Numbered) (run : List
 untouched_line header who n run [] old unarmed front un = (refl, subst (λ z. is_untouched header who run z ≡ true) front refl)
 untouched_line header who n run (event.Line line ∷ past) old unarmed front un = (refl, subst (λ z. is_untouched header who run z ≡ true) front (rw unarmed at un))
 untouched_line header who n run (event.Taken (Up host object) m ∷ past) old unarmed front un =
-    let both = unasked (is_device who (device_of header object)) (is_untouched header who (n ∷ run) past) un in
+    let both = unasked (is_kept_in header who object) (is_untouched header who (n ∷ run) past) un in
     (both.0, (untouched_line header who n run past old unarmed front both.1).1)
 untouched_line header who n run (event.Taken (Down host object control) m ∷ past) old unarmed front un = (refl, (untouched_line header who n run past old unarmed front un).1)
 untouched_line header who n run (e ∷ past) old unarmed front un = untouched_line header who n run past old unarmed front un
@@ -64,7 +64,7 @@ pub untouched_taking : (header : Header) (who : Device) (n : Numbered) (run : Li
 untouched_taking header who n run [] old front more un = absurd (omega arith)
 untouched_taking header who n run (event.Line line ∷ past) old front more un = absurd (omega arith)
 untouched_taking header who n run (event.Taken (Up host object) m ∷ past) old front more un =
-    let both = unasked (is_device who (device_of header object)) (is_untouched header who (n ∷ run) past) un in
+    let both = unasked (is_kept_in header who object) (is_untouched header who (n ∷ run) past) un in
     (both.0, subst (λ z. is_untouched header who (n ∷ run) z ≡ true) front both.1)
 untouched_taking header who n run (event.Taken (Down host object control) m ∷ past) old front more un = (refl, subst (λ z. is_untouched header who (n ∷ run) z ≡ true) front un)
 untouched_taking header who n run (e ∷ past) old front more un = untouched_taking header who n run past old front more un
@@ -75,10 +75,10 @@ pub untouched_any : (header : Header) (who : Device) (run : List Numbered) (new 
 untouched_any header who run [] old front took un = absurd (cc)
 untouched_any header who run (event.Line line ∷ past) old front took un = absurd (cc)
 untouched_any header who [] (event.Taken (Up host object) m ∷ past) old front took un =
-    let both = unasked (is_device who (device_of header object)) (is_untouched header who [] past) un in
+    let both = unasked (is_kept_in header who object) (is_untouched header who [] past) un in
     (both.0, subst (λ z. is_untouched header who [] z ≡ true) front both.1)
 untouched_any header who (n ∷ run) (event.Taken (Up host object) m ∷ past) old front took un =
-    let both = unasked (is_device who (device_of header object)) (is_untouched header who (n ∷ run) past) un in
+    let both = unasked (is_kept_in header who object) (is_untouched header who (n ∷ run) past) un in
     (both.0, subst (λ z. is_untouched header who (n ∷ run) z ≡ true) front both.1)
 untouched_any header who run (event.Taken (Down host object control) m ∷ past) old front took un = absurd (cc)
 untouched_any header who [] (e ∷ past) old front took un = untouched_any header who [] past old front took un
@@ -89,9 +89,9 @@ untouched_up : (header : Header) (who : Device) (run : List Numbered) (h : List 
 untouched_up header who run [] took un = absurd (cc)
 untouched_up header who run (event.Line line ∷ past) took un = absurd (cc)
 untouched_up header who [] (event.Taken (Up host object) m ∷ past) took un =
-    let none = (unasked (is_device who (device_of header object)) (is_untouched header who [] past) un).0 in absurd (let bad : true ≡ false = sym took ∙ none in cc)
+    let none = (unasked (is_kept_in header who object) (is_untouched header who [] past) un).0 in absurd (let bad : true ≡ false = sym took ∙ none in cc)
 untouched_up header who (n ∷ run) (event.Taken (Up host object) m ∷ past) took un =
-    let none = (unasked (is_device who (device_of header object)) (is_untouched header who (n ∷ run) past) un).0 in absurd (let bad : true ≡ false = sym took ∙ none in cc)
+    let none = (unasked (is_kept_in header who object) (is_untouched header who (n ∷ run) past) un).0 in absurd (let bad : true ≡ false = sym took ∙ none in cc)
 untouched_up header who run (event.Taken (Down host object control) m ∷ past) took un = absurd (cc)
 untouched_up header who [] (e ∷ past) took un = untouched_up header who [] past took un
 untouched_up header who (n ∷ run) (e ∷ past) took un = untouched_up header who (n ∷ run) past took un

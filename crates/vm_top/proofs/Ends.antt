@@ -1,6 +1,6 @@
 -- What was read is what the source had, and how a run ends tells the status.
 use Rattle.std.proofs.Common.{◌≡◌, ℕ, ◌<◌, ◌≤◌, ◌^◌, ◌⊎◌, inl, inr, List, [], ◌++◌, length, true, refl, ap, sym, ◌∙◌, subst, arith, Some, None, Option, Ok, Err, nat_lt}
-use Rattle.std.specs.Prelude.{IfSome, IsErrOf, OnOk, Result}
+use Rattle.std.specs.Prelude.{IfSome, IsErrOf, OnOk, Result, get_or, ◌||◌, ◌≢◌}
 use Rattle.vm_base.specs.declared.failure.WriteStop.{WriteStop}
 use Rattle.vm_base.specs.declared.failure.WriteStop.TheVariants as stop
 use Rattle.std.specs.Io.KnownBytes.{Appends, Consumes, IsAtEnd}
@@ -13,13 +13,14 @@ use Rattle.vm_model.specs.declared.script.Declared.{Declared}
 use Rattle.vm_model.specs.declared.script.Header.{Header}
 use Rattle.vm_model.specs.declared.script.Script.{Script}
 use Rattle.vm_model.specs.Named.{declared, named}
-use Rattle.vm_model.proofs.Names.{each_declared, named_once, none_temporary}
+use Rattle.vm_model.proofs.Names.{each_declared, named_once}
+use Rattle.vm_base.specs.declared.ids.ObjectKind.{ObjectKind}
 use Rattle.vm_base.specs.declared.ids.ObjectKind.TheVariants as kinds
 use Rattle.pg_file.specs.Stands.{name_kept}
 use Rattle.std.specs.List.{All}
 use Rattle.vm_model.specs.Ranges.{IsBetween, KeepsRanges}
 use Rattle.vm_text.specs.Script.{Whole, script_of, whole_script}
-use Rattle.vm_text.specs.Unbuilt.{IsBuilt, unbuilt_of}
+use Rattle.vm_text.specs.Unbuilt.{IsBuilt, IsSuppliedKind, unbuilt_of}
 use Rattle.vm_top.specs.declared.top.Status.{Status}
 use Rattle.vm_top.specs.declared.top.Status.TheVariants as status
 use Rattle.vm_top.specs.declared.words.Report.{Report}
@@ -28,7 +29,8 @@ use Rattle.vm_top.specs.Ending.{EndsAs, RunHasEnded, Tells, WroteStuck, status_a
 use Rattle.vm_top.specs.Reading.{ReadWhole}
 use Rattle.vm_top.specs.Run.{CutIn, IsOutOfEvents, IsRunnable, IsStuck, IsWholeRun, report_text}
 use Rattle.vm_legal.specs.Legal.{LegalSoFar}
-use Rattle.vm_legal.specs.Outside.{Outside, is_file, is_file_kept, is_file_kind}
+use Rattle.vm_legal.specs.Outside.{Outside, is_file_kind, is_shared_kind}
+use Rattle.vm_quiet.specs.Quiet.{AllSupplied}
 use Rattle.vm_legal.proofs.Groups.{cut_of}
 use Rattle.vm_top.specs.Top.{IsBad, IsReadFrom, IsBadFrom, IsUnbuiltFrom, IsHeaderBuilt, NothingRun, IsRunDone, IsEventLimit, IsStopped, IsNotBuilt, IsOutputFault, IsNoMemory, WroteFailed, WroteStopped, bad_text, not_built_text, stopped_text}
 use Rattle.vm_top.specs.Writing.{WroteStart}
@@ -192,15 +194,21 @@ header_wrote told outside script h line before after s stopped empty tells =
     (line, stopped, (start.0, rw (← header_text h line empty) start.1))
 
 -- a script that keeps its ranges and has one host, and whose objects are files, can be run
-file_kept : (object : Option Declared) (one : Declared) → object ≡ Some one → one.kind ≡ kinds.File → is_file_kept object ≡ true
-file_kept object one is file = rw is (ap is_file_kind file)
+-- an object of such a kind is a file or a shared one, and no temporary one
+supplied_kind : (kind : ObjectKind) → IsSuppliedKind kind → is_file_kind kind || is_shared_kind kind ≡ true
+supplied_kind kind (inl file) = rw file refl
+supplied_kind kind (inr shared) = rw shared refl
 
-file_at : (header : Header) → All (λ object. object.kind ≡ kinds.File) header.objects.items → (o : ℕ) → o < named header → is_file header o ≡ true
-file_at header files o below =
-    let found = each_declared (λ object. object.kind ≡ kinds.File) header o files below in
-    let kept = file_kept (declared header o) found.0 found.1 found.2 in
+made_kind : (kind : ObjectKind) → IsSuppliedKind kind → kind ≢ kinds.Temp
+made_kind kind (inl file) is = let bad : kinds.File ≡ kinds.Temp = sym file ∙ is in cc
+made_kind kind (inr shared) is = let bad : kinds.Shared ≡ kinds.Temp = sym shared ∙ is in cc
+
+supplied_at : (header : Header) → All (λ (object : Declared). IsSuppliedKind object.kind) header.objects.items → AllSupplied header
+supplied_at header each o below =
+    let found = each_declared (λ (object : Declared). IsSuppliedKind object.kind) header o each below in
+    let kind = supplied_kind found.0.kind found.2 in
     let within : nat_lt o (named header) ≡ true = grind (arith, nat_tests) in
-    rw (within, kept) refl
+    rw (within, found.1) kind
 
 few_frames : (frames : List ℕ) → All (IsBetween 2 4096) frames → All (λ f. f < 2 ^ 32) frames
 few_frames frames within i d below = let most = (within i d below).1 in omega arith
@@ -213,12 +221,11 @@ runnable script keeps built = record {
       hosts = keeps.hosts;
       few = few_frames script.header.frames.items keeps.frames;
       objects = keeps.objects;
-      kinds = none_temporary script.header.objects.items built.files;
+      kinds = λ i d below. made_kind (get_or script.header.objects.items i d).kind (built.supplied i d below);
     };
-    paged = file_at script.header built.files;
+    supplied = supplied_at script.header built.supplied;
     names = λ one other first second same. named_once script.header name_kept (λ object. refl) keeps.names one other (file_below script.header one first) (file_below script.header other second) same;
   };
-  one_host = built.one_host;
   slots = keeps.slots;
   ranges = keeps.commands;
 }

@@ -1,18 +1,18 @@
 -- What the paging area and the files keep, in terms of the history alone.
-use Rattle.std.proofs.Common.{◌≡◌, ℕ, ◌*◌, ◌<◌, Bool, true, false, List, [], ◌∷◌, Option, Some, None, refl, ap, sym, ◌∙◌, subst, arith, nat_lt}
-use Rattle.std.specs.Prelude.{IsSome, ◌&&◌, if◌then◌else◌, length, is_some, not, slice_get, unwrap_or}
+use Rattle.std.proofs.Common.{◌≡◌, ℕ, ◌*◌, ◌<◌, Bool, true, false, List, [], ◌∷◌, Option, Some, None, refl, ap, sym, ◌∙◌, subst, arith, nat_lt, inl, inr, ◌≤◌}
+use Rattle.std.specs.Prelude.{IsSome, suc, zero, ◌&&◌, ◌||◌, if◌then◌else◌, length, is_some, not, slice_get, unwrap_or}
 use Rattle.std.specs.List.{All}
 use Rattle.std.proofs.lemmas.List.Elements.{All-nil, All-cons}
 use Rattle.std.proofs.lemmas.Bool.{and_parts}
 use Rattle.std.proofs.lemmas.Bool.Decides.{nat_tests}
-use Rattle.std.proofs.lemmas.Option.{slice_get_within}
+use Rattle.std.proofs.lemmas.Option.{slice_get_cases, slice_get_within}
 use Rattle.vm_model.specs.declared.event.Event.{Event}
 use Rattle.vm_model.specs.declared.script.Declared.{Declared}
 use Rattle.vm_model.specs.declared.script.Header.{Header}
 use Rattle.vm_model.specs.Named.{declared, named}
 use Rattle.vm_model.proofs.Names.{each_declared}
 use Rattle.vm_legal.specs.Licences.{tells}
-use Rattle.vm_legal.specs.Outside.{Outside, Told as FilesTold, Untold, are_untold, is_file, is_file_kept}
+use Rattle.vm_legal.specs.Outside.{Outside, Told as FilesTold, Untold, are_untold, is_file, is_file_kept, is_file_kind}
 use Rattle.vm_legal.specs.Pagers.{is_lost, last_return, slot_at}
 use Rattle.vm_outside.specs.Areas.{Told, read_at}
 use Rattle.pg_file.specs.Stands.{IsStartTold, name_kept, name_of}
@@ -23,7 +23,7 @@ use Rattle.pg_slots.specs.declared.slot_row.Held.TheVariants as held
 use Rattle.pg_default.specs.Stands.{PagerStands, content_of, is_ended}
 use Rattle.vm_system.specs.Keeping.{FilesAreTold, FilesCarry, PagingHasPages, PagingKeepsPages}
 use Rattle.vm_system.specs.Stands.{AllTold, AreNumbered, PagingIsKept as SystemKept}
-use Rattle.vm_top.specs.Run.{are_told, only_host, outside_of, told_of as bytes_told}
+use Rattle.vm_top.specs.Run.{are_told, areas_told, is_told, outside_of, told_of as bytes_told}
 use Rattle.vm_system.specs.declared.state.State.{State}
 
 -- a page that has a slot, and of which bytes were stored, is kept there
@@ -71,29 +71,46 @@ kept_pages header host outside areas s pager found kept = record { at = λ pagin
     by None is paging = absurd (let some = tells paging in let bad : false ≡ true = ap is_some (sym is) ∙ some in cc)
     by (Some was) is paging = (was, is, at_page paging was is)
 
--- the pager of the only host
-pub pager_of : (pagers : List SlotTable) → length pagers ≡ 1 → (pager : SlotTable) × (slice_get pagers only_host ≡ Some pager)
-pager_of [] one = absurd (let bad : 0 ≡ 1 = one in omega (arith, bad))
-pager_of (pager ∷ more) one = (pager, refl)
+-- the pager of a host
+pub pager_of : (pagers : List SlotTable) (host : ℕ) → host < length pagers → (pager : SlotTable) × (slice_get pagers host ≡ Some pager)
+pager_of pagers host below = elim (slice_get_cases pagers host).1 [
+  | inl found ↦ (found.0, found.2)
+  | inr none ↦ absurd (let past : length pagers ≤ host = none.0 in omega (arith, below, past))
+]
 
--- the paging areas of the pagers are told, where the outside says so of the only host's
-pub all_told : (header : Header) (files areas : List ℕ → Told) (pagers : List SlotTable) → length header.frames.items ≡ 1 → AreNumbered header pagers → (outside_of files areas header).paging ≡ true → AllTold areas pagers
-all_told header files areas pagers one numbered paging h pager found =
-    let below : h < length pagers = slice_get_within pagers h pager found in
-    let zero : h ≡ only_host = let count = numbered.count in omega (arith, below, one, count) in
-    subst (λ z. IsSome (areas (area_name z))) (sym (numbered.hosts h pager found ∙ zero)) paging
+-- where the areas of so many hosts are told, that of each of them is
+area_told : (areas : List ℕ → Told) (hosts host : ℕ) → areas_told areas hosts ≡ true → host < hosts → is_some (areas (area_name host)) ≡ true
+area_told areas zero host told below = absurd (omega (arith, below))
+area_told areas (suc hosts) host told below =
+    let parts = and_parts (areas_told areas hosts) (is_some (areas (area_name hosts))) told in
+    by_number (nat_lt host hosts) refl (λ less. area_told areas hosts host parts.0 less)
+  where
+    by_number : (b : Bool) → nat_lt host hosts ≡ b → (host < hosts → is_some (areas (area_name host)) ≡ true) → is_some (areas (area_name host)) ≡ true
+    by_number true is lower = lower (grind (arith, nat_tests))
+    by_number false is lower =
+        let last : is_some (areas (area_name hosts)) ≡ true = (and_parts (areas_told areas hosts) (is_some (areas (area_name hosts))) told).1 in
+        let above : hosts ≤ host = grind (arith, nat_tests) in
+        let same : hosts ≡ host = omega (arith, above, below) in
+        subst (λ z. is_some (areas (area_name z)) ≡ true) same last
+
+-- the paging areas of the pagers are told, where the outside says so
+pub all_told : (header : Header) (files areas : List ℕ → Told) (pagers : List SlotTable) → AreNumbered header pagers → (outside_of files areas header).paging ≡ true → AllTold areas pagers
+all_told header files areas pagers numbered paging h pager found =
+    let below : h < length header.frames.items = subst (λ z. h < z) numbered.count (slice_get_within pagers h pager found) in
+    subst (λ z. is_some (areas (area_name z)) ≡ true) (sym (numbered.hosts h pager found)) (area_told areas (length header.frames.items) h paging below)
 
 -- nothing was returned yet
-pub kept_none : (header : Header) (files areas : List ℕ → Told) (h : List Event) → h ≡ [] → PagingKeepsPages header only_host (outside_of files areas header) areas h
-kept_none header files areas h none = subst (PagingKeepsPages header only_host (outside_of files areas header) areas) (sym none) (record { at = λ paging. by (areas (area_name only_host)) refl paging })
+pub kept_none : (header : Header) (files areas : List ℕ → Told) (h : List Event) → h ≡ [] → (host : ℕ) → host < length header.frames.items → PagingKeepsPages header host (outside_of files areas header) areas h
+kept_none header files areas h none host below =
+    subst (PagingKeepsPages header host (outside_of files areas header) areas) (sym none) (record { at = λ paging. by (areas (area_name host)) refl (area_told areas (length header.frames.items) host paging below) })
   where
-    by : (t : Option (Option (List ℕ))) → areas (area_name only_host) ≡ t → is_some (areas (area_name only_host)) ≡ true → PagingHasPages header only_host areas []
+    by : (t : Option (Option (List ℕ))) → areas (area_name host) ≡ t → is_some (areas (area_name host)) ≡ true → PagingHasPages header host areas []
     by None is some = absurd (let bad : false ≡ true = ap is_some (sym is) ∙ some in cc)
     by (Some was) is some = (was, is, λ o p s bytes slotted. absurd (cc))
 
-carried_none : (header : Header) (areas : List ℕ → Told) → FilesCarry header areas areas []
+pub carried_none : (header : Header) (areas : List ℕ → Told) → FilesCarry header areas areas []
 carried_none header areas = record {
-  kept = λ object was file told. (was, told, λ host may. record { page = λ p fine. refl; least = omega arith });
+  kept = λ object was file told. (was, told, λ host may. record { page = λ p fine. refl; least = omega arith; beyond = λ n none. refl });
   others = λ name was other told. told;
 }
 
@@ -101,11 +118,16 @@ pub files_none : (header : Header) (areas : List ℕ → Told) (h : List Event) 
 files_none header areas h none = subst (FilesCarry header areas areas) (sym none) (carried_none header areas)
 
 -- each declared file tells, where all do
-all_tell : (areas : List ℕ → Told) (objects : List Declared) → are_told areas objects ≡ true → All (λ object. is_some (areas object.name) ≡ true) objects
-all_tell areas [] is = All-nil (λ object. is_some (areas object.name) ≡ true)
+all_tell : (areas : List ℕ → Told) (objects : List Declared) → are_told areas objects ≡ true → All (λ object. is_told areas object ≡ true) objects
+all_tell areas [] is = All-nil (λ object. is_told areas object ≡ true)
 all_tell areas (object ∷ objects) is =
-    let parts = and_parts (is_some (areas object.name)) (are_told areas objects) is in
-    All-cons (λ older. is_some (areas older.name) ≡ true) object objects parts.0 (all_tell areas objects parts.1)
+    let parts = and_parts (is_told areas object) (are_told areas objects) is in
+    All-cons (λ older. is_told areas older ≡ true) object objects parts.0 (all_tell areas objects parts.1)
+
+-- a file of which the tale is asked tells
+tells_file : (file some : Bool) → file ≡ true → not file || some ≡ true → some ≡ true
+tells_file true some is told = told
+tells_file false some is told = absurd (let bad : false ≡ true = is in cc)
 
 -- a file is declared
 pub file_below : (header : Header) (o : ℕ) → is_file header o ≡ true → o < named header
@@ -117,9 +139,10 @@ told_some (Some was) some = (was, refl)
 
 file_told : (header : Header) (areas : List ℕ → Told) (o : ℕ) → are_told areas header.objects.items ≡ true → is_file header o ≡ true → (was : Option (List ℕ)) × (areas (name_of header o) ≡ Some was)
 file_told header areas o told file =
-    let found = each_declared (λ object. is_some (areas object.name) ≡ true) header o (all_tell areas header.objects.items told) (file_below header o file) in
+    let found = each_declared (λ object. is_told areas object ≡ true) header o (all_tell areas header.objects.items told) (file_below header o file) in
     let named_so : name_of header o ≡ found.0.name = ap name_kept found.1 in
-    told_some (areas (name_of header o)) (subst (λ z. is_some (areas z) ≡ true) (sym named_so) found.2)
+    let kept : is_file_kind found.0.kind ≡ true = sym (ap is_file_kept found.1) ∙ (and_parts (nat_lt o (named header)) (is_file_kept (declared header o)) file).1 in
+    told_some (areas (name_of header o)) (subst (λ z. is_some (areas z) ≡ true) (sym named_so) (tells_file (is_file_kind found.0.kind) (is_some (areas found.0.name)) kept found.2))
 
 -- what is told where
 told_apart : (told file paging : Bool) (pages : ℕ → ℕ → List ℕ) → file ≡ true → told ≡ false → (if file then not (are_untold (if told then FilesTold pages else Untold) && file) else paging) ≡ true → ⊥

@@ -2,6 +2,7 @@ pub mod Arms
 pub mod Closing
 pub mod Counting
 pub mod Ends
+pub mod Flattened
 pub mod Keeping
 pub mod Readings
 pub mod Resting

@@ -12,7 +12,9 @@ use Rattle.vm_legal.proofs.Groups.{so_far}
 use Rattle.vm_quiet.specs.Carried.{IsCarried}
 use Rattle.vm_quiet.specs.Quiet.{NobodyWaitsInVain}
 use Rattle.vm_quiet.proofs.Carried.{carried}
-use Rattle.vm_quiet.proofs.Quiet.{quiet}
+use Rattle.vm_shared.specs.Carried.{SharedAreCarried}
+use Rattle.vm_shared.proofs.Answered.{nobody_waits}
+use Rattle.vm_shared.proofs.Carried.{shared_are_carried}
 use Rattle.vm_top.specs.declared.top.Status.{Status}
 use Rattle.vm_top.specs.declared.top.Status.TheVariants as status
 use Rattle.vm_top.specs.declared.words.Report.{Report}
@@ -35,7 +37,7 @@ failed_legal History run outside h before after failed = record {
 }
 failed_legal Summary run outside h before after failed = failed.0
 
-ends_legal : (report : Report) (run : Script) (outside : Outside) (h : List Event) (before after : Option (List ℕ)) (s : Status) → EndsAs report run outside h before after s → s ≢ status.NoMemory → LegalSoFar run outside h
+pub ends_legal : (report : Report) (run : Script) (outside : Outside) (h : List Event) (before after : Option (List ℕ)) (s : Status) → EndsAs report run outside h before after s → s ≢ status.NoMemory → LegalSoFar run outside h
 ends_legal report run outside h before after status.Done ends uncut = whole_so_far run outside h ends.0
 ends_legal report run outside h before after status.EventLimit ends uncut = full_so_far run outside h ends.0
 ends_legal report run outside h before after (status.NotBuilt line) ends uncut = part_so_far run outside _ _ h ends.0.part
@@ -55,13 +57,17 @@ pub waits_for_frames : (report : Report) (run : Script) (outside : Outside) (h :
     → WaitsForFramesAlone (Some run) h
 waits_for_frames report run outside h before after s runs ends uncut delivered =
     let legal = ends_legal report run outside h before after s ends uncut in
-    quiet run.header outside h runs.built.paged (causes_of run outside h legal) legal.holds.paid legal.rests.paid legal.rests.prompt delivered
+    let causes = causes_of run outside h legal in
+    nobody_waits run.header outside h runs.built.supplied causes legal.holds.own_bytes legal.holds.paid legal.rests.paid legal.rests.served legal.rests.prompt delivered
 
 pub carries_all : (report : Report) (run : Script) (outside : Outside) (h : List Event) (before after : Option (List ℕ)) (s : Status) → IsRunnable run → EndsAs report run outside h before after s → s ≢ status.NoMemory
     → CarriesAll (Some run) h
 carries_all report run outside h before after s runs ends uncut =
     let legal = ends_legal report run outside h before after s ends uncut in
-    carried run.header outside h runs.built.paged (causes_of run outside h legal) legal.rests.paid legal.holds.paid
+    let causes = causes_of run outside h legal in (
+      carried run.header outside h causes legal.rests.paid legal.holds.paid,
+      shared_are_carried run.header outside h causes legal.holds.own_bytes legal.holds.paid legal.rests.paid legal.rests.served,
+    )
 
 -- nothing has happened: nobody waits, and nothing is asked
 none_waits : (header : Header) → NobodyWaitsInVain header []
@@ -69,12 +75,19 @@ none_waits header = record { short = λ host task access below waits on. let bad
 
 none_carried : (header : Header) → IsCarried header []
 none_carried header = record {
-  asked = λ host o p is. absurd (cc);
-  opening = λ host o control live ready. let bad : None ≡ Some control = live in absurd (cc);
+  asked = λ host o p ours is. absurd (cc);
+  opening = λ host o control ours live ready. let bad : None ≡ Some control = live in absurd (cc);
+}
+
+none_shared_carried : (header : Header) → SharedAreCarried header []
+none_shared_carried header = record {
+  asked = λ host o p shared is. absurd (cc);
+  unlocking = λ host o p shared here is. absurd (cc);
+  standing = λ o p shared some. absurd (some refl);
 }
 
 pub none_wait_for_frames : (run : Script) (h : List Event) → h ≡ [] → WaitsForFramesAlone (Some run) h
 none_wait_for_frames run h empty = rw empty (λ delivered. none_waits run.header)
 
 pub none_carry : (run : Script) (h : List Event) → h ≡ [] → CarriesAll (Some run) h
-none_carry run h empty = rw empty (none_carried run.header)
+none_carry run h empty = rw empty (none_carried run.header, none_shared_carried run.header)

@@ -1,5 +1,5 @@
 -- A run begins with nothing, is given the commands one after another, and stays legal as far as it goes.
-use Rattle.std.proofs.Common.{◌≡◌, ℕ, ◌+◌, ◌-◌, ◌<◌, ◌≤◌, List, [], ◌∷◌, ◌++◌, length, drop, take, get_or, reverse, refl, ap, sym, ◌∙◌, subst, arith, slice_get, None, Some, Option, append_assoc}
+use Rattle.std.proofs.Common.{false, true, ◌≡◌, ℕ, ◌+◌, ◌-◌, ◌<◌, ◌≤◌, List, [], ◌∷◌, ◌++◌, length, drop, take, get_or, reverse, refl, ap, sym, ◌∙◌, subst, arith, slice_get, None, Some, Option, append_assoc}
 use Rattle.std.specs.Prelude.{IfSome}
 use Rattle.std.proofs.lemmas.List.Elements.{All-get_or}
 use Rattle.std.proofs.lemmas.List.{take-append-drop, get_or-reverse, length-reverse}
@@ -12,6 +12,7 @@ use Rattle.vm_legal.specs.Debts.{IsPaid}
 use Rattle.vm_legal.specs.Legal.{LegalFor}
 use Rattle.vm_legal.specs.Outside.{Outside}
 use Rattle.vm_legal.specs.Prompt.{NoneInVain}
+use Rattle.vm_shared.proofs.Pages.{legal}
 use Rattle.vm_top.specs.Run.{IsRunnable}
 use Rattle.vm_top.specs.Writing.{oldest_items}
 
@@ -47,10 +48,14 @@ legal_start header outside = record {
     frames = λ host. some_frames (slice_get (reverse header.frames.items) host);
     prompt = tt;
     paid = tt;
+    served = tt;
+    one_writer = λ writer reader object page shared apart can. absurd (let bad : false ≡ true = can.here in cc);
+    pages = λ object page shared. legal header outside [] tt tt object page shared;
   };
   rests = record {
     prompt = λ host below. record { waits = start_waits header host; swept = record { pages = λ object page temporary away. refl; controls = λ object temporary away. refl; declared_pages = λ object page below unheld. refl; declared_controls = λ object below unheld. refl } };
     paid = start_paid header;
+    served = λ object page shared some. absurd (some refl);
   };
 }
 

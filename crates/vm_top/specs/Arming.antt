@@ -11,7 +11,7 @@ use Rattle.vm_model.specs.declared.script.Script.{Script}
 use Rattle.vm_model.specs.Summary.{count_of, is_line}
 use Rattle.vm_outside.specs.Arming.{Arming}
 use Rattle.vm_outside.specs.Causes.{CountRises}
-use Rattle.vm_system.specs.Steps.{arms, device_of, devices, is_device}
+use Rattle.vm_system.specs.Steps.{arms, devices, is_kept_in}
 use Rattle.vm_top.specs.Writing.{oldest_items}
 
 -- the commands of a script that have a line in the history
@@ -36,7 +36,7 @@ is_untouched header who [] (event.Line line ∷ past) = true
 is_untouched header who (numbered ∷ before) (event.Line line ∷ past) =
     if is_some (arms who numbered.command) then true else is_untouched header who before past
 is_untouched header who run (event.Taken (Up host object) m ∷ past) =
-    if is_device who (device_of header object) then false else is_untouched header who run past
+    if is_kept_in header who object then false else is_untouched header who run past
 is_untouched header who run (e ∷ past) = is_untouched header who run past
 
 -- where no `fail` of a backing was run it isn't armed; else it is, or an armed failure was reached; it is armed with the last one's number

@@ -1,5 +1,6 @@
 pub mod Arming
 pub mod Ending
+pub mod Flat
 pub mod Reading
 pub mod Resting
 pub mod Run

@@ -5,12 +5,13 @@ use Rattle.vm_model.specs.declared.script.Script.{Script}
 use Rattle.vm_legal.specs.Undelivered.{undelivered}
 use Rattle.vm_quiet.specs.Carried.{IsCarried}
 use Rattle.vm_quiet.specs.Quiet.{NobodyWaitsInVain}
+use Rattle.vm_shared.specs.Carried.{SharedAreCarried}
 
 -- once nothing is undelivered no access of the run waits while frames are reclaimable: whoever waits does so since
 -- its host is short of frames
 abbrev pub WaitsForFramesAlone : Option Script → List Event → Type 0
 WaitsForFramesAlone script history = IfSome script (λ run. undelivered history ≡ [] → NobodyWaitsInVain run.header history)
 
--- whoever is asked in the run has a message on its way
+-- whoever is asked in the run has a message on its way, or it is the server of shared memory, and somebody else has for its page
 abbrev pub CarriesAll : Option Script → List Event → Type 0
-CarriesAll script history = IfSome script (λ run. IsCarried run.header history)
+CarriesAll script history = IfSome script (λ run. IsCarried run.header history × SharedAreCarried run.header history)

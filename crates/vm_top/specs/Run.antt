@@ -1,5 +1,5 @@
 -- What running a script gives.
-use Rattle.std.specs.Prelude.{ℕ, ◌*◌, ◌≡◌, ◌≢◌, ◌⊎◌, ◌<◌, ◌≤◌, ◌&&◌, Bool, true, if◌then◌else◌, List, [], ◌∷◌, ◌++◌, length, Option, Some, None, is_some, unwrap_or}
+use Rattle.std.specs.Prelude.{ℕ, zero, suc, ◌*◌, ◌≡◌, ◌≢◌, ◌⊎◌, ◌<◌, ◌≤◌, ◌&&◌, ◌||◌, not, Bool, true, if◌then◌else◌, List, [], ◌∷◌, ◌++◌, length, Option, Some, None, is_some, unwrap_or}
 use Rattle.std.specs.Io.KnownBytes.{Appends}
 use Rattle.std.specs.List.{All}
 use Rattle.vm_base.specs.Limits.{most_slots}
@@ -17,14 +17,14 @@ use Rattle.vm_model.specs.Summary.{summary_text}
 use Rattle.vm_model.specs.Text.{text}
 use Rattle.vm_legal.specs.Legal.{Legal, LegalFor}
 use Rattle.vm_legal.specs.Follows.{head}
-use Rattle.vm_legal.specs.Outside.{FilesAtStart, Outside, Told as FilesTold, Untold}
+use Rattle.vm_legal.specs.Outside.{FilesAtStart, Outside, Told as FilesTold, Untold, is_file_kind}
 use Rattle.vm_legal.specs.Refusal.{refusal}
 use Rattle.vm_legal.specs.Steps.{before_step}
 use Rattle.vm_legal.specs.Undelivered.{undelivered}
 use Rattle.vm_outside.specs.Areas.{Told, read_at}
 use Rattle.pg_file.specs.Stands.{name_of}
 use Rattle.pg_slots.specs.Contents.{area_name}
-use Rattle.vm_system.specs.Stands.{IsOfFiles}
+use Rattle.vm_system.specs.Stands.{IsSupplied}
 use Rattle.vm_system.specs.Steps.{HasMore, LegalCut, LegalOpen}
 use Rattle.vm_top.specs.Writing.{WroteStart, WroteBeyond}
 use Rattle.vm_top.specs.declared.run.RunEnd.{RunEnd}
@@ -32,19 +32,19 @@ use Rattle.vm_top.specs.declared.run.RunEnd.TheVariants as end
 use Rattle.vm_top.specs.declared.words.Report.{Report}
 use Rattle.vm_top.specs.declared.words.Report.TheVariants.{History, Summary}
 
--- the host of a script that can be run: it has one
-abbrev pub only_host : ℕ
-only_host = 0
-
 -- what a file holds, where that is told
 abbrev pub told_of : Told → Option (List ℕ)
 told_of None = None
 told_of (Some was) = was
 
--- each of these objects' files is told
+-- a file is told; of an object that is none nothing is asked
+abbrev pub is_told : (List ℕ → Told) → Declared → Bool
+is_told areas object = not (is_file_kind object.kind) || is_some (areas object.name)
+
+-- each of these objects that is a file is told
 abbrev pub are_told : (List ℕ → Told) → List Declared → Bool
 are_told areas [] = true
-are_told areas (object ∷ objects) = is_some (areas object.name) && are_told areas objects
+are_told areas (object ∷ objects) = is_told areas object && are_told areas objects
 
 -- what is told of the files at the start: the pages of each, with zeros past its end, where all are told
 abbrev pub files_of : (List ℕ → Told) → Header → FilesAtStart
@@ -53,14 +53,18 @@ files_of areas header =
     then FilesTold (λ object page. read_at (unwrap_or (told_of (areas (name_of header object))) []) (page * header.size) header.size)
     else Untold
 
+-- the paging areas of so many hosts are told
+abbrev pub areas_told : (List ℕ → Told) → ℕ → Bool
+areas_told areas zero = true
+areas_told areas (suc host) = areas_told areas host && is_some (areas (area_name host))
+
 -- what is told of the outside, of a script with this header
 abbrev pub outside_of : (List ℕ → Told) → (List ℕ → Told) → Header → Outside
-outside_of files paging header = record { files = files_of files header; paging = is_some (paging (area_name only_host)) }
+outside_of files paging header = record { files = files_of files header; paging = areas_told paging (length header.frames.items) }
 
--- a script with one host whose declared objects are files, all whose numbers are in their ranges
+-- a script whose declared objects are files or shared ones, all whose numbers are in their ranges
 pub record IsRunnable (script : Script) : Type 0 where
-  pub built : IsOfFiles script.header
-  pub one_host : length script.header.frames.items ≡ 1
+  pub built : IsSupplied script.header
   pub slots : script.header.slots ≤ most_slots
   pub ranges : All (λ numbered. InRange script.header numbered.command) script.commands.items
 

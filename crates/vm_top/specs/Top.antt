@@ -1,5 +1,5 @@
 -- What the top call promises, status by status.
-use Rattle.std.specs.Prelude.{ℕ, ◌≡◌, ◌⊎◌, List, [], ◌++◌, codes, Option, Some, None, IsSome, Ok, Err}
+use Rattle.std.specs.Prelude.{ℕ, ◌<◌, ◌≡◌, ◌⊎◌, List, [], ◌++◌, codes, length, Option, Some, None, Ok, Err}
 use Rattle.std.specs.Io.KnownBytes.{Appends, Keeps}
 use Rattle.vm_model.specs.declared.command.Numbered.{Numbered}
 use Rattle.vm_model.specs.declared.event.Device.{Device}
@@ -14,12 +14,11 @@ use Rattle.vm_legal.specs.Outside.{Outside}
 use Rattle.vm_model.specs.Text.{text, field}
 use Rattle.vm_text.specs.Script.{script_of, whole_script}
 use Rattle.vm_text.specs.Unbuilt.{IsBuilt, unbuilt_of}
-use Rattle.vm_outside.specs.Areas.{Told}
+use Rattle.vm_outside.specs.Areas.{SameAreas, Told}
 use Rattle.vm_outside.specs.Arming.{Arming}
-use Rattle.pg_slots.specs.Contents.{area_name}
 use Rattle.vm_system.specs.Keeping.{FilesCarry, PagingKeepsPages}
 use Rattle.vm_top.specs.Arming.{BackingLeft, ran_of}
-use Rattle.vm_top.specs.Run.{CutIn, FailedIn, IsOutOfEvents, IsStuck, IsWholeRun, only_host, report_text}
+use Rattle.vm_top.specs.Run.{CutIn, FailedIn, IsOutOfEvents, IsStuck, IsWholeRun, report_text}
 use Rattle.vm_top.specs.Writing.{WroteStart}
 use Rattle.vm_top.specs.declared.words.Report.{Report}
 use Rattle.vm_top.specs.declared.words.Report.TheVariants.{History, Summary}
@@ -73,7 +72,7 @@ pub record IsHeld (told : Option (List ℕ)) (run : Script) (script : Option Scr
   pub held : script ≡ Some run
   pub read : IsReadFrom told run
 
--- nothing in its header isn't built: it has one host, and its objects are files
+-- nothing in its header isn't built: none of its objects is wild
 pub record IsHeaderBuilt (told : Option (List ℕ)) (run : Script) : Type 0 where
   pub lines : IsUnbuiltFrom told None
   pub built : IsBuilt run.header
@@ -168,14 +167,14 @@ IsNoMemory told outside report script history before after =
     ⊎ ((IsCut told outside script history × WroteStart before after (report_text report history))
     ⊎ (WroteStopped told outside script history before after ⊎ WroteBad told script history before after))
 
--- the paging area goes on telling, and each page that was returned and not lost stands at its slot
+-- each host's paging area goes on telling, and each page that was returned and not lost stands at its slot
 abbrev pub KeptAt : (Header → Outside) → (List ℕ → Told) → (List ℕ → Told) → Option Script → List Event → Type 0
-KeptAt outside before after None history = IsSome (before (area_name only_host)) → IsSome (after (area_name only_host))
-KeptAt outside before after (Some script) history = PagingKeepsPages script.header only_host (outside script.header) after history
+KeptAt outside before after None history = SameAreas before after
+KeptAt outside before after (Some script) history = (host : ℕ) → host < length script.header.frames.items → PagingKeepsPages script.header host (outside script.header) after history
 
 -- each declared file that told has what was returned, and else what it had, and all else is as it was
 abbrev pub FilesKeptAt : (List ℕ → Told) → (List ℕ → Told) → Option Script → List Event → Type 0
-FilesKeptAt before after None history = (name : List ℕ) (was : Option (List ℕ)) → before name ≡ Some was → after name ≡ Some was
+FilesKeptAt before after None history = SameAreas before after
 FilesKeptAt before after (Some script) history = FilesCarry script.header before after history
 
 -- the commands that were run

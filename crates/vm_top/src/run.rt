@@ -16,7 +16,7 @@ ghost use Rattle.vm_system.specs.Keeping.{FilesCarry, PagingKeepsPages};
 ghost use Rattle.vm_system.specs.Stands.{FilesAreKept, PagingIsKept, SystemStands};
 ghost use Rattle.vm_system.specs.Steps.{HasMore, IsBelowLimit};
 ghost use Rattle.vm_top.specs.Arming.{BackingLeft, FailuresBounded, FailuresCounted, ran_of};
-ghost use Rattle.vm_top.specs.Run.{IsRunnable, RanAs, only_host, outside_of, text_so_far};
+ghost use Rattle.vm_top.specs.Run.{IsRunnable, RanAs, outside_of, text_so_far};
 ghost use Rattle.vm_top.specs.Running.{IsBetweenCommands, IsNextOf, RunStops, RunTaking, Running, Settles, Turned};
 ghost use Rattle.vm_top.specs.Writing.{WroteBeyond, oldest_items};
 
@@ -40,7 +40,7 @@ pub enum RunEnd {
     NoMemory,
     /// A step is left, and the history has 200,000 events or more.
     EventLimit,
-    /// What the command of this line does isn't built: it copies from a file.
+    /// What the command of this line does isn't built: it copies from a declared object.
     NotBuilt { line: u32 },
 }
 
@@ -212,7 +212,8 @@ fn settle<K: Sink, F: Backing, P: Backing>(
 }
 
 /// Runs the script to its end, or to a write that fails, or until memory ends, or until the history
-/// has 200,000 events where a step is left, or to a copy from a file, which isn't built.
+/// has 200,000 events where a step is left, or to a copy from a declared object, which
+/// isn't built.
 pub fn run_script<K: Sink, F: Backing, P: Backing>(
     alloc: Global,
     report: Report,
@@ -230,7 +231,7 @@ pub fn run_script<K: Sink, F: Backing, P: Backing>(
     ensures cause { result.end ≡ RunEnd.Failed → CountRises (K.faults out.old) (K.faults out.new) }
 
     // What the backings keep, and how they are armed.
-    ensures kept { PagingKeepsPages script.now.header only_host (outside_of (F.area files.old.inner) (P.area paging.old.inner) script.now.header) (P.area paging.new.inner) result.history.items }
+    ensures kept { (host : ℕ) → host < length script.now.header.frames.items → PagingKeepsPages script.now.header host (outside_of (F.area files.old.inner) (P.area paging.old.inner) script.now.header) (P.area paging.new.inner) result.history.items }
     ensures carried { FilesCarry script.now.header (F.area files.old.inner) (F.area files.new.inner) result.history.items }
     ensures files { BackingLeft script.now.header device.Files (ran_of script.now result.history.items) result.history.items files.old files.new }
     ensures paging { BackingLeft script.now.header device.Paging (ran_of script.now result.history.items) result.history.items paging.old paging.new }

@@ -8,6 +8,7 @@ ghost use Rattle.vm_model.specs.declared.script.Script.{Script};
 ghost use Rattle.vm_model.specs.Ranges.{KeepsRanges};
 ghost use Rattle.vm_outside.specs.Causes.{CountRises};
 ghost use Rattle.vm_top.specs.Ending.{EndsAs, RunHasEnded, Tells, status_after};
+ghost use Rattle.vm_top.specs.Flat.{FilesFlatAt};
 ghost use Rattle.vm_top.specs.Top.{IsBad, IsRunDone, IsEventLimit, NothingRun, IsOutputFault, IsNoMemory, IsNotBuilt, NothingDone, OfBytes, KeptAt, FilesKeptAt, BackingEnds, bad_text, commands_run, not_built_text, usage_text};
 ghost use Rattle.vm_legal.specs.Outside.{Outside};
 ghost use Rattle.vm_system.specs.Steps.{IsBelowLimit};
@@ -49,8 +50,8 @@ pub enum Status {
     EventLimit,
     /// No memory was there.
     NoMemory,
-    /// `line` is the first that isn't built: a header line for a shared or a wild object or for more than
-    /// one host, or a `copy` from a file. It is 0 where a script was to be made.
+    /// `line` is the first that isn't built: a header line for a wild object, or a `copy` from a
+    /// declared object. It is 0 where a script was to be made.
     NotBuilt { line: u32 },
 }
 
@@ -184,6 +185,7 @@ fn run_read<K: Sink, F: Backing, P: Backing>(
     ensures later { K.faults out.old ≤ K.faults out.new }
     ensures kept { KeptAt (outside_of (F.area files.old.inner) (P.area paging.old.inner)) (P.area paging.old.inner) (P.area paging.new.inner) result.script result.history.items }
     ensures files_kept { FilesKeptAt (F.area files.old.inner) (F.area files.new.inner) result.script result.history.items }
+    ensures files_flat { FilesFlatAt (outside_of (F.area files.old.inner) (P.area paging.old.inner)) (F.area files.old.inner) (F.area files.new.inner) result.script result.history.items }
     ensures files { BackingEnds device.Files result.script result.history.items files.old files.new }
     ensures paging { BackingEnds device.Paging result.script result.history.items paging.old paging.new }
     ensures files_devices { FailuresCounted device.Files (⟦<Armed<F> as Backing>⟧.faults files.old) (⟦<Armed<F> as Backing>⟧.faults files.new) result.history.items }
@@ -231,6 +233,7 @@ fn run<S: Source, K: Sink, F: Backing, P: Backing>(
     ensures sink_later { K.faults out.old ≤ K.faults out.new }
     ensures kept { KeptAt (outside_of (F.area files.old.inner) (P.area paging.old.inner)) (P.area paging.old.inner) (P.area paging.new.inner) result.script result.history.items }
     ensures files_kept { FilesKeptAt (F.area files.old.inner) (F.area files.new.inner) result.script result.history.items }
+    ensures files_flat { FilesFlatAt (outside_of (F.area files.old.inner) (P.area paging.old.inner)) (F.area files.old.inner) (F.area files.new.inner) result.script result.history.items }
     ensures files { BackingEnds device.Files result.script result.history.items files.old files.new }
     ensures paging { BackingEnds device.Paging result.script result.history.items paging.old paging.new }
     ensures files_devices { FailuresCounted device.Files (⟦<Armed<F> as Backing>⟧.faults files.old) (⟦<Armed<F> as Backing>⟧.faults files.new) result.history.items }
@@ -269,8 +272,8 @@ fn run<S: Source, K: Sink, F: Backing, P: Backing>(
 ///
 /// `words` are without the program's name. The script is read to its end, or beyond its 1,048,576th
 /// byte by 4,096 bytes at most, and is a script of the grammar before its first step. Under `run` the
-/// events of each step are written, in one piece, when the step has ended. The default pager keeps
-/// its pages in the area `paging0` of `paging`, and the pager of a declared file in the area of the
+/// events of each step are written, in one piece, when the step has ended. The default pager of host H
+/// keeps its pages in the area `pagingH` of `paging`, and the pager of a declared file in the area of the
 /// file's name of `files`. An arming that stands in a backing is taken away first.
 pub fn pagers_main<S: Source, K: Sink, F: Backing, P: Backing>(
     alloc: Global,
@@ -352,6 +355,11 @@ pub fn pagers_main<S: Source, K: Sink, F: Backing, P: Backing>(
     ensures devices { FailuresCounted device.Paging (⟦<Armed<P> as Backing>⟧.faults paging.old) (⟦<Armed<P> as Backing>⟧.faults paging.new) result.history.items }
     ensures files_bounded { FailuresBounded device.Files (commands_run result.script result.history.items) (F.faults files.old.inner) (F.faults files.new.inner) (⟦<Armed<F> as Backing>⟧.faults files.new) result.history.items }
     ensures bounded { FailuresBounded device.Paging (commands_run result.script result.history.items) (P.faults paging.old.inner) (P.faults paging.new.inner) (⟦<Armed<P> as Backing>⟧.faults paging.new) result.history.items }
+
+    // At every status: where nothing is undelivered, no `device files` event stands in the history, and no control of a declared file lives on
+    // its host, the file, with zeros past its end, begins with the bytes of the flat map, as far as its object goes. What stands past its
+    // object's end is as it was.
+    ensures files_flat { FilesFlatAt (outside_of (F.area files.old.inner) (P.area paging.old.inner)) (F.area files.old.inner) (F.area files.new.inner) result.script result.history.items }
 {
     files.disarm();
     paging.disarm();

@@ -16,7 +16,7 @@ pub enum On {
     Again,
     /// For the pager of an object to be ready.
     Ready { object: ObjectId },
-    /// For a page that was asked for.
+    /// For a page that was asked for, or for its unlock.
     Page { key: PageKey },
     /// For a frame, in the queue.
     Frame,

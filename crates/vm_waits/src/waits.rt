@@ -106,6 +106,14 @@ impl Waits {
         Some(self.rows[at])
     }
 
+    /// The waiting accesses, in the order in which they began.
+    pub fn rows(&self) -> &[Waiting]
+        ensures rows { result.now ≡ self.now.rows }
+        ensures once { EachOnce self.now.rows }
+    {
+        self.rows.as_slice()
+    }
+
     /// The oldest access that is to be run again; None exactly where none is.
     pub fn next_again(&self) -> Option<Waiting>
         ensures oldest { result ≡ oldest_row is_again self.now.rows }

@@ -1,10 +1,10 @@
-use Rattle.std.proofs.Common.{refl, subst, sym, ◌∙◌}
+use Rattle.std.proofs.Common.{refl, subst, sym, ◌<◌, ◌∙◌}
 use Rattle.vm_model.specs.declared.event.Device.TheVariants as device
 use Rattle.vm_outside.specs.Causes.{sum_count}
 use Rattle.vm_system.specs.Keeping.{FilesCarry, PagingKeepsPages}
 use Rattle.vm_system.specs.Steps.{IsBelowLimit, arms, devices}
 use Rattle.vm_top.specs.Arming.{BackingLeft, FailuresBounded, FailuresCounted, armings, ran_of}
-use Rattle.vm_top.specs.Run.{RanAs, only_host, outside_of}
+use Rattle.vm_top.specs.Run.{RanAs, outside_of}
 use Rattle.vm_top.specs.Running.{Running}
 use Rattle.vm_top.proofs.Arms.{bounded}
 use Rattle.vm_top.proofs.Keeping.{all_told, files_none, files_told, kept_none, kept_pages, pager_of}
@@ -30,7 +30,7 @@ run_all-end-requires g c = λ lifetimes held.
       };
     } in
     let stands = c.in-Ok.ensures.stands outside in
-    let kept = c.in-Ok.ensures.kept outside areas (all_told header files areas system.pagers.items c.requires.run.one_host c.in-Ok.ensures.pagers) in
+    let kept = c.in-Ok.ensures.kept outside areas (all_told header files areas system.pagers.items c.in-Ok.ensures.pagers) in
     let files_kept = c.in-Ok.ensures.files outside files (files_told header files areas) in
     let carried = files_none header files system.history.items c.in-Ok.ensures.nothing in
     let runs = start_runs c.args.report given system.history.items c.in-Ok.ensures.nothing c.requires.files c.requires.paging in
@@ -51,12 +51,12 @@ pub returns-clause-cause : goal.returns-clause-cause
 returns-clause-cause g c = c.run_all-end.ensures.cause
 
 pub returns-clause-kept : goal.returns-clause-kept
-returns-clause-kept g c =
+returns-clause-kept g c = λ host below.
     let areas = g.P.Backing.area c.run_all-end.new.paging.inner in
     let outside = outside_of (g.F.Backing.area c.args.files.now.inner) (g.P.Backing.area c.args.paging.now.inner) c.args.script.now.header in
     let kept = c.run_all-end.ensures.kept in
-    let pager = pager_of c.run_all-end.new.system.pagers.items (kept.pagers.numbered.count ∙ c.requires.run.one_host) in
-    subst (λ z. PagingKeepsPages c.args.script.now.header only_host outside areas z.items) (sym c.into_history.ensures) (kept_pages c.args.script.now.header only_host outside areas c.run_all-end.new.system pager.0 pager.1 kept)
+    let pager = pager_of c.run_all-end.new.system.pagers.items host (subst (λ z. host < z) (sym kept.pagers.numbered.count) below) in
+    subst (λ z. PagingKeepsPages c.args.script.now.header host outside areas z.items) (sym c.into_history.ensures) (kept_pages c.args.script.now.header host outside areas c.run_all-end.new.system pager.0 pager.1 kept)
 
 pub returns-clause-carried : goal.returns-clause-carried
 returns-clause-carried g c =

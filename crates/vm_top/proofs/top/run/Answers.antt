@@ -8,6 +8,7 @@ use Rattle.vm_top.proofs.Ends.{bad_from, bad_of, done_of, full_of, header_not_bu
 use Rattle.vm_top.proofs.Resting.{none_carry, none_wait_for_frames}
 use Rattle.vm_top.proofs.Readings.{failed_leaves, read_leaves, stopped_leaves, tells_no_read}
 use Rattle.vm_model.specs.declared.event.Device.TheVariants as device
+use Rattle.vm_top.proofs.Flattened.{files_none_flat}
 use Rattle.vm_top.proofs.Keeping.{files_none, kept_none}
 use Rattle.vm_top.proofs.Turns.{start_left}
 use Rattle.vm_top.proofs.top.run.Goals as goal
@@ -126,3 +127,6 @@ returns-clause-files g c = start_left c.in-Ok-read_script.script device.Files c.
 
 pub returns-clause-paging : goal.returns-clause-paging
 returns-clause-paging g c = start_left c.in-Ok-read_script.script device.Paging c.args.paging.now c.new.result.items c.new.ensures c.requires.paging
+
+pub returns-clause-files_flat : goal.returns-clause-files_flat
+returns-clause-files_flat g c = files_none_flat c.in-Ok-read_script.script (g.F.Backing.area c.args.files.now.inner) (g.P.Backing.area c.args.paging.now.inner) c.new.result.items c.new.ensures

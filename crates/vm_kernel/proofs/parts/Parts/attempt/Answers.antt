@@ -144,7 +144,7 @@ pub returns-clause-once : goal.returns-clause-once
 returns-clause-once g c =
     let w = c.args.waiting in
     let turned = λ (why : WaitsOn c.in_ok-step.step c.match-step.on).
-    once_turned w c.args.may_claim c.in_ok-step.step c.match-step.on _ _ _ _ c.args.self.now.memory.objects c.args.self.now.waits c.set_on.new.self _ why c.requires.0.waits c.requires.0.matches.fits.plain c.in_ok-step.ensures.faulted c.in_ok-step.ensures.still
+    once_turned w c.args.may_claim c.in_ok-step.step c.match-step.on _ _ _ _ c.args.self.now.memory.objects c.args.self.now.waits c.set_on.new.self _ why c.requires.0.waits c.in_ok-step.ensures.faulted c.in_ok-step.ensures.still
     (its_row c.args.self.now w (λ was. PutsEntry w.task.0 (Some (with_on was c.match-step.on)) c.args.self.now.waits.rows c.set_on.new.self.rows) c.requires.1.0 c.set_on.ensures.entry)
     c.set_on.ensures.queue in
     elim c.match-step.branch [

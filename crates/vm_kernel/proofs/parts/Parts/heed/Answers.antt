@@ -1,5 +1,7 @@
-use Rattle.vm_kernel.proofs.Growing.{on_ok}
-use Rattle.vm_kernel.proofs.Heeding.{early_answer, none_locked, other_word}
+use Rattle.vm_kernel.proofs.Growing.{each_ok, on_ok}
+use Rattle.vm_kernel.proofs.Heeding.{askers_kept, early_answer, none_locked, other_word}
+use Rattle.std.proofs.Common.{ap}
+use Rattle.vm_waits.specs.Waits.{WaitTable}
 use Rattle.vm_kernel.proofs.parts.Parts.heed.Goals as goal
 
 pub returns-in_default : goal.returns-in_default
@@ -10,7 +12,8 @@ returns-in_default g c =
       fresh = c.hear.ensures.fresh;
       asker = c.hear.ensures.asker;
       answered = c.hear.ensures.answered;
-      waits = c.hear.ensures.waits;
+      askers = each_ok c.hear.result _ _ (λ same woken. askers_kept woken c.args.self.now.waits c.hear.new.self.waits same) c.hear.ensures.waits;
+      queue = on_ok c.hear.result _ _ (λ same. ap (λ (z : WaitTable). z.queue) same) c.hear.ensures.waits;
       goes = c.hear.ensures.goes;
       early = on_ok c.hear.result _ _ (λ brought. early_answer c.hear.new.log.items brought) c.hear.ensures.brought;
       zeroed = c.hear.ensures.zeroed;

@@ -22,11 +22,11 @@ lock-requires g c =
     can_lock g.given.header g.given.host c.args.self.now c.args.ids.now g.given.past c.args.object c.args.control c.args.message.now c.args.log.now.items c.requires.0 c.requires.1.1.0 c.requires.1.1.1.0 (sym c.is_live.ensures ∙ c.if-not-is_live.false) c.stand_once.ensures
 
 -- or it was done
-all_done : (g : given.Over) (c : goal.After-lock g) → OnOk c.lock.result (Heeds g.given.header g.given.host g.given.outside g.given.command c.args.self.now (record c.args.self.now { memory = c.lock.new.parts; laundry = c.lock.new.laundry }) c.args.ids.now (g.given.front ++ g.given.past) c.lock.new.log.items)
+all_done : (g : given.Over) (c : goal.After-lock g) → OnOk c.lock.result (Heeds g.given.header g.given.host g.given.outside g.given.command c.args.self.now (record c.args.self.now { memory = c.lock.new.parts; laundry = c.lock.new.laundry; waits = c.wake_unlocked.new.waits }) c.args.ids.now (g.given.front ++ g.given.past) c.lock.new.log.items)
 all_done g c =
     three_ok c.lock.result _ _ _ _
-    (λ obeyed fit size. heeds_done g.given.header g.given.host g.given.outside g.given.command c.args.self.now c.args.ids.now g.given.past g.given.front c.args.log.now.items c.lock.new.log.items c.args.object c.args.control c.args.message.now c.lock.new.parts c.lock.new.laundry
-    c.requires.0 c.requires.1.0 c.requires.1.1.0 c.requires.1.1.1.0 c.requires.1.1.1.1 (sym c.is_live.ensures ∙ c.if-not-is_live.false) obeyed fit size)
+    (λ obeyed fit size. heeds_done g.given.header g.given.host g.given.outside g.given.command c.args.self.now c.args.ids.now g.given.past g.given.front c.args.log.now.items c.lock.new.log.items c.args.object c.args.control c.args.message.now c.in-Lock.page c.in-Lock.count c.lock.new.parts c.lock.new.laundry c.wake_unlocked.new.waits
+    c.requires.0 c.requires.1.0 c.requires.1.1.0 (record { returns = c.in-Lock.returns; flush = c.in-Lock.flush; lock = c.in-Lock.lock; reply = c.in-Lock.reply; is = c.in-Lock.is }) c.requires.1.1.1.1 (sym c.is_live.ensures ∙ c.if-not-is_live.false) c.wake_unlocked.ensures.rows obeyed fit size)
     c.lock.ensures.obeyed c.lock.ensures.fit c.lock.ensures.size
 
 pub returns-clause-works : goal.returns-clause-works

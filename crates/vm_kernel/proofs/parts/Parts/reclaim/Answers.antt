@@ -1,13 +1,48 @@
-use Rattle.std.specs.Prelude.{◌++◌}
-use Rattle.vm_kernel.proofs.Reclaims.{keeps_spared, spares}
+use Rattle.std.proofs.Common.{List, subst, sym, ◌++◌, ◌∙◌, ◌≡◌}
+use Rattle.vm_base.specs.declared.ids.FrameNo.{FrameNo}
+use Rattle.vm_kernel.proofs.Growing.{both_ok, ok_of}
+use Rattle.vm_kernel.proofs.Sparing.{are_spared, frees_or_returns, keeps_spared, skips_locked}
+use Rattle.vm_pageout.specs.declared.answer.Reclaim.{Reclaim}
+use Rattle.vm_kernel.specs.Plays.{AreSpared, paging}
+use Rattle.vm_kernel.specs.Serving.{FreesBut, SkipLocked, frames_spared}
+use Rattle.vm_kernel.proofs.parts.Parts.reclaim.Given.{Over}
 use Rattle.vm_kernel.proofs.parts.Parts.reclaim.Goals as goal
 
-pub returns-in-Some-clause-reclaimed : goal.returns-in-Some-clause-reclaimed
-returns-in-Some-clause-reclaimed g c =
-    spares c.reclaim_but.result g.given.header g.given.host c.args.self.now c.reclaim_but.new.self c.args.ids.now c.args.spared c.in-Some.key c.frame_of-frame.result (c.args.log.now.items ++ g.given.past) (c.reclaim_but.new.log.items ++ g.given.past)
-    c.in-Some.is c.requires.1.1 c.frame_of-frame.ensures c.reclaim_but.ensures.rests c.reclaim_but.ensures.reclaimed
+-- the frames that are skipped
+skips : (g : Over) (c : goal.After-reclaim_but-arg-2-1 g) → c.as_slice.result.now ≡ frames_spared c.args.self.now.memory.resident c.args.spared c.args.self.now.waits.rows
+skips g c = c.as_slice.ensures.value ∙ c.in_ok-skip.ensures.frames
 
-pub returns-in-Some-clause-spared : goal.returns-in-Some-clause-spared
-returns-in-Some-clause-spared g c =
-    keeps_spared c.reclaim_but.result g.given.header g.given.host c.args.self.now c.reclaim_but.new.self c.args.spared c.in-Some.key c.frame_of-frame.result (c.args.log.now.items ++ g.given.past) (c.reclaim_but.new.log.items ++ g.given.past)
-    c.in-Some.is c.requires.1.1 c.frame_of-frame.ensures c.reclaim_but.ensures.reclaimed
+pub reclaim_but-requires : goal.reclaim_but-requires
+reclaim_but-requires g c =
+    let k = c.args.self.now in
+    let before = c.args.log.now.items ++ g.given.past in (
+      c.requires.0,
+      (
+        c.requires.1.0,
+        (
+          subst (λ (z : List FrameNo). AreSpared g.given.header g.given.host before (paging k).frame_at z) (sym (skips g c))
+              (are_spared g.given.header g.given.host k c.args.ids.now before c.args.spared c.requires.0.matches c.requires.0.waits c.in_ok-skip.ensures.once c.requires.1.1),
+          subst (λ (z : List FrameNo). SkipLocked k.memory.resident z) (sym (skips g c))
+              (skips_locked g.given.header g.given.host k c.args.ids.now before c.args.spared c.requires.0.matches c.requires.0.waits),
+        ),
+      ),
+    )
+
+-- what one more page leaves
+frees : (g : Over) (c : goal.After-drop-skip g) (answer : Reclaim) → FreesBut g.given.host c.as_slice.result.now answer c.args.self.now c.reclaim_but.new.self (c.args.log.now.items ++ g.given.past) (c.reclaim_but.new.log.items ++ g.given.past)
+    → FreesBut g.given.host (frames_spared c.args.self.now.memory.resident c.args.spared c.args.self.now.waits.rows) answer c.args.self.now c.reclaim_but.new.self (c.args.log.now.items ++ g.given.past) (c.reclaim_but.new.log.items ++ g.given.past)
+frees g c answer all =
+    subst (λ (z : List FrameNo). FreesBut g.given.host z answer c.args.self.now c.reclaim_but.new.self (c.args.log.now.items ++ g.given.past) (c.reclaim_but.new.log.items ++ g.given.past)) (c.as_slice.ensures.value ∙ c.in_ok-skip.ensures.frames) all
+
+pub returns-clause-reclaimed : goal.returns-clause-reclaimed
+returns-clause-reclaimed g c =
+    both_ok c.reclaim_but.result _ _ _
+    (λ rests answer all. frees_or_returns g.given.header g.given.host c.args.self.now c.reclaim_but.new.self c.args.ids.now c.args.spared answer (c.args.log.now.items ++ g.given.past) (c.reclaim_but.new.log.items ++ g.given.past)
+    c.requires.0 rests c.in_ok-skip.ensures.once c.requires.1.1 (frees g c answer all))
+    c.reclaim_but.ensures.rests c.reclaim_but.ensures.reclaimed
+
+pub returns-clause-spared : goal.returns-clause-spared
+returns-clause-spared g c =
+    ok_of c.reclaim_but.result _ _
+    (λ answer all. keeps_spared g.given.header g.given.host c.args.self.now c.reclaim_but.new.self c.args.spared answer (c.args.log.now.items ++ g.given.past) (c.reclaim_but.new.log.items ++ g.given.past) c.requires.1.1 (frees g c answer all))
+    c.reclaim_but.ensures.reclaimed

@@ -1,8 +1,8 @@
-use Rattle.vm_kernel.proofs.Common.{Event, HasEnded, List, Restarted, TaskId, WaitTable, [], ap, subst, ◌++◌, ◌∙◌}
+use Rattle.vm_kernel.proofs.Common.{Event, HasEnded, List, Restarted, TaskId, [], subst, ◌++◌, ◌∙◌}
 use Rattle.vm_kernel.proofs.Playing.{plays_both}
 use Rattle.vm_kernel.proofs.Failing.{absence_goes, each_failed, each_goes, paid_failed, paid_goes}
 use Rattle.vm_kernel.proofs.Growing.{goes_both, on_ok}
-use Rattle.vm_kernel.proofs.Heeding.{locked_goes}
+use Rattle.vm_kernel.proofs.Heeding.{ended_still, locked_goes}
 use Rattle.vm_kernel.proofs.Turning.{unrun_after}
 use Rattle.vm_kernel.proofs.parts.Parts.take.Given as given
 use Rattle.vm_kernel.proofs.parts.Parts.take.Goals as goal
@@ -36,7 +36,7 @@ pub returns-clause-ended : goal.returns-clause-ended
 returns-clause-ended g c =
     let rows = c.args.self.now.waits.rows in
     let ended : HasEnded c.in_ok-woken.woken rows (c.wake.new.log.items ++ taken g) =
-    subst (λ (z : WaitTable). HasEnded c.in_ok-woken.woken z.rows (c.wake.new.log.items ++ taken g)) c.in_ok-woken.ensures.waits c.in_ok-wake.ensures.ended in
+    ended_still c.in_ok-woken.woken rows c.heed.new.self.waits.rows (c.wake.new.log.items ++ taken g) c.in_ok-woken.ensures.askers c.in_ok-wake.ensures.ended in
     let each = each_failed g.given.header g.given.host g.given.outside g.given.command c.in_ok-woken.woken rows (taken g) c.heed.new.log.items c.wake.new.log.items c.in_ok-woken.ensures.fails c.in_ok-wake.ensures.goes ended in
     on_ok c.restart.result _ _ (λ goes. each_goes g.given.header g.given.host g.given.outside g.given.command rows (taken g) c.wake.new.log.items c.restart.new.log.items goes each) c.restart.ensures.goes
 
@@ -50,5 +50,5 @@ returns-clause-restarts g c =
     let quiet = c.in_ok-wake.ensures.quiet in
     let yet = unrun_after _ _ c.heed.new.log.items c.wake.new.log.items c.in_ok-woken.ensures.early quiet in
     on_ok c.restart.result _ _
-    (λ restarts. subst (λ (z : List TaskId). Restarted g.given.header g.given.host c.restart.new.self.waits.rows (taken g) z c.restart.new.self.waits.queue c.restart.new.log.items) (quiet.queue ∙ ap (λ z. z.queue) c.in_ok-woken.ensures.waits) (restarts yet))
+    (λ restarts. subst (λ (z : List TaskId). Restarted g.given.header g.given.host c.restart.new.self.waits.rows (taken g) z c.restart.new.self.waits.queue c.restart.new.log.items) (quiet.queue ∙ c.in_ok-woken.ensures.queue) (restarts yet))
     c.restart.ensures.restarts

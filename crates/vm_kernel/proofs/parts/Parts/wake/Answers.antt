@@ -1,5 +1,6 @@
 use Rattle.vm_kernel.proofs.Common.{Still, [], refl, rules, woken_page, woken_ready}
 use Rattle.vm_kernel.proofs.Ordering.{woken_keeps}
+use Rattle.vm_state.proofs.Waking.{waits_woken}
 use Rattle.vm_kernel.proofs.parts.Parts.wake.Goals as goal
 
 pub returns-in-ReadyOf-clause-works : goal.returns-in-ReadyOf-clause-works
@@ -8,7 +9,7 @@ returns-in-ReadyOf-clause-works g c =
       matches = search rules;
       used = search rules;
       referred = search rules;
-      waits = search rules;
+      waits = waits_woken _ _ _ _ c.args.self.now.waits.rows c.wake_ready.new.self.rows _ _ (rw c.in-ReadyOf.is at c.requires.0).waits c.wake_ready.ensures.entry (λ o p row found awaits. refl);
       order = (woken_keeps (woken_ready c.in-ReadyOf.object.0) c.args.self.now.waits.rows c.wake_ready.new.self.rows c.wake_ready.ensures.rows).keeps _ 0 c.requires.0.order;
     }
 
@@ -18,7 +19,7 @@ returns-in-Page-clause-works g c =
       matches = search rules;
       used = search rules;
       referred = search rules;
-      waits = search rules;
+      waits = waits_woken _ _ _ _ c.args.self.now.waits.rows c.wake_page.new.self.rows _ _ (rw c.in-Page.is at c.requires.0).waits c.wake_page.ensures.entry (rw c.in-Page.is at c.requires.1.1.1.1).at;
       order = (woken_keeps (woken_page c.in-Page.key) c.args.self.now.waits.rows c.wake_page.new.self.rows c.wake_page.ensures.rows).keeps _ 0 c.requires.0.order;
     }
 

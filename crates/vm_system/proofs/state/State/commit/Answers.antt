@@ -23,7 +23,7 @@ all-preserved c =
       posts = c.tell.ensures.posts;
       can = subst (λ (n : ℕ). CanTellAll n more t.history.items) (sym now.size) (subst (λ (all : List Event). CanTellAll s.size more all) (sym c.tell.ensures.history) told.rest);
       room = c.tell.ensures.room (length more) (subst (λ (n : ℕ). HasRoom n s) long c.all.invariant.room);
-      hosts = record { size = now.size ∙ was.size; hosts = now.hosts ∙ was.hosts; pagers = now.pagers ∙ was.pagers; files = now.files ∙ was.files; pages = now.pages ∙ was.pages };
+      hosts = record { size = now.size ∙ was.size; hosts = now.hosts ∙ was.hosts; pagers = now.pagers ∙ was.pagers; declared = now.declared ∙ was.declared; files = now.files ∙ was.files; server = now.server ∙ was.server };
       history =
           ap (λ (all : List Event). more ++ all) c.tell.ensures.history
           ∙ sym (append_assoc more (e ∷ []) s.history.items)

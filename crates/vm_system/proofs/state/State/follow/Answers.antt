@@ -1,6 +1,6 @@
 use Rattle.vm_system.proofs.Common.{Event, HostsPart, List, ap, ◌++◌, ◌∙◌}
 use Rattle.vm_system.proofs.Beginning.{same_hosts}
-use Rattle.vm_system.proofs.Following.{can_follow, followed, kept_followed, same_all, same_files, same_pages, same_pagers}
+use Rattle.vm_system.proofs.Following.{can_follow, followed, kept_followed, same_all, same_declared, same_files, same_pagers}
 use Rattle.vm_system.proofs.state.State.follow.Goals as goal
 
 pub follow-requires : goal.follow-requires
@@ -18,7 +18,7 @@ returns-clause-followed g c =
     let events = c.in_ok-events.events.items in
     let new = c.commit.new.self in
     let passed : HostsPart given.header given.outside given.command (given.front ++ given.past) new.hosts events = rw both.hosts c.in_ok-events.ensures.passed in
-    followed given c.args.host c.args.washed c.args.self.now new events c.requires.1 passed both.size (same_pagers _ _ both) (same_files _ _ both) (same_pages _ _ both)
+    followed given c.args.host c.args.washed c.args.self.now new events c.requires.1 passed both.size (same_pagers _ _ both) (same_files _ _ both) (same_declared _ _ both) both.server
     (c.commit.ensures.history ∙ ap (λ (z : List Event). events ++ z) c.in_ok-reserve.ensures.history) c.commit.ensures.posts
 
 pub returns-clause-spares : goal.returns-clause-spares

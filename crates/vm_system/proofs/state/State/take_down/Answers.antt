@@ -1,7 +1,7 @@
 use Rattle.vm_system.proofs.Common.{Channel, Down, Event, HasRoom, HostsPart, List, ap, arith, length, queue, slice_get, subst, sym, ℕ, ◌++◌, ◌∙◌, ◌∷◌, ◌≡◌}
 use Rattle.vm_model.specs.declared.event.Event.TheVariants as event
 use Rattle.vm_system.proofs.Beginning.{same_hosts}
-use Rattle.vm_system.proofs.Following.{same_all, same_files, same_pages, same_pagers}
+use Rattle.vm_system.proofs.Following.{same_all, same_declared, same_files, same_pagers}
 use Rattle.vm_system.proofs.Taken.{first_told, front_of, may_head, may_only, may_port, may_some, may_there}
 use Rattle.vm_system.proofs.TakenDown.{can_down, down_letter, down_licensed, spares_down, took_down}
 use Rattle.vm_system.proofs.state.State.take_down.Goals as goal
@@ -63,7 +63,7 @@ returns-clause-took g c =
     let events = c.in_ok-events.events.items in
     let passed : HostsPart given.header given.outside given.command (event.Taken channel m ∷ given.past) new.hosts events = rw all.hosts c.in_ok-events.ensures.passed in
     took_down given c.args.line c.args.number c.args.host c.args.object c.args.control m s new events c.requires head passed c.in_ok-events.ensures.failed c.in_ok-events.ensures.zeroed c.in_ok-events.ensures.locked
-    c.in_ok-events.ensures.ended all.size (same_pagers _ _ all) (same_files _ _ all) (same_pages _ _ all)
+    c.in_ok-events.ensures.ended all.size (same_pagers _ _ all) (same_files _ _ all) (same_declared _ _ all) all.server
     (c.commit.ensures.history ∙ ap (λ (z : List Event). events ++ z) told) c.commit.ensures.posts
 
 pub returns-clause-spares : goal.returns-clause-spares

@@ -3,7 +3,7 @@ use Rattle.pg_file.specs.Files.{FileTable}
 use Rattle.vm_model.specs.declared.event.Device.TheVariants.{Files}
 use Rattle.vm_model.specs.declared.event.Event.TheVariants as event
 use Rattle.vm_system.proofs.Beginning.{same_hosts}
-use Rattle.vm_system.proofs.Following.{both_paging, filed_same, same_files, same_paging, same_pages, same_pagers}
+use Rattle.vm_system.proofs.Following.{both_paging, filed_same, same_files, same_declared, same_paging, same_pagers}
 use Rattle.vm_system.proofs.Growth.{not_same}
 use Rattle.vm_system.proofs.Taken.{first_told, may_head, may_only, may_port, may_some, may_there}
 use Rattle.vm_system.proofs.TakenFiled.{answered_filed, can_reply_filed, carried_failed, carried_filed, cut_filed, devices_filed, filed_failed, filed_known, filed_reply, kept_filed, spares_filed, stands_filed, took_filed, up_filed}
@@ -166,7 +166,7 @@ follow-requires g c =
     let going : List Event → Going = λ z. record { header = given.header; outside = given.outside; command = given.command; past = given.past; front = z } in
     let done : PagerHasAnswered (going (take n now.history.items)) c.args.host c.gives_frame-washed.result now =
     rw (front, c.gives_frame-washed.ensures)
-    (answered_filed given c.args.host c.args.object m t now old table events reply (same_pagers _ _ both) files (rw (same_pages _ _ both) any.stands.agrees.pages) both.hosts (both.size ∙ any.stands.agrees.size) items c.commit.ensures.posts) in
+    (answered_filed given c.args.host c.args.object m t now old table events reply (same_pagers _ _ both) files (same_declared _ _ both ∙ any.stands.agrees.declared) both.server both.hosts (both.size ∙ any.stands.agrees.size) items c.commit.ensures.posts) in
     (front_length n now.history.items events (event.Taken channel m) front count, done)
 
 pub returns-clause-cut : goal.returns-clause-cut

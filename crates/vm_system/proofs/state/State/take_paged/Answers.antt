@@ -2,7 +2,7 @@ use Rattle.vm_system.proofs.Common.{Channel, Event, Followed, Going, List, Pager
 use Rattle.vm_model.specs.declared.event.Device.TheVariants.{Paging}
 use Rattle.vm_model.specs.declared.event.Event.TheVariants as event
 use Rattle.vm_system.proofs.Beginning.{same_hosts}
-use Rattle.vm_system.proofs.Following.{both_filing, kept_same, same_files, same_filing, same_pages, same_pagers}
+use Rattle.vm_system.proofs.Following.{both_filing, kept_same, same_files, same_filing, same_declared, same_pagers}
 use Rattle.vm_system.proofs.Growth.{not_same}
 use Rattle.vm_system.proofs.Taken.{first_told, may_head, may_only, may_port, may_some, may_there}
 use Rattle.vm_system.proofs.TakenUp.{answered_up, can_reply, cut_up, devices_up, fewer_room, front_is, front_length, kept_failed, kept_up, may_reserved, pager_read, reply_of, set_same, spares_up, took_up, up_known, up_word}
@@ -149,7 +149,7 @@ follow-requires g c =
     let front : take n now.history.items ≡ events ++ event.Taken channel m ∷ [] = front_is n events (event.Taken channel m) given.past now.history.items count items in
     let going : List Event → Going = λ z. record { header = given.header; outside = given.outside; command = given.command; past = given.past; front = z } in
     let done : PagerHasAnswered (going (take n now.history.items)) c.args.host c.gives_frame-washed.result now =
-    rw (front, c.gives_frame-washed.ensures) (answered_up given c.args.host c.args.object m t now old slots events reply pagers (same_files _ _ both) (rw (same_pages _ _ both) any.stands.agrees.pages) both.hosts (both.size ∙ any.stands.agrees.size) items c.commit.ensures.posts) in
+    rw (front, c.gives_frame-washed.ensures) (answered_up given c.args.host c.args.object m t now old slots events reply pagers (same_files _ _ both) (same_declared _ _ both ∙ any.stands.agrees.declared) both.server both.hosts (both.size ∙ any.stands.agrees.size) items c.commit.ensures.posts) in
     (front_length n now.history.items events (event.Taken channel m) front count, done)
 
 pub returns-clause-cut : goal.returns-clause-cut

@@ -5,3 +5,9 @@ ghost-take_filed g a = g.given
 
 abbrev pub ghost-take_paged : goal.ghost-take_paged
 ghost-take_paged g a = g.given
+
+abbrev pub ghost-take_shared : goal.ghost-take_shared
+ghost-take_shared g a = g.given
+
+abbrev pub ghost-kind : goal.ghost-kind
+ghost-kind g a = g.given

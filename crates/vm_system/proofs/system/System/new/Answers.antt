@@ -6,7 +6,7 @@ pub make_pagers-requires-clause-few : goal.make_pagers-requires-clause-few
 make_pagers-requires-clause-few c = c.requires.few
 
 pub returns-clause-nothing : goal.returns-clause-nothing
-returns-clause-nothing c = c.new-5.ensures
+returns-clause-nothing c = c.new-6.ensures
 
 pub returns-clause-pagers : goal.returns-clause-pagers
 returns-clause-pagers c = c.in_ok-pagers.ensures.numbered
@@ -20,12 +20,13 @@ returns-clause-stands c = λ outside. new_stands c.args.header.now outside _ (re
   numbered = c.in_ok-pagers.ensures.numbered;
   empty = c.in_ok-pagers.ensures.empty;
   files = c.in_ok-files.ensures;
-  pages = c.in_ok-pages.ensures;
-  channels = c.new-2.ensures.channels;
-  letters = c.new-2.ensures.letters;
-  made = c.new-3.ensures;
-  buffers = c.new-4.ensures;
-  history = c.new-5.ensures;
+  declared = c.in_ok-declared.ensures;
+  server = record { size = c.new-2.ensures.size; rows = c.new-2.ensures.rows };
+  channels = c.new-3.ensures.channels;
+  letters = c.new-3.ensures.letters;
+  made = c.new-4.ensures;
+  buffers = c.new-5.ensures;
+  history = c.new-6.ensures;
 })
 
 pub returns-clause-kept : goal.returns-clause-kept
@@ -37,12 +38,13 @@ returns-clause-kept c = λ outside areas told. new_kept c.args.header.now outsid
   numbered = c.in_ok-pagers.ensures.numbered;
   empty = c.in_ok-pagers.ensures.empty;
   files = c.in_ok-files.ensures;
-  pages = c.in_ok-pages.ensures;
-  channels = c.new-2.ensures.channels;
-  letters = c.new-2.ensures.letters;
-  made = c.new-3.ensures;
-  buffers = c.new-4.ensures;
-  history = c.new-5.ensures;
+  declared = c.in_ok-declared.ensures;
+  server = record { size = c.new-2.ensures.size; rows = c.new-2.ensures.rows };
+  channels = c.new-3.ensures.channels;
+  letters = c.new-3.ensures.letters;
+  made = c.new-4.ensures;
+  buffers = c.new-5.ensures;
+  history = c.new-6.ensures;
 }) told
 
 pub returns-clause-files : goal.returns-clause-files
@@ -54,10 +56,11 @@ returns-clause-files c = λ outside areas told. new_files_kept c.args.header.now
   numbered = c.in_ok-pagers.ensures.numbered;
   empty = c.in_ok-pagers.ensures.empty;
   files = c.in_ok-files.ensures;
-  pages = c.in_ok-pages.ensures;
-  channels = c.new-2.ensures.channels;
-  letters = c.new-2.ensures.letters;
-  made = c.new-3.ensures;
-  buffers = c.new-4.ensures;
-  history = c.new-5.ensures;
+  declared = c.in_ok-declared.ensures;
+  server = record { size = c.new-2.ensures.size; rows = c.new-2.ensures.rows };
+  channels = c.new-3.ensures.channels;
+  letters = c.new-3.ensures.letters;
+  made = c.new-4.ensures;
+  buffers = c.new-5.ensures;
+  history = c.new-6.ensures;
 }) told

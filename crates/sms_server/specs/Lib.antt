@@ -1,0 +1,4 @@
+pub mod Table
+pub mod Answers
+pub mod Kept
+pub mod Stands

@@ -1,0 +1,292 @@
+-- In a step that took a message no entry of a task changes; so whoever lives there lives on.
+use Rattle.std.proofs.Common.{ℕ, ◌≡◌, ◌<◌, ◌+◌, ◌-◌, ◌/◌, ◌⊎◌, inl, inr, List, [], ◌∷◌, ◌++◌, reverse, length, Bool, true, false, Option, Some, None, MatchOption, refl, sym, ap, subst, ◌∙◌, arith, append_assoc, if◌then◌else◌}
+use mathlib.Core.List.{reverse_aux}
+use Rattle.std.proofs.lemmas.Bool.Decides.{nat_tests}
+use Rattle.std.specs.Prelude.{◌==◌, ◌&&◌, is_some, nat_lt}
+use Rattle.vm_base.specs.declared.code.Code.{Code}
+use Rattle.vm_base.specs.declared.entry.Entry.{Entry}
+use Rattle.vm_base.specs.declared.ids.HostId.{HostId}
+use Rattle.vm_base.specs.declared.ids.Inherit.{Inherit}
+use Rattle.vm_base.specs.declared.ids.Inherit.TheVariants.{Copy, Never, Share}
+use Rattle.vm_base.specs.Entries.{entry_at, page_at}
+use Rattle.vm_base.specs.declared.ids.ObjectId.{ObjectId}
+use Rattle.vm_base.specs.declared.ids.PageNo.{PageNo}
+use Rattle.vm_base.specs.declared.ids.TaskId.{TaskId}
+use Rattle.vm_model.specs.declared.command.Command.{Command}
+use Rattle.vm_model.specs.declared.command.Command.TheVariants as command
+use Rattle.vm_model.specs.declared.command.Numbered.{Numbered}
+use Rattle.vm_model.specs.declared.event.Event.{Event}
+use Rattle.vm_model.specs.declared.event.Event.TheVariants as event
+use Rattle.vm_model.specs.declared.message.Channel.{Channel}
+use Rattle.vm_model.specs.declared.message.Channel.TheVariants.{Down, Up}
+use Rattle.vm_model.specs.declared.message.Message.{Message}
+use Rattle.vm_model.specs.declared.message.Message.TheVariants as message
+use Rattle.vm_model.specs.declared.script.Header.{Header}
+use Rattle.vm_model.specs.Channels.{queue}
+use Rattle.vm_model.specs.Controls.{is_control, last_control, live_control, without_control}
+use Rattle.vm_model.specs.Moments.{BeforeSteps, EachEvent}
+use Rattle.vm_model.specs.Named.{named}
+use Rattle.vm_model.specs.Regions.{next_object, next_region}
+use Rattle.vm_model.specs.Server.{first as oldest}
+use Rattle.vm_model.specs.Tasks.{entries_of, host_of}
+use Rattle.vm_legal.proofs.Inside.{taken_more}
+use Rattle.vm_legal.specs.Follows.{Follows, FollowsCut, IsConsequence, IsGroup, IsRun, clean_head, copy_head, fork_head, head, inherits, inherits_all, map_head, next_behind, opening, say_head, take_head}
+use Rattle.vm_legal.specs.Frames.{frames_wired}
+use Rattle.vm_legal.specs.Licences.{HasCause, IsUnheld}
+use Rattle.vm_legal.specs.Outside.{Outside}
+use Rattle.vm_legal.specs.Pagers.{Known, known_below}
+use Rattle.vm_legal.specs.Prompt.{Prompt}
+use Rattle.vm_legal.specs.Refusal.{refusal}
+use Rattle.vm_legal.specs.Steps.{Letter, absence_taken, before_step, taken_letter}
+use Rattle.vm_legal.specs.Stretches.{AllInner, EachOf}
+use Rattle.vm_legal.specs.Walks.{page_on}
+use Rattle.vm_flat.proofs.Pagers.{not_taken}
+use Rattle.vm_flat.proofs.Using.{by_cause}
+use Rattle.vm_flat.proofs.Voids.{Came, absent, came, not_absent}
+
+-- the event changes no task's entries, nor where a task lives
+abbrev pub KeepsEntries : Event → Type 0
+KeepsEntries (event.TaskMade task host) = ⊥
+KeepsEntries (event.TaskEnded task) = ⊥
+KeepsEntries (event.Entered task address bytes region offset prot inherit) = ⊥
+KeepsEntries (event.Removed task address bytes) = ⊥
+KeepsEntries (event.Protected task address bytes prot) = ⊥
+KeepsEntries (event.Inherited task address bytes inherit) = ⊥
+KeepsEntries other = Unit {0}
+
+-- where the step took a message
+abbrev pub TakingKeeps : Event → List Event → Type 0
+TakingKeeps e past = (letter : Letter) → taken_letter past ≡ Some letter → KeepsEntries e
+
+consequence : (e : Event) → IsConsequence e → KeepsEntries e
+consequence (event.TaskMade task host) is = is
+consequence (event.TaskEnded task) is = is
+consequence (event.Entered task address bytes region offset prot inherit) is = is
+consequence (event.Removed task address bytes) is = is
+consequence (event.Protected task address bytes prot) is = is
+consequence (event.Inherited task address bytes inherit) is = is
+consequence other is = tt
+
+consequences : (events past : List Event) → EachOf IsConsequence events → EachEvent TakingKeeps past → EachEvent TakingKeeps (events ++ past)
+consequences [] past each was = was
+consequences (e ∷ events) past each was = ((λ letter is. consequence e each.0), consequences events past each.1 was)
+
+-- heads
+
+-- nothing was taken in front of them
+behind_nothing : (events past : List Event) → AllInner events → taken_letter past ≡ None → EachEvent TakingKeeps past → EachEvent TakingKeeps (events ++ past)
+behind_nothing [] past inner none was = was
+behind_nothing (e ∷ events) past inner none was =
+    ((λ letter is. not_taken letter (sym (taken_more events past inner.1 ∙ none) ∙ is)), behind_nothing events past inner.1 none was)
+
+inner_onto : (events more : List Event) → AllInner events → AllInner more → AllInner (reverse_aux events more)
+inner_onto [] more one two = two
+inner_onto (e ∷ events) more one two = inner_onto events (e ∷ more) one.1 (one.0, two)
+
+inner_both : (events more : List Event) → AllInner events → AllInner more → AllInner (events ++ more)
+inner_both [] more one two = two
+inner_both (e ∷ events) more one two = (one.0, inner_both events more one.1 two)
+
+-- a head takes nothing, or it is the taking of one message
+abbrev IsHead : List Event → Type 0
+IsHead first = AllInner first ⊎ ((channel : Channel) × (m : Message) × (event.Taken channel m ∷ [] ≡ first))
+
+plain : (events first : List Event) → AllInner events → Some events ≡ Some first → IsHead first
+plain events first inner is = let same : events ≡ first = cc in inl (subst AllInner same inner)
+
+no_head : (first : List Event) → None ≡ Some first → IsHead first
+no_head first is = absurd (cc)
+
+inherits_inner : (kind : Inherit) (size : ℕ) (child : TaskId) (next : ℕ) (row : Entry) → AllInner (inherits kind size child next row)
+inherits_inner Share size child next row = (tt, tt)
+inherits_inner Copy size child next row = (tt, (tt, tt))
+inherits_inner Never size child next row = tt
+
+all_inner : (size : ℕ) (child : TaskId) (next : ℕ) (rows : List Entry) → AllInner (inherits_all size child next rows)
+all_inner size child next [] = tt
+all_inner size child next (row ∷ rows) = inner_both (inherits row.inherit size child next row) (inherits_all size child (next_behind row.inherit next) rows) (inherits_inner row.inherit size child next row) (all_inner size child (next_behind row.inherit next) rows)
+
+forked : (size next : ℕ) (child : TaskId) (x : Option ℕ) (rows : List Entry) (first : List Event) → fork_head size next child x rows ≡ Some first → IsHead first
+forked size next child None rows first is = no_head first is
+forked size next child (Some host) rows first is = plain (event.TaskMade child (record { 0 = host }) ∷ inherits_all size child next rows) first (tt, all_inner size child next rows) is
+
+copied : (declared size next address bytes : ℕ) (target : TaskId) (to : ℕ) (x : Option Entry) (first : List Event) → copy_head declared size next address bytes target to x ≡ Some first → IsHead first
+copied declared size next address bytes target to None first is = no_head first is
+copied declared size next address bytes target to (Some row) first is = by (nat_lt row.region.0 declared) is
+  where
+    events : List Event
+    events =
+        event.RegionCopied (record { 0 = next }) row.region (page_at size address row) (bytes / size)
+        ∷ event.Entered target to bytes (record { 0 = next }) 0 (record { read = true; write = true }) Copy ∷ []
+
+    by : (b : Bool) → (if b then None else Some events) ≡ Some first → IsHead first
+    by true is = no_head first is
+    by false is = plain events first (tt, (tt, tt)) is
+
+taken : (channel : Channel) (x : Option Message) (first : List Event) → take_head channel x ≡ Some first → IsHead first
+taken channel None first is = no_head first is
+taken channel (Some m) first is = let same : event.Taken channel m ∷ [] ≡ first = cc in inr (channel, m, same)
+
+said : (host : HostId) (object : ObjectId) (m : Message) (x : Option ℕ) (first : List Event) → say_head host object m x ≡ Some first → IsHead first
+said host object m None first is = no_head first is
+said host object m (Some control) first is = plain (event.Sent (Down host object control) m ∷ []) first (tt, tt) is
+
+opened : (host : ℕ) (object : ObjectId) (next size : ℕ) (x : Option ℕ) → AllInner (opening host object next size x)
+opened host object next size None = (tt, tt)
+opened host object next size (Some control) = tt
+
+mapped : (header : Header) (task : TaskId) (address bytes : ℕ) (object : ObjectId) (offset : ℕ) (before : List Event) (x : Option ℕ) (first : List Event) → map_head header task address bytes object offset before x ≡ Some first → IsHead first
+mapped header task address bytes object offset before None first is = no_head first is
+mapped header task address bytes object offset before (Some host) first is =
+    plain
+    (event.Entered task address bytes (record { 0 = object.0 }) offset (record { read = true; write = true }) Share
+    ∷ opening host object (last_control host object.0 before + 1) header.size (live_control host object.0 before))
+    first (tt, opened host object (last_control host object.0 before + 1) header.size (live_control host object.0 before)) is
+
+cleaned : (object : ObjectId) (page : PageNo) (count : ℕ) (flush : Bool) (x : Option Known) (first : List Event) → Some (clean_head object page count flush x) ≡ Some first → IsHead first
+cleaned object page count flush None first is = plain [] first tt is
+cleaned object page count flush (Some known) first is =
+    plain (event.Sent (Down (record { 0 = known.host }) object known.control) (message.Lock page count 2 flush 8 true) ∷ []) first (tt, tt) is
+
+is_head : (header : Header) (before : List Event) (doing : Command) (first : List Event) → head header before doing ≡ Some first → IsHead first
+is_head header before (command.Allocate task address bytes) first is =
+    plain
+    (event.RegionMade (record { 0 = next_region header before }) (record { 0 = next_object header before }) (bytes / header.size)
+    ∷ event.Entered task address bytes (record { 0 = next_region header before }) 0 (record { read = true; write = true }) Copy ∷ [])
+    first (tt, (tt, tt)) is
+is_head header before (command.Task task host) first is = plain (event.TaskMade task host ∷ []) first (tt, tt) is
+is_head header before (command.Load task address size) first is = plain (event.BegunLoad task address size ∷ []) first (tt, tt) is
+is_head header before (command.Store task address size value) first is = plain (event.BegunStore task address size value ∷ []) first (tt, tt) is
+is_head header before (command.Fork task child) first is = forked header.size (next_region header before) child (host_of task.0 before) (entries_of header.size task.0 before) first is
+is_head header before (command.Copy task address bytes target to) first is = copied (named header) header.size (next_region header before) address bytes target to (entry_at address (entries_of header.size task.0 before)) first is
+is_head header before (command.Exit task) first is = plain (event.TaskEnded task ∷ []) first (tt, tt) is
+is_head header before (command.Deallocate task address bytes) first is = plain (event.Removed task address bytes ∷ []) first (tt, tt) is
+is_head header before (command.Protect task address bytes prot) first is = plain (event.Protected task address bytes prot ∷ []) first (tt, tt) is
+is_head header before (command.Inherit task address bytes inherit) first is = plain (event.Inherited task address bytes inherit ∷ []) first (tt, tt) is
+is_head header before (command.Take channel) first is = taken channel (oldest (queue channel before)) first is
+is_head header before (command.Settle count) first is = plain [] first tt is
+is_head header before (command.Wire host count) first is = plain (event.Wired host (frames_wired host.0 before + count) ∷ []) first (tt, tt) is
+is_head header before (command.Unwire host count) first is = plain (event.Wired host (frames_wired host.0 before - count) ∷ []) first (tt, tt) is
+is_head header before (command.Pageout host count) first is = plain [] first tt is
+is_head header before (command.FailFiles count) first is = plain [] first tt is
+is_head header before (command.FailPaging count) first is = plain [] first tt is
+is_head header before (command.Say host object m) first is = said host object m (live_control host.0 object.0 before) first is
+is_head header before (command.Map task address bytes object offset) first is = mapped header task address bytes object offset before (host_of task.0 before) first is
+is_head header before (command.Clean object page count flush) first is = cleaned object page count flush (known_below (length header.frames.items) object.0 before) first is
+
+behind_line : (first : List Event) (line : ℕ) (past : List Event) → IsHead first → EachEvent TakingKeeps past → EachEvent TakingKeeps (reverse first ++ event.Line line ∷ past)
+behind_line first line past (inl inner) was = behind_nothing (reverse first) (event.Line line ∷ past) (inner_onto first [] inner tt) refl ((λ letter is. tt), was)
+behind_line first line past (inr (channel, m, is)) was =
+    subst (λ (z : List Event). EachEvent TakingKeeps (reverse z ++ event.Line line ∷ past)) is ((λ letter taken. tt), ((λ letter taken. tt), was))
+
+-- groups
+
+group_keeps : (header : Header) (outside : Outside) (past : List Event) (numbered : Numbered) (group : List Event) (refused : Option Code) (x : Option (List Event)) → head header past numbered.command ≡ x
+    → MatchOption refused (MatchOption x ⊥ (λ events. IsRun header outside past numbered events group)) (λ code. group ≡ event.Refused code ∷ []) → EachEvent TakingKeeps past → EachEvent TakingKeeps (group ++ event.Line numbered.line ∷ past)
+group_keeps header outside past numbered group None None is made was = absurd made
+group_keeps header outside past numbered group None (Some events) is run was =
+    let whole = consequences run.more (reverse events ++ event.Line numbered.line ∷ past) run.follows (behind_line events numbered.line past (is_head header past numbered.command events is) was) in
+    subst (EachEvent TakingKeeps) (sym (append_assoc run.more (reverse events) (event.Line numbered.line ∷ past)) ∙ ap (λ z. z ++ event.Line numbered.line ∷ past) (sym run.is)) whole
+group_keeps header outside past numbered group (Some code) x is made was =
+    subst (λ (g : List Event). EachEvent TakingKeeps (g ++ event.Line numbered.line ∷ past)) (sym made) ((λ letter taken. tt), ((λ letter taken. tt), was))
+
+with_group : (header : Header) (outside : Outside) (past : List Event) (numbered : Numbered) (group history : List Event) → history ≡ group ++ event.Line numbered.line ∷ past → IsGroup header outside past numbered group
+    → EachEvent TakingKeeps past → EachEvent TakingKeeps history
+with_group header outside past numbered group history is made was =
+    subst (EachEvent TakingKeeps) (sym is) (group_keeps header outside past numbered group (refusal header past numbered.command) (head header past numbered.command) refl made was)
+
+whole_keeps : (header : Header) (outside : Outside) (commands : List Numbered) (history : List Event) → Follows header outside commands history → EachEvent TakingKeeps history
+whole_keeps header outside [] history is = subst (EachEvent TakingKeeps) (sym is) tt
+whole_keeps header outside (numbered ∷ before) history (past, group, is, made, done, follows) = with_group header outside past numbered group history is made (whole_keeps header outside before past follows)
+
+pub takings_keep : (header : Header) (outside : Outside) (commands : List Numbered) (history : List Event) → FollowsCut header outside commands history → EachEvent TakingKeeps history
+takings_keep header outside [] history is = subst (EachEvent TakingKeeps) (sym is) tt
+takings_keep header outside (numbered ∷ before) history (past, group, is, made, follows) = with_group header outside past numbered group history is made (whole_keeps header outside before past follows)
+
+-- in such a step
+
+-- what nothing holds now was held by nothing when the step began
+unheld_then : (header : Header) (host region : ℕ) (letter : Letter) (past : List Event) → EachEvent TakingKeeps past → taken_letter past ≡ Some letter → IsUnheld header host region past → IsUnheld header host region (before_step past)
+unheld_then header host region letter [] keeps is unheld = not_taken letter is
+unheld_then header host region letter (event.Line line ∷ past) keeps is unheld = not_taken letter is
+unheld_then header host region letter (event.Taken channel m ∷ past) keeps is unheld = unheld
+unheld_then header host region letter (event.TaskMade task at ∷ past) keeps is unheld = absurd (keeps.0 letter is)
+unheld_then header host region letter (event.TaskEnded task ∷ past) keeps is unheld = absurd (keeps.0 letter is)
+unheld_then header host region letter (event.Entered task address bytes entered offset prot inherit ∷ past) keeps is unheld = absurd (keeps.0 letter is)
+unheld_then header host region letter (event.Removed task address bytes ∷ past) keeps is unheld = absurd (keeps.0 letter is)
+unheld_then header host region letter (event.Protected task address bytes prot ∷ past) keeps is unheld = absurd (keeps.0 letter is)
+unheld_then header host region letter (event.Inherited task address bytes inherit ∷ past) keeps is unheld = absurd (keeps.0 letter is)
+unheld_then header host region letter (e ∷ past) keeps is unheld = unheld_then header host region letter past keeps.1 is unheld
+
+prompt_then : (header : Header) (letter : Letter) (past : List Event) → BeforeSteps (Prompt header) past → taken_letter past ≡ Some letter → Prompt header (before_step past)
+prompt_then header letter [] prompt is = not_taken letter is
+prompt_then header letter (event.Line line ∷ past) prompt is = not_taken letter is
+prompt_then header letter (event.Taken channel m ∷ past) prompt is = prompt.0
+prompt_then header letter (e ∷ past) prompt is = prompt_then header letter past prompt is
+
+-- the step took the pager's word that a page is absent, for a control that lived
+record Absence (host o : ℕ) (past : List Event) : Type 0 where
+  letter : Letter
+  taken : taken_letter past ≡ Some letter
+  lived : is_some (live_control host o (before_step past)) ≡ true
+
+lives : (control : ℕ) (live : Option ℕ) (b : Bool) → (is_control control live && b) ≡ true → is_some live ≡ true
+lives control None b is = absurd (let bad : false ≡ true = is in cc)
+lives control (Some k) b is = refl
+
+absence : (header : Header) (host o p : ℕ) (past : List Event) → absence_taken header.size past ≡ Some (absent host o p) → Absence host o past
+absence header host o p [] is = not_absent _ is
+absence header host o p (event.Line line ∷ past) is = not_absent _ is
+absence header host o p (event.Taken (Up at object) m ∷ past) is = not_absent _ is
+absence header host o p (event.Taken (Down at object control) (message.Unavailable page) ∷ past) is =
+    let c : Came host o p at.0 object.0 page.0 (is_control control (live_control at.0 object.0 past) && (page_on header at.0 object.0 page.0 past).asked) = came host o p at.0 object.0 page.0 _ is in
+    record {
+      letter = record { channel = Down at object control; message = message.Unavailable page };
+      taken = refl;
+      lived =
+          subst (λ (h : ℕ). is_some (live_control h o past) ≡ true) c.host (subst (λ (k : ℕ). is_some (live_control at.0 k past) ≡ true) c.object
+          (lives control (live_control at.0 object.0 past) (page_on header at.0 object.0 page.0 past).asked c.counts));
+    }
+absence header host o p (event.Taken (Down at object control) other ∷ past) is = not_absent _ is
+absence header host o p (e ∷ past) is = let was = absence header host o p past is in record { letter = was.letter; taken = was.taken; lived = was.lived }
+
+none_some : (x : Option ℕ) → x ≡ None → is_some x ≡ true → ⊥
+none_some x none some = let bad : false ≡ true = sym (ap is_some none) ∙ some in cc
+
+-- no declared object's control ends in such a step
+ends_never : {A : Type 0} (header : Header) (host o p : ℕ) (past : List Event) → EachEvent TakingKeeps past → BeforeSteps (Prompt header) past → host < length header.frames.items → o < named header → absence_taken header.size past ≡ Some (absent host o p)
+    → IsUnheld header host o past → A
+ends_never header host o p past keeps prompt inside below is unheld =
+    let was : Absence host o past = absence header host o p past is in
+    absurd
+    (none_some (live_control host o (before_step past)) ((prompt_then header was.letter past prompt was.taken host inside).swept.declared_controls o below (unheld_then header host o was.letter past keeps was.taken unheld)) was.lived)
+
+begun_lives : (b : Bool) (control : ℕ) (live : Option ℕ) → is_some live ≡ true → is_some (if b then Some control else live) ≡ true
+begun_lives true control live is = refl
+begun_lives false control live is = is
+
+ended_lives : (b : Bool) (control : ℕ) (live : Option ℕ) → (b ≡ true → ⊥) → is_some live ≡ true → is_some (if b then without_control control live else live) ≡ true
+ended_lives true control live never is = absurd (never refl)
+ended_lives false control live never is = is
+
+-- the control lives on, to the end of the step
+pub lives_on_then : (header : Header) (outside : Outside) (host o p : ℕ) (past : List Event) → EachEvent (HasCause header outside) past → EachEvent TakingKeeps past → BeforeSteps (Prompt header) past → host < length header.frames.items → o < named header
+    → absence_taken header.size past ≡ Some (absent host o p) → is_some (live_control host o past) ≡ true
+lives_on_then header outside host o p [] caused keeps prompt inside below is = not_absent _ is
+lives_on_then header outside host o p (event.Line line ∷ past) caused keeps prompt inside below is = not_absent _ is
+lives_on_then header outside host o p (event.Taken channel m ∷ past) caused keeps prompt inside below is = (absence header host o p (event.Taken channel m ∷ past) is).lived
+lives_on_then header outside host o p (event.Sent (Up at object) (message.Init control size) ∷ past) caused keeps prompt inside below is =
+    begun_lives (at.0 == host && object.0 == o) control (live_control host o past) (lives_on_then header outside host o p past caused.1 keeps.1 prompt inside below is)
+lives_on_then header outside host o p (event.Sent (Up at object) (message.Create control size) ∷ past) caused keeps prompt inside below is =
+    begun_lives (at.0 == host && object.0 == o) control (live_control host o past) (lives_on_then header outside host o p past caused.1 keeps.1 prompt inside below is)
+lives_on_then header outside host o p (event.Sent (Up at object) (message.Terminate control) ∷ past) caused keeps prompt inside below is =
+    ended_lives (at.0 == host && object.0 == o) control (live_control host o past)
+    (λ same.
+    let at_is : at.0 ≡ host = grind (arith, nat_tests) in
+    let object_is : object.0 ≡ o = grind (arith, nat_tests) in
+    by_cause header outside (event.Sent (Up at object) (message.Terminate control)) past caused.0 (λ doing c.
+    ends_never header host o p past keeps.1 prompt inside below is
+    (subst (λ (h : ℕ). IsUnheld header h o past) at_is (subst (λ (k : ℕ). IsUnheld header at.0 k past) object_is (c.unheld (subst (λ (k : ℕ). k < named header) (sym object_is) below))))))
+    (lives_on_then header outside host o p past caused.1 keeps.1 prompt inside below is)
+lives_on_then header outside host o p (event.Sent (Up at object) m ∷ past) caused keeps prompt inside below is = lives_on_then header outside host o p past caused.1 keeps.1 prompt inside below is
+lives_on_then header outside host o p (e ∷ past) caused keeps prompt inside below is = lives_on_then header outside host o p past caused.1 keeps.1 prompt inside below is

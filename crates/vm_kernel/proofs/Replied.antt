@@ -1,0 +1,37 @@
+-- A lock request that the step took is done still, whatever comes behind that.
+use Rattle.vm_kernel.proofs.Common.{Bool, Event, List, None, Some, or_true, refl, sym, true, ◌∙◌, ◌∷◌, ◌≡◌}
+use Rattle.vm_kernel.specs.Abroad.{IsNobodys}
+use Rattle.vm_kernel.specs.Matches.{IsReplied}
+use Rattle.vm_legal.specs.Licences.{lock_taken}
+use Rattle.vm_legal.specs.Steps.{completes, since}
+use Rattle.vm_legal.specs.Stretches.{IsInner}
+use Rattle.vm_model.specs.declared.event.Event.TheVariants as event
+use Rattle.vm_model.specs.declared.message.Channel.TheVariants.{Up, Down}
+
+lock_same : (e : Event) (past : List Event) → IsInner e → lock_taken (e ∷ past) ≡ lock_taken past
+lock_same (event.Line line) past inner = absurd inner
+lock_same (event.Taken channel m) past inner = absurd inner
+lock_same other past inner = refl
+
+since_later : (test : Event → Bool) (e : Event) (past : List Event) → IsInner e → since test past ≡ true → since test (e ∷ past) ≡ true
+since_later test (event.Line line) past inner is = absurd inner
+since_later test (event.Taken channel m) past inner is = absurd inner
+since_later test other past inner is = or_true (test other) (since test past) is
+
+pub replied_behind : {e : Event} {past : List Event} → IsInner e → IsReplied past → IsReplied (e ∷ past)
+replied_behind {e = e} {past = past} inner was =
+    record { at = λ request is own. since_later (completes request.host request.object) e past inner (was.at request (sym (lock_same e past inner) ∙ is) own) }
+
+-- where it took none there is nothing to tell
+pub replied_none : {past : List Event} → lock_taken past ≡ None → IsReplied past
+replied_none none = record { at = λ request is own. absurd (let bad : None ≡ Some request = sym none ∙ is in cc) }
+
+-- so is it behind what is nobody's
+pub nobody_replied : (e : Event) (past : List Event) → IsNobodys e → IsReplied past → IsReplied (e ∷ past)
+nobody_replied (event.Line line) past nobody was = replied_none refl
+nobody_replied (event.Refused code) past nobody was = replied_behind tt was
+nobody_replied (event.Sent (Down host object control) m) past nobody was = replied_behind tt was
+nobody_replied (event.Taken (Up host object) m) past nobody was = replied_none refl
+nobody_replied (event.DeviceFailed who way object page) past nobody was = replied_behind tt was
+nobody_replied (event.NoSlot object page) past nobody was = replied_behind tt was
+nobody_replied other past nobody was = absurd nobody

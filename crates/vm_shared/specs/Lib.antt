@@ -1,0 +1,4 @@
+pub mod Carried
+pub mod Kinds
+pub mod Run
+pub mod Served

@@ -1,0 +1,58 @@
+-- Who waits, once those are to be run again that were to be woken.
+use Rattle.std.proofs.Common.{Bool, List, None, Option, Some, ap, false, refl, subst, sym, true, ℕ, ◌∙◌, ◌≡◌}
+use Rattle.std.specs.Prelude.{if◌then◌else◌, option_map}
+use Rattle.vm_maps.specs.Judge.{IsAllowed}
+use Rattle.vm_maps.specs.Maps.{Mapped}
+use Rattle.vm_model.specs.Waiting.{Access}
+use Rattle.vm_objects.specs.Objects.{ObjectTable}
+use Rattle.vm_parts.proofs.Rows.{some_is}
+use Rattle.vm_resident.specs.Resident.{ResidentTable, page_key, row_at}
+use Rattle.vm_resident.specs.declared.page_row.PageRow.{PageRow}
+use Rattle.vm_shadow.specs.Chains.{ChainTable}
+use Rattle.vm_state.specs.Waiters.{Asker, HasWaiters, IsPlaceOf, Reason, access_in, is_awaited, is_woken, waiting_in}
+use Rattle.vm_supply.specs.declared.woken.Woken.TheVariants as woken
+use Rattle.vm_waits.proofs.Entries.{waked_cases, waked_wants}
+use Rattle.vm_waits.specs.Waits.{Waked, entry, with_on}
+use Rattle.vm_waits.specs.Waits as waits
+use Rattle.vm_waits.specs.Wants.{IsSizedWant, address_in, need_in}
+use Rattle.vm_waits.specs.declared.waiting.On.{On}
+use Rattle.vm_waits.specs.declared.waiting.On.TheVariants as on
+use Rattle.vm_waits.specs.declared.waiting.Waiting.{Waiting}
+
+told_same : (x y : Option Waiting) → option_map (λ (w : Waiting). w.want) y ≡ option_map (λ (w : Waiting). w.want) x → waiting_in x ≡ waiting_in y
+told_same None None same = refl
+told_same None (Some w) same = absurd (let bad : Some w.want ≡ None = same in cc)
+told_same (Some v) None same = absurd (let bad : None ≡ Some v.want = same in cc)
+told_same (Some v) (Some w) same = let wants : w.want ≡ v.want = cc in ap (λ z. Some (access_in z)) (sym wants)
+
+-- who isn't woken has its row still
+stays_waked : (test : On → Bool) (old new : Option Waiting) (w : Waiting) → Waked test old new → old ≡ Some w → test w.on ≡ false → new ≡ Some w
+stays_waked test None new w wakes is asleep = absurd (let bad : None ≡ Some w = is in cc)
+stays_waked test (Some was) new w wakes is asleep =
+    wakes ∙ (ap (λ (z : Waiting). Some (waits.woken test z)) (some_is was w is) ∙ ap (λ (b : Bool). Some (if b then with_on w on.Again else w)) asleep)
+
+-- no page is awaited for which somebody is to be woken; so all the others have their reasons
+pub waits_woken : (maps : Mapped) (chains : ChainTable) (rs : ResidentTable) (os : ObjectTable) (rows rows2 : List Waiting) (who : On → Bool) (at : ℕ → Option Access) → HasWaiters maps chains rs os rows who at → ((t : ℕ) → Waked who (entry rows t) (entry rows2 t))
+    → ((o p : ℕ) (row : PageRow) → row_at rs o p ≡ Some row → is_awaited row ≡ true → who (on.Page (page_key o p)) ≡ false) → HasWaiters maps chains rs os rows2 (is_woken woken.Nobody) at
+waits_woken maps chains rs os rows rows2 who at has wakes apart =
+    record {
+      is = λ t here. has.is t here ∙ told_same (entry rows t) (entry rows2 t) (waked_wants who (entry rows t) (entry rows2 t) (wakes t));
+      allowed = λ t v is. waked_cases {P = IsAllowed maps t (address_in v.want) (need_in v.want)} who (entry rows t) (entry rows2 t) v (wakes t) is (λ was asleep. has.allowed t v was)
+          (λ w was passes same. subst (λ (z : Waiting). IsAllowed maps t (address_in z.want) (need_in z.want)) same (has.allowed t w was));
+      sized = λ t v is. waked_cases {P = IsSizedWant v.want} who (entry rows t) (entry rows2 t) v (wakes t) is (λ was asleep. has.sized t v was) (λ w was passes same. subst (λ (z : Waiting). IsSizedWant z.want) same (has.sized t w was));
+      reasons = λ t v is asleep. waked_cases {P = Reason maps chains rs os t v.want v.on} who (entry rows t) (entry rows2 t) v (wakes t) is (λ was still. has.reasons t v was still)
+          (λ w was passes same. subst (λ (z : Waiting). Reason maps chains rs os t z.want z.on) same tt);
+      aims = λ t v key is waits. waked_cases {P = IsPlaceOf maps chains t v.want key} who (entry rows t) (entry rows2 t) v (wakes t) is (λ was asleep. has.aims t v key was waits)
+          (λ w was passes same. absurd (let bad : on.Again ≡ on.Page key = ap (λ (z : Waiting). z.on) same ∙ waits in cc));
+      askers = λ o p row found awaits. asks o p (apart o p row found awaits) (has.askers o p row found awaits);
+      ready = has.ready;
+    }
+  where
+    asks : (o p : ℕ) → who (on.Page (page_key o p)) ≡ false → Asker rows o p → Asker rows2 o p
+    asks o p asleep asker =
+        record {
+          task = asker.task;
+          row = asker.row;
+          is = stays_waked who (entry rows asker.task) (entry rows2 asker.task) asker.row (wakes asker.task) asker.is (ap who asker.waits ∙ asleep);
+          waits = asker.waits;
+        }

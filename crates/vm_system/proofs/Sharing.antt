@@ -1,0 +1,87 @@
+-- What the laws of shared memory say of a system's history, and of the server that stands for it.
+use Rattle.vm_system.proofs.Common.{AllSupplied, BeforeSteps, Bool, EachEvent, EachMoment, Event, HasCause, HasOneWriter, Header, IsPaid, List, MeetsProtocol, Message, ObjectId, Outside, OwnBytes, [], arith, false, is_shared, kind_of, named, nat_lt, nat_tests, never, page_part, queue, refl, subst, sym, true, up, up_word, ℕ, ◌&&◌, ◌∷◌, ◌≡◌, ◌<◌, ◌||◌, first, if◌then◌else◌, AllServed, ◌==◌}
+use Rattle.vm_base.specs.declared.ids.ObjectKind.{ObjectKind}
+use Rattle.vm_base.specs.declared.ids.ObjectKind.TheVariants as kinds
+use Rattle.vm_legal.specs.Outside.{is_file_kept, is_file_kind, is_shared_kind, is_wild, is_wild_kind, kind_in}
+use Rattle.vm_model.specs.Named.{declared}
+use Rattle.vm_model.specs.declared.script.Declared.{Declared}
+use Rattle.std.proofs.Common.{Option, Some, None}
+use Rattle.vm_model.specs.Side.{side}
+use Rattle.vm_model.specs.Words.{Asking, Doing, OtherUp, Returning, Unlocking, in_range}
+use Rattle.vm_model.specs.declared.message.Message.TheVariants as message
+use Rattle.vm_shared.proofs.Pages.{one_writer}
+use Rattle.vm_shared.proofs.Protocol.{completed_mine, ended_mine, request_alone, unlock_alone}
+use Rattle.vm_shared.specs.Kinds.{NoneIsTemporary}
+
+-- a declared object that is a file or a shared one is neither temporary nor wild
+
+known_kind : (header : Header) (o : ℕ) → AllSupplied header → o < named header → (kind_of header o ≡ kinds.Temp → ⊥) × (is_wild header o ≡ false)
+known_kind header o supplied below = by (nat_lt o (named header)) (declared header o) (grind (arith, nat_tests)) (supplied o below)
+  where
+    at : (kind : ObjectKind) → is_file_kind kind || is_shared_kind kind ≡ true → (kind ≡ kinds.Temp → ⊥) × (is_wild_kind kind ≡ false)
+    at kinds.Temp is = never is
+    at kinds.File is = (λ same. absurd (cc), refl)
+    at kinds.Shared is = (λ same. absurd (cc), refl)
+    at kinds.Wild is = never is
+
+    by : (b : Bool) (row : Option Declared) → b ≡ true → (b && is_file_kept row) || is_shared_kind (if b then kind_in row else kinds.Temp) ≡ true
+        → ((if b then kind_in row else kinds.Temp) ≡ kinds.Temp → ⊥) × (is_wild_kind (if b then kind_in row else kinds.Temp) ≡ false)
+    by true None low is = never is
+    by true (Some object) low is = at object.kind is
+    by false row low is = never low
+
+pub none_temporary : (header : Header) → AllSupplied header → NoneIsTemporary header
+none_temporary header supplied o below = (known_kind header o supplied below).0
+
+pub tame : (header : Header) (o : ℕ) → AllSupplied header → o < named header → is_wild header o ≡ false
+tame header o supplied below = (known_kind header o supplied below).1
+
+-- a shared page has one writer at every moment
+pub writers : (header : Header) (outside : Outside) (history : List Event) → EachEvent (HasCause header outside) history → EachEvent (OwnBytes header) history → EachMoment (HasOneWriter header) history
+writers header outside [] causes own = λ g h o p shared apart. one_writer header outside [] causes own h g o p shared (λ same. apart (sym same))
+writers header outside (e ∷ past) causes own =
+    (λ g h o p shared apart. one_writer header outside (e ∷ past) causes own h g o p shared (λ same. apart (sym same)), writers header outside past causes.1 own.1)
+
+-- a message about a shared object is what its server is promised
+pub protocol_met : (header : Header) (outside : Outside) (h : ℕ) (object : ObjectId) (m : Message) (past : List Event) → is_shared header object.0 ≡ true → EachEvent (HasCause header outside) past → EachEvent (OwnBytes header) past
+    → BeforeSteps (IsPaid header) past → first (queue (up h object.0) past) ≡ Some m → (p : ℕ) → MeetsProtocol h (up_word p m) (page_part header.size object.0 p past)
+protocol_met header outside h object (message.Request control page access) past shared causes own paid head p = by (page.0 == p) refl
+  where
+    by : (b : Bool) → (page.0 == p) ≡ b → MeetsProtocol h (if b then Asking control access else OtherUp) (page_part header.size object.0 p past)
+    by true is =
+        let same : page.0 ≡ p = grind (arith, nat_tests) in
+        subst (λ (q : ℕ). MeetsProtocol h (Asking control access) (page_part header.size object.0 q past)) same
+        (request_alone header outside h object.0 control access page past causes own shared head).0
+    by false is = tt
+protocol_met header outside h object (message.Unlock control page access) past shared causes own paid head p = by (page.0 == p) refl
+  where
+    by : (b : Bool) → (page.0 == p) ≡ b → MeetsProtocol h (if b then Unlocking access else OtherUp) (page_part header.size object.0 p past)
+    by true is =
+        let same : page.0 ≡ p = grind (arith, nat_tests) in
+        subst (λ (q : ℕ). MeetsProtocol h (Unlocking access) (page_part header.size object.0 q past)) same
+        (unlock_alone header outside h object.0 control access page past causes own paid shared head).0
+    by false is = tt
+protocol_met header outside h object (message.Return control page dirty keep bytes) past shared causes own paid head p = by (page.0 == p)
+  where
+    by : (b : Bool) → MeetsProtocol h (if b then Returning dirty keep bytes else OtherUp) (page_part header.size object.0 p past)
+    by true = tt
+    by false = tt
+protocol_met header outside h object (message.Completed control page count) past shared causes own paid head p = by (in_range p page.0 count) refl
+  where
+    mine : (count ≡ 1) × ((side h (page_part header.size object.0 page.0 past)).awaited_control ≡ control)
+    mine = completed_mine header outside h object.0 control count page past causes own paid shared head
+
+    by : (b : Bool) → in_range p page.0 count ≡ b → MeetsProtocol h (if b then Doing control count else OtherUp) (page_part header.size object.0 p past)
+    by true is =
+        let single = mine.0 in
+        let same : page.0 ≡ p = grind (arith, nat_tests) in
+        λ awaited. subst (λ (q : ℕ). (side h (page_part header.size object.0 q past)).awaited_control ≡ control) same mine.1
+    by false is = tt
+protocol_met header outside h object (message.Terminate control) past shared causes own paid head p =
+    (ended_mine header outside h object.0 control p past causes own paid shared head).1
+protocol_met header outside h object m past shared causes own paid head p = tt
+
+-- the server
+
+pub served_start : (header : Header) → AllServed header []
+served_start header object page shared line = absurd (line refl)
