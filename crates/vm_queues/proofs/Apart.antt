@@ -2,7 +2,6 @@
 use Rattle.std.proofs.Common.{ℕ, zero, suc, ◌≡◌, ◌≢◌, ◌<◌, ◌≤◌, ◌==◌, ◌||◌, Bool, true, false, List, [], ◌∷◌, ◌++◌, length, get_or, set, map, refl, ap, arith, ◌∙◌}
 use Rattle.std.proofs.lemmas.Bool.Decides.{nat_tests}
 use Rattle.std.proofs.lemmas.List.{get_or-set_other}
-use Rattle.std.specs.Prelude.{filter, not}
 use Rattle.vm_base.specs.declared.ids.FrameNo.{FrameNo}
 use Rattle.vm_queues.specs.Queues.{EachOnce, has_page, is_skipped, marked, pages_except}
 use Rattle.vm_queues.specs.Kept.{FramesAreApart, pages, without_frame}
@@ -10,6 +9,12 @@ use Rattle.vm_queues.specs.Kept.{FramesAreApart, pages, without_frame}
 pub skipped_append : (xs ys : List FrameNo) (f : ℕ) → is_skipped (xs ++ ys) f ≡ (is_skipped xs f || is_skipped ys f)
 skipped_append [] ys f = refl
 skipped_append (x ∷ xs) ys f = let rest = skipped_append xs ys f in grind (arith, nat_tests)
+
+pub none_left : (xs ys : List FrameNo) (f : ℕ) → is_skipped (xs ++ ys) f ≡ false → is_skipped xs f ≡ false
+none_left xs ys f none = let append = skipped_append xs ys f in grind (arith, nat_tests)
+
+pub none_right : (xs ys : List FrameNo) (f : ℕ) → is_skipped (xs ++ ys) f ≡ false → is_skipped ys f ≡ false
+none_right xs ys f none = let append = skipped_append xs ys f in grind (arith, nat_tests)
 
 pub apart_push : (n : ℕ) (fs : List FrameNo) (f : FrameNo) → FramesAreApart n fs → f.0 < n → is_skipped fs f.0 ≡ false → FramesAreApart n (fs ++ f ∷ [])
 apart_push n [] f apart less new = (less, refl, tt)
@@ -19,6 +24,25 @@ apart_push n (g ∷ fs) f apart less new =
     let once = apart.1 in
     let both : is_skipped (fs ++ f ∷ []) g.0 ≡ false = grind (arith, nat_tests) in
     (apart.0, both, apart_push n fs f apart.2 less others)
+
+pub apart_left : (n : ℕ) (xs ys : List FrameNo) → FramesAreApart n (xs ++ ys) → FramesAreApart n xs
+apart_left n [] ys apart = tt
+apart_left n (x ∷ xs) ys apart =
+    let append = skipped_append xs ys x.0 in
+    let once = apart.1 in
+    (apart.0, grind (arith, nat_tests), apart_left n xs ys apart.2)
+
+pub apart_right : (n : ℕ) (xs ys : List FrameNo) → FramesAreApart n (xs ++ ys) → FramesAreApart n ys
+apart_right n [] ys apart = apart
+apart_right n (x ∷ xs) ys apart = apart_right n xs ys apart.2
+
+pub disjoint : (n : ℕ) (xs ys : List FrameNo) (f : ℕ) → FramesAreApart n (xs ++ ys) → is_skipped xs f ≡ true → is_skipped ys f ≡ false
+disjoint n [] ys f apart there = absurd (cc)
+disjoint n (x ∷ xs) ys f apart there =
+    let append = skipped_append xs ys x.0 in
+    let once = apart.1 in
+    let rest : is_skipped xs f ≡ true → is_skipped ys f ≡ false = λ there. disjoint n xs ys f apart.2 there in
+    grind (arith, nat_tests)
 
 -- a frame among others, none of which is the same
 pub record Stands (n f : ℕ) (left right : List FrameNo) : Type 0 where
@@ -98,6 +122,43 @@ pub without_append : (f : ℕ) (xs ys : List FrameNo) → without_frame f (xs ++
 without_append f [] ys = refl
 without_append f (x ∷ xs) ys = let rest = without_append f xs ys in grind (arith, nat_tests)
 
+-- a frame of a list, with those in front of it and those behind it
+pub record Split (f : FrameNo) (fs : List FrameNo) : Type 0 where
+  pub left : List FrameNo
+  pub right : List FrameNo
+  pub is : fs ≡ left ++ f ∷ right
+
+split_cons : (test : Bool) (f g : FrameNo) (fs : List FrameNo) → (g.0 == f.0) ≡ test → is_skipped (g ∷ fs) f.0 ≡ true → (is_skipped fs f.0 ≡ true → Split f fs) → Split f (g ∷ fs)
+split_cons true f g fs is there rest =
+    let same : g.0 ≡ f.0 = grind (arith, nat_tests, is) in
+    record { left = []; right = fs; is = ap (λ (n : ℕ). record { 0 = n } ∷ fs) same }
+split_cons false f g fs is there rest =
+    let behind = rest (rw is at there) in
+    record { left = g ∷ behind.left; right = behind.right; is = ap (λ z. g ∷ z) behind.is }
+
+pub split : (f : FrameNo) (fs : List FrameNo) → is_skipped fs f.0 ≡ true → Split f fs
+split f [] there = absurd (cc)
+split f (g ∷ fs) there = split_cons (g.0 == f.0) f g fs refl there (split f fs)
+
+pub same_number : (a : ℕ) → (a == a) ≡ true
+same_number a = grind (arith, nat_tests)
+
+pub without_first : (f : FrameNo) (fs : List FrameNo) → is_skipped fs f.0 ≡ false → without_frame f.0 (f ∷ fs) ≡ fs
+without_first f fs none = rw (same_number f.0) (without_none f.0 fs none)
+
+pub without_one : (n : ℕ) (xs : List FrameNo) (f : FrameNo) (ys : List FrameNo) → FramesAreApart n (xs ++ f ∷ ys) → without_frame f.0 (xs ++ f ∷ ys) ≡ xs ++ ys
+without_one n xs f ys apart =
+    let stand = stands n xs f ys apart in
+    without_append f.0 xs (f ∷ ys) ∙ ap (λ z. z ++ without_frame f.0 (f ∷ ys)) (without_none f.0 xs stand.front) ∙ ap (λ z. xs ++ z) (without_first f ys stand.behind)
+
+none_cons : (test : Bool) (f : ℕ) (g : FrameNo) (fs : List FrameNo) → (g.0 == f) ≡ test → is_skipped (without_frame f fs) f ≡ false → is_skipped (without_frame f (g ∷ fs)) f ≡ false
+none_cons true f g fs is rest = rw is rest
+none_cons false f g fs is rest = rw (is, is) rest
+
+pub none_without : (f : ℕ) (fs : List FrameNo) → is_skipped (without_frame f fs) f ≡ false
+none_without f [] = refl
+none_without f (g ∷ fs) = none_cons (g.0 == f) f g fs refl (none_without f fs)
+
 -- the mark of a frame that is not on the list
 pub pages_apart : (marks : List Bool) (f : ℕ) (mark : Bool) (fs : List FrameNo) → is_skipped fs f ≡ false → pages (set marks f mark) fs ≡ pages marks fs
 pages_apart marks f mark [] none = refl
@@ -128,14 +189,6 @@ pages_without marks f (g ∷ fs) = pages_cons (g.0 == f) marks f g fs refl (page
 pub has_pages : (marks : List Bool) (f : ℕ) (fs : List FrameNo) → has_page (pages marks fs) f ≡ is_skipped fs f
 has_pages marks f [] = refl
 has_pages marks f (g ∷ fs) = let rest = has_pages marks f fs in rw rest refl
-
-filter_cons : (test : Bool) (f : ℕ) (g : FrameNo) (fs : List FrameNo) → (g.0 == f) ≡ test → filter (λ (h : FrameNo). not (h.0 == f)) fs ≡ without_frame f fs → filter (λ (h : FrameNo). not (h.0 == f)) (g ∷ fs) ≡ without_frame f (g ∷ fs)
-filter_cons true f g fs is rest = rw is rest
-filter_cons false f g fs is rest = rw (is, rest) refl
-
-pub filtered : (f : ℕ) (fs : List FrameNo) → filter (λ (g : FrameNo). not (g.0 == f)) fs ≡ without_frame f fs
-filtered f [] = refl
-filtered f (g ∷ fs) = filter_cons (g.0 == f) f g fs refl (filtered f fs)
 
 -- so each page stands there once
 pub pages_once : (n : ℕ) (marks : List Bool) (fs : List FrameNo) → FramesAreApart n fs → EachOnce (pages marks fs)

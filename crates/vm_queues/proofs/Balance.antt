@@ -5,7 +5,7 @@ use Rattle.std.proofs.lemmas.List.{append-nil, append_assoc, drop-append-le, dro
 use Rattle.std.specs.Prelude.{if◌then◌else◌}
 use Rattle.vm_base.specs.declared.ids.FrameNo.{FrameNo}
 use Rattle.vm_queues.specs.Kept.{front_referenced}
-use Rattle.vm_queues.specs.Queues.{Page, Queues, balanced, cleared, first_unskipped, from_unreferenced, needs_none, one_spared, referenced_front, shortage, spared, with_deactivated}
+use Rattle.vm_queues.specs.Queues.{Page, Queues, balanced, cleared, first_unskipped, from_unreferenced, is_skipped, needs_none, one_spared, referenced_front, shortage, spared, with_deactivated}
 
 abbrev pub queues : List Page → List Page → ℕ → Queues
 queues a i n = record { active = a; inactive = i; frames = n }
@@ -135,3 +135,9 @@ first_some skip (x ∷ xs) ys f is = let rest = first_some skip xs ys f in grind
 pub first_none : (skip : List FrameNo) (xs ys : List Page) → first_unskipped skip xs ≡ None → first_unskipped skip (xs ++ ys) ≡ first_unskipped skip ys
 first_none skip [] ys is = refl
 first_none skip (x ∷ xs) ys is = let rest = first_none skip xs ys in grind (arith, nat_tests)
+
+pub first_picked : (skip : List FrameNo) (p : Page) (ps : List Page) → is_skipped skip p.frame ≡ false → first_unskipped skip (p ∷ ps) ≡ Some (record { 0 = p.frame })
+first_picked skip p ps is = rw is refl
+
+pub first_passed : (skip : List FrameNo) (p : Page) (ps : List Page) → is_skipped skip p.frame ≡ true → first_unskipped skip (p ∷ ps) ≡ first_unskipped skip ps
+first_passed skip p ps is = rw is refl

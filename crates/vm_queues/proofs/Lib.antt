@@ -1,4 +1,6 @@
 mod Apart
 pub mod Balance
+mod Chains
+mod Linking
 mod Moves
 pub mod Queued

@@ -1,138 +1,114 @@
--- What an edit of the lists leaves.
-use Rattle.std.proofs.Common.{ℕ, ◌≡◌, ◌+◌, ◌<◌, ◌≤◌, Bool, true, false, List, [], ◌∷◌, ◌++◌, drop, length, map, set, take, sym, ◌∙◌, ap, subst, arith}
+-- The pages that contracts see, where frames are put on a list and taken off one.
+use Rattle.std.proofs.Common.{ℕ, ◌≡◌, ◌+◌, ◌<◌, ◌≤◌, Bool, true, false, List, [], ◌∷◌, ◌++◌, Some, None, get_or, length, set, sym, ◌∙◌, ap, subst, arith, refl}
 use Rattle.std.proofs.lemmas.Bool.Decides.{nat_tests}
-use Rattle.std.proofs.lemmas.List.{append_assoc, get_or-set_same, length-append, length-set, map-append, map_push}
-use Rattle.std.specs.VecDeque.{deque_capacity}
+use Rattle.std.proofs.lemmas.List.{get_or-set_same, get_or_default, length-append, length-set, map-append, map_push}
 use Rattle.vm_base.specs.declared.ids.FrameNo.{FrameNo}
-use Rattle.vm_queues.specs.declared.lists.Lists.{Lists}
-use Rattle.vm_queues.specs.Kept.{ArePageLists, FramesAreApart, all_frames, page_lists, pages, queued_page, without_frame}
-use Rattle.vm_queues.specs.Queues.{added, cleared, has_page, is_queued, is_skipped, new_page, one_spared, queues_except, with_deactivated, with_reference}
-use Rattle.vm_queues.proofs.Apart.{apart_fits, apart_push, apart_without, has_pages, inside, pages_apart, pages_marked, pages_without, skipped_append, stands, without_append}
+use Rattle.vm_queues.specs.Kept.{FrameLists, FramesAreApart, all_frames, frames_except, front_referenced_of, pages, pages_of, queued_page, with_active, with_inactive}
+use Rattle.vm_queues.specs.Links.{first_frame}
+use Rattle.vm_queues.specs.Queues.{added, has_page, is_queued, is_skipped, new_page, one_spared, queues_except, with_deactivated, with_reference}
+use Rattle.vm_queues.proofs.Apart.{apart_fits, has_pages, inside, none_left, none_right, none_without, pages_apart, pages_marked, pages_without, skipped_append, stands, without_append, without_first, without_none}
 use Rattle.vm_queues.proofs.Balance.{same_queues}
 
-pub all_fit : (lists : Lists) → ArePageLists lists → length lists.inactive.items + length lists.active.items ≤ length lists.marks.items
-all_fit lists kept = omega (arith, apart_fits _ _ kept.apart, length-append lists.inactive.items lists.active.items)
+pub all_fit : (lists : FrameLists) → FramesAreApart (length lists.marks) (all_frames lists) → length lists.inactive + length lists.active ≤ length lists.marks
+all_fit lists apart = omega (arith, apart_fits _ _ apart, length-append lists.inactive lists.active)
 
-pub queued_is : (lists : Lists) (f : ℕ) → is_queued (page_lists lists) f ≡ is_skipped (all_frames lists) f
+pub queued_is : (lists : FrameLists) (f : ℕ) → is_queued (pages_of lists) f ≡ is_skipped (all_frames lists) f
 queued_is lists f =
-    ap (λ ps. has_page ps f) (sym (map-append (queued_page lists.marks.items) lists.inactive.items lists.active.items)) ∙ has_pages lists.marks.items f (all_frames lists)
+    ap (λ ps. has_page ps f) (sym (map-append (queued_page lists.marks) lists.inactive lists.active)) ∙ has_pages lists.marks f (all_frames lists)
 
--- the lists hold frames that are apart, and have the room that they had
-pub kept_so : (old new : Lists) → ArePageLists old → FramesAreApart (length old.marks.items) (all_frames new) → length new.marks.items ≡ length old.marks.items → deque_capacity old.active ≤ deque_capacity new.active → deque_capacity old.inactive ≤ deque_capacity new.inactive → ArePageLists new
-kept_so old new kept apart long active inactive = record {
-  apart = subst (λ n. FramesAreApart n (all_frames new)) (sym long) apart;
-  active = omega (arith, long, kept.active, active);
-  inactive = omega (arith, long, kept.inactive, inactive);
-  few = omega (arith, long, kept.few);
-}
-
-pub pages_pushed : (marks : List Bool) (f : FrameNo) (fs : List FrameNo) → is_skipped fs f.0 ≡ false → f.0 < length marks → pages (set marks f.0 false) (fs ++ f ∷ []) ≡ pages marks fs ++ new_page f.0 ∷ []
+pages_pushed : (marks : List Bool) (f : FrameNo) (fs : List FrameNo) → is_skipped fs f.0 ≡ false → f.0 < length marks → pages (set marks f.0 false) (fs ++ f ∷ []) ≡ pages marks fs ++ new_page f.0 ∷ []
 pages_pushed marks f fs apart inside =
     let here : queued_page (set marks f.0 false) f ≡ new_page f.0 = λ k. record { frame = f.0; referenced = get_or-set_same marks f.0 false false inside k } in
     map_push (queued_page (set marks f.0 false)) fs f ∙ ap (λ z. z ++ queued_page (set marks f.0 false) f ∷ []) (pages_apart marks f.0 false fs apart) ∙ ap (λ z. pages marks fs ++ z ∷ []) here
 
+-- a frame that is on no list goes to the active back
+pub added_seen : (f : FrameNo) (lists : FrameLists) → f.0 < length lists.marks → is_skipped (all_frames lists) f.0 ≡ false → pages_of (with_active f lists) ≡ added f.0 (pages_of lists)
+added_seen f lists inside none =
+    let left = none_left lists.inactive lists.active f.0 none in
+    let right = none_right lists.inactive lists.active f.0 none in
+    same_queues _ _ _ _ _ _ (pages_pushed lists.marks f lists.active right inside) (pages_apart lists.marks f.0 false lists.inactive left) (length-set lists.marks f.0 false)
+
 -- the active front goes to the inactive back
-pub record Ages (f : FrameNo) (old new : Lists) : Type 0 where
-  pub active : old.active.items ≡ f ∷ new.active.items
-  pub inactive : new.inactive.items ≡ old.inactive.items ++ f ∷ []
-  pub marks : new.marks.items ≡ set old.marks.items f.0 false
-
-pub aged_apart : (f : FrameNo) (old new : Lists) → Ages f old new → ArePageLists old → FramesAreApart (length old.marks.items) (all_frames new)
-aged_apart f old new ages kept =
-    let ring : all_frames new ≡ all_frames old = ap (λ z. z ++ new.active.items) ages.inactive ∙ append_assoc old.inactive.items (f ∷ []) new.active.items ∙ ap (λ z. old.inactive.items ++ z) (sym ages.active) in
-    subst (FramesAreApart (length old.marks.items)) (sym ring) kept.apart
-
-pub aged_seen : (f : FrameNo) (old new : Lists) → Ages f old new → ArePageLists old → page_lists new ≡ with_deactivated 1 (page_lists old)
-aged_seen f old new ages kept =
-    let marks = old.marks.items in
-    let apart : FramesAreApart (length marks) (old.inactive.items ++ f ∷ new.active.items) = subst (λ z. FramesAreApart (length marks) (old.inactive.items ++ z)) ages.active kept.apart in
-    let stand = stands (length marks) old.inactive.items f new.active.items apart in
+aged : (f : FrameNo) (a i : List FrameNo) (marks : List Bool) → FramesAreApart (length marks) (i ++ f ∷ a)
+    → pages_of (with_inactive f (frames_except f.0 (record { active = f ∷ a; inactive = i; marks = marks }))) ≡ with_deactivated 1 (pages_of (record { active = f ∷ a; inactive = i; marks = marks }))
+aged f a i marks apart =
+    let stand = stands (length marks) i f a apart in
     same_queues _ _ _ _ _ _
-    (ap (λ z. pages z new.active.items) ages.marks ∙ pages_apart marks f.0 false new.active.items stand.behind ∙ ap (λ z. drop 1 (pages marks z)) (sym ages.active))
-    (ap (λ z. pages z new.inactive.items) ages.marks ∙ ap (pages (set marks f.0 false)) ages.inactive ∙ pages_pushed marks f old.inactive.items stand.front stand.inside
-    ∙ ap (λ z. pages marks old.inactive.items ++ map cleared (take 1 (pages marks z))) (sym ages.active))
-    (ap length ages.marks ∙ length-set marks f.0 false)
+    (ap (pages (set marks f.0 false)) (without_first f a stand.behind) ∙ pages_apart marks f.0 false a stand.behind)
+    (ap (λ z. pages (set marks f.0 false) (z ++ f ∷ [])) (without_none f.0 i stand.front) ∙ pages_pushed marks f i stand.front stand.inside)
+    (length-set marks f.0 false)
+
+aged_on : (f : FrameNo) (a i : List FrameNo) (marks : List Bool) → first_frame a ≡ Some f → FramesAreApart (length marks) (i ++ a)
+    → pages_of (with_inactive f (frames_except f.0 (record { active = a; inactive = i; marks = marks }))) ≡ with_deactivated 1 (pages_of (record { active = a; inactive = i; marks = marks }))
+aged_on f [] i marks first apart = absurd (cc)
+aged_on f (g ∷ a) i marks first apart =
+    let same : g ≡ f = cc in
+    subst (λ z. pages_of (with_inactive z (frames_except z.0 (record { active = g ∷ a; inactive = i; marks = marks }))) ≡ with_deactivated 1 (pages_of (record { active = g ∷ a; inactive = i; marks = marks }))) same
+    (aged g a i marks apart)
+
+pub aged_seen : (f : FrameNo) (lists : FrameLists) → first_frame lists.active ≡ Some f → FramesAreApart (length lists.marks) (all_frames lists)
+    → pages_of (with_inactive f (frames_except f.0 lists)) ≡ with_deactivated 1 (pages_of lists)
+aged_seen f lists first apart = aged_on f lists.active lists.inactive lists.marks first apart
 
 -- the inactive front goes to the active back
-pub record Spares (f : FrameNo) (old new : Lists) : Type 0 where
-  pub inactive : old.inactive.items ≡ f ∷ new.inactive.items
-  pub active : new.active.items ≡ old.active.items ++ f ∷ []
-  pub marks : new.marks.items ≡ set old.marks.items f.0 false
-
-pub spared_apart : (f : FrameNo) (old new : Lists) → Spares f old new → ArePageLists old → FramesAreApart (length old.marks.items) (all_frames new)
-spared_apart f old new spares kept =
-    let n = length old.marks.items in
-    let front : FramesAreApart n (f ∷ (new.inactive.items ++ old.active.items)) = subst (λ z. FramesAreApart n (z ++ old.active.items)) spares.inactive kept.apart in
-    let ring : (new.inactive.items ++ old.active.items) ++ f ∷ [] ≡ all_frames new = append_assoc new.inactive.items old.active.items (f ∷ []) ∙ ap (λ z. new.inactive.items ++ z) (sym spares.active) in
-    subst (FramesAreApart n) ring (apart_push n (new.inactive.items ++ old.active.items) f front.2 front.0 front.1)
-
-pub spared_seen : (f : FrameNo) (old new : Lists) → Spares f old new → ArePageLists old → page_lists new ≡ one_spared (page_lists old)
-spared_seen f old new spares kept =
-    let marks = old.marks.items in
-    let front : FramesAreApart (length marks) (f ∷ (new.inactive.items ++ old.active.items)) = subst (λ z. FramesAreApart (length marks) (z ++ old.active.items)) spares.inactive kept.apart in
-    let append = skipped_append new.inactive.items old.active.items f.0 in
-    let once = front.1 in
-    let left : is_skipped new.inactive.items f.0 ≡ false = grind (arith, nat_tests) in
-    let right : is_skipped old.active.items f.0 ≡ false = grind (arith, nat_tests) in
+turned : (f : FrameNo) (a i : List FrameNo) (marks : List Bool) → FramesAreApart (length marks) (f ∷ (i ++ a))
+    → pages_of (with_active f (frames_except f.0 (record { active = a; inactive = f ∷ i; marks = marks }))) ≡ one_spared (pages_of (record { active = a; inactive = f ∷ i; marks = marks }))
+turned f a i marks apart =
+    let left = none_left i a f.0 apart.1 in
+    let right = none_right i a f.0 apart.1 in
     same_queues _ _ _ _ _ _
-    (ap (λ z. pages z new.active.items) spares.marks ∙ ap (pages (set marks f.0 false)) spares.active ∙ pages_pushed marks f old.active.items right front.0
-    ∙ ap (λ z. pages marks old.active.items ++ map cleared (take 1 (pages marks z))) (sym spares.inactive))
-    (ap (λ z. pages z new.inactive.items) spares.marks ∙ pages_apart marks f.0 false new.inactive.items left ∙ ap (λ z. drop 1 (pages marks z)) (sym spares.inactive))
-    (ap length spares.marks ∙ length-set marks f.0 false)
+    (ap (λ z. pages (set marks f.0 false) (z ++ f ∷ [])) (without_none f.0 a right) ∙ pages_pushed marks f a right apart.0)
+    (ap (pages (set marks f.0 false)) (without_first f i left) ∙ pages_apart marks f.0 false i left)
+    (length-set marks f.0 false)
 
--- a frame that is on no list goes to the active back
-pub record Adds (f : FrameNo) (old new : Lists) : Type 0 where
-  pub inactive : new.inactive.items ≡ old.inactive.items
-  pub active : new.active.items ≡ old.active.items ++ f ∷ []
-  pub marks : new.marks.items ≡ set old.marks.items f.0 false
+turned_on : (f : FrameNo) (a i : List FrameNo) (marks : List Bool) → first_frame i ≡ Some f → FramesAreApart (length marks) (i ++ a)
+    → pages_of (with_active f (frames_except f.0 (record { active = a; inactive = i; marks = marks }))) ≡ one_spared (pages_of (record { active = a; inactive = i; marks = marks }))
+turned_on f a [] marks first apart = absurd (cc)
+turned_on f a (g ∷ i) marks first apart =
+    let same : g ≡ f = cc in
+    subst (λ z. pages_of (with_active z (frames_except z.0 (record { active = a; inactive = g ∷ i; marks = marks }))) ≡ one_spared (pages_of (record { active = a; inactive = g ∷ i; marks = marks }))) same
+    (turned g a i marks apart)
 
-pub added_apart : (f : FrameNo) (old new : Lists) → Adds f old new → ArePageLists old → f.0 < length old.marks.items → is_skipped (all_frames old) f.0 ≡ false → FramesAreApart (length old.marks.items) (all_frames new)
-added_apart f old new adds kept inside none =
-    let ring : all_frames old ++ f ∷ [] ≡ all_frames new = append_assoc old.inactive.items old.active.items (f ∷ []) ∙ ap (λ z. old.inactive.items ++ z) (sym adds.active) ∙ ap (λ z. z ++ new.active.items) (sym adds.inactive) in
-    subst (FramesAreApart (length old.marks.items)) ring (apart_push (length old.marks.items) (all_frames old) f kept.apart inside none)
+pub spared_seen : (f : FrameNo) (lists : FrameLists) → first_frame lists.inactive ≡ Some f → FramesAreApart (length lists.marks) (all_frames lists)
+    → pages_of (with_active f (frames_except f.0 lists)) ≡ one_spared (pages_of lists)
+spared_seen f lists first apart = turned_on f lists.active lists.inactive lists.marks first apart
 
-pub added_seen : (f : FrameNo) (old new : Lists) → Adds f old new → f.0 < length old.marks.items → is_skipped (all_frames old) f.0 ≡ false → page_lists new ≡ added f.0 (page_lists old)
-added_seen f old new adds inside none =
-    let marks = old.marks.items in
-    let append = skipped_append old.inactive.items old.active.items f.0 in
-    let left : is_skipped old.inactive.items f.0 ≡ false = grind (arith, nat_tests) in
-    let right : is_skipped old.active.items f.0 ≡ false = grind (arith, nat_tests) in
-    same_queues _ _ _ _ _ _
-    (ap (λ z. pages z new.active.items) adds.marks ∙ ap (pages (set marks f.0 false)) adds.active ∙ pages_pushed marks f old.active.items right inside)
-    (ap (λ z. pages z new.inactive.items) adds.marks ∙ ap (pages (set marks f.0 false)) adds.inactive ∙ pages_apart marks f.0 false old.inactive.items left)
-    (ap length adds.marks ∙ length-set marks f.0 false)
+pub none_first : (fs : List FrameNo) → first_frame fs ≡ None → fs ≡ []
+none_first [] none = refl
+none_first (f ∷ fs) none = absurd (cc)
 
-pub queued_inside : (lists : Lists) (f : ℕ) → ArePageLists lists → is_queued (page_lists lists) f ≡ true → f < length lists.marks.items
-queued_inside lists f kept there = inside (length lists.marks.items) (all_frames lists) f kept.apart (sym (queued_is lists f) ∙ there)
+first_has : (fs : List FrameNo) (f : FrameNo) → first_frame fs ≡ Some f → is_skipped fs f.0 ≡ true
+first_has [] f first = absurd (cc)
+first_has (g ∷ fs) f first = let same : g ≡ f = cc in grind (arith, nat_tests)
 
-pub touched_seen : (f : ℕ) (old new : Lists) → f < length old.marks.items → new.active.items ≡ old.active.items → new.inactive.items ≡ old.inactive.items → new.marks.items ≡ set old.marks.items f true → page_lists new ≡ with_reference f (page_lists old)
-touched_seen f old new inside active inactive marks =
-    same_queues _ _ _ _ _ _
-    (ap (λ z. pages z new.active.items) marks ∙ ap (pages (set old.marks.items f true)) active ∙ pages_marked old.marks.items f old.active.items inside)
-    (ap (λ z. pages z new.inactive.items) marks ∙ ap (pages (set old.marks.items f true)) inactive ∙ pages_marked old.marks.items f old.inactive.items inside)
-    (ap length marks ∙ length-set old.marks.items f true)
+pub active_first : (lists : FrameLists) (f : FrameNo) → first_frame lists.active ≡ Some f → is_skipped (all_frames lists) f.0 ≡ true
+active_first lists f first =
+    let append = skipped_append lists.inactive lists.active f.0 in
+    let there = first_has lists.active f first in
+    grind (arith, nat_tests)
 
--- a frame is taken off both lists
-pub record Drops (f : ℕ) (old new : Lists) : Type 0 where
-  pub inactive : new.inactive.items ≡ without_frame f old.inactive.items
-  pub active : new.active.items ≡ without_frame f old.active.items
-  pub marks : new.marks.items ≡ old.marks.items
+pub inactive_first : (lists : FrameLists) (f : FrameNo) → first_frame lists.inactive ≡ Some f → is_skipped (all_frames lists) f.0 ≡ true
+inactive_first lists f first =
+    let append = skipped_append lists.inactive lists.active f.0 in
+    let there = first_has lists.inactive f first in
+    grind (arith, nat_tests)
 
-pub dropped_apart : (f : ℕ) (old new : Lists) → Drops f old new → ArePageLists old → FramesAreApart (length old.marks.items) (all_frames new)
-dropped_apart f old new drops kept =
-    let ring : without_frame f (all_frames old) ≡ all_frames new = without_append f old.inactive.items old.active.items ∙ ap (λ z. z ++ without_frame f old.active.items) (sym drops.inactive) ∙ ap (λ z. new.inactive.items ++ z) (sym drops.active) in
-    subst (FramesAreApart (length old.marks.items)) ring (apart_without (length old.marks.items) f (all_frames old) kept.apart)
+pub none_except : (lists : FrameLists) (f : ℕ) → is_skipped (all_frames (frames_except f lists)) f ≡ false
+none_except lists f = ap (λ z. is_skipped z f) (sym (without_append f lists.inactive lists.active)) ∙ none_without f (all_frames lists)
 
-pub dropped_seen : (f : ℕ) (old new : Lists) → Drops f old new → page_lists new ≡ queues_except f (page_lists old)
-dropped_seen f old new drops =
-    let marks = old.marks.items in
-    same_queues _ _ _ _ _ _
-    (ap (λ z. pages z new.active.items) drops.marks ∙ ap (pages marks) drops.active ∙ pages_without marks f old.active.items)
-    (ap (λ z. pages z new.inactive.items) drops.marks ∙ ap (pages marks) drops.inactive ∙ pages_without marks f old.inactive.items)
-    (ap length drops.marks)
+pub frame_inside : (lists : FrameLists) (f : ℕ) → FramesAreApart (length lists.marks) (all_frames lists) → is_skipped (all_frames lists) f ≡ true → f < length lists.marks
+frame_inside lists f apart there = inside (length lists.marks) (all_frames lists) f apart there
 
-pub room_for_one : (f : FrameNo) (lists : Lists) → ArePageLists lists → f.0 < length lists.marks.items → is_skipped (all_frames lists) f.0 ≡ false → length lists.active.items < length lists.marks.items
-room_for_one f lists kept inside none =
-    let n = length lists.marks.items in
-    let more = apart_fits n (all_frames lists ++ f ∷ []) (apart_push n (all_frames lists) f kept.apart inside none) in
-    omega (arith, more, length-append (all_frames lists) (f ∷ []), length-append lists.inactive.items lists.active.items)
+pub touched_seen : (f : ℕ) (lists : FrameLists) → f < length lists.marks → pages_of (record lists { marks = set lists.marks f true }) ≡ with_reference f (pages_of lists)
+touched_seen f lists inside = same_queues _ _ _ _ _ _ (pages_marked lists.marks f lists.active inside) (pages_marked lists.marks f lists.inactive inside) (length-set lists.marks f true)
+
+-- a frame is taken off its list
+pub dropped_seen : (f : ℕ) (lists : FrameLists) → pages_of (frames_except f lists) ≡ queues_except f (pages_of lists)
+dropped_seen f lists = same_queues _ _ _ _ _ _ (pages_without lists.marks f lists.active) (pages_without lists.marks f lists.inactive) refl
+
+-- the mark of the first frame of a list
+pub front_read : (marks : List Bool) (fs : List FrameNo) (f : FrameNo) (mark : Bool) → first_frame fs ≡ Some f → f.0 < length marks → mark ≡ get_or marks f.0 mark → mark ≡ front_referenced_of (pages marks fs)
+front_read marks [] f mark first inside is = absurd (cc)
+front_read marks (g ∷ fs) f mark first inside is =
+    let same : g ≡ f = cc in
+    is ∙ get_or_default marks f.0 mark false inside ∙ ap (λ (h : FrameNo). get_or marks h.0 false) (sym same)

@@ -1,2 +1,3 @@
 pub mod Kept
+pub mod Links
 pub mod Queues

@@ -1,60 +1,100 @@
 // The two lists and the marks, and the moves between the lists.
-ghost use Rattle.std.specs.Prelude.{◌≡◌, ◌<◌, ◌≤◌, ◌++◌, ◌∷◌, ℕ, [], Bool, List, true, false, IfOk, get_or, length, replicate};
-ghost use Rattle.vm_queues.specs.Queues.{balanced, first_unskipped, is_skipped, needs_none, one_spared, queues_except, spared, victim_frame, with_deactivated};
-ghost use Rattle.vm_queues.specs.Kept.{ArePageLists, front_referenced, page_lists, pages, without_frame};
-ghost use Rattle.std.specs.VecDeque.{deque_capacity};
+ghost use Rattle.std.specs.Prelude.{◌≡◌, ◌<◌, ℕ, [], Bool, List, true, false, IfOk, length};
+ghost use Rattle.vm_queues.specs.Queues.{balanced, first_unskipped, is_skipped, needs_none, one_spared, spared, victim_frame, with_deactivated};
+ghost use Rattle.vm_queues.specs.Kept.{ArePageLists, FramesAreApart, all_frames, frame_lists, frames_except, frames_on, front_referenced, page_lists, pages, with_active, with_inactive};
 
+use crate::link::{Link, OnList};
+use crate::links::{Ends, neither, no_ends, push, unlink};
 use std::alloc::Global;
-use std::collections::VecDeque;
 use vm_base::{FrameNo, NoMemory};
 
-/// The two lists of frames, each with its front first, and the marks of reference.
+/// The links and the marks of the frames, and the ends of the two lists.
 #[derive(Drop)]
 pub struct Lists {
-    pub active: VecDeque<FrameNo>,
-    pub inactive: VecDeque<FrameNo>,
+    // By frame.
+    pub links: Vec<Link>,
     // By frame; it means something for the frames on a list alone.
     pub marks: Vec<bool>,
+    pub active: Ends,
+    pub inactive: Ends,
 }
 
-/// Lists with room for so many frames, so that no later call takes memory; it fails for want of it.
+/// Empty lists for so many frames, so that no later call takes memory; it fails for want of it.
 pub fn empty(alloc: Global, frames: u32) -> Result<Lists, NoMemory>
     ensures kept { IfOk result (λ lists. ArePageLists lists) }
     ensures seen { IfOk result (λ lists. page_lists lists ≡ record { active = []; inactive = []; frames = frames }) }
 {
-    let active = VecDeque::with_capacity(alloc, frames as usize)?;
-    let inactive = VecDeque::with_capacity(alloc, frames as usize)?;
+    let links = vec![in alloc; neither(); frames as usize]?;
     let marks = vec![in alloc; false; frames as usize]?;
     Ok(Lists {
-        active,
-        inactive,
+        links,
         marks,
+        active: no_ends(),
+        inactive: no_ends(),
     })
+}
+
+/// Puts a frame that is on neither list at the active back, not referenced.
+pub fn put_active(lists: &mut Lists, f: FrameNo)
+    requires kept { ArePageLists lists.old }
+    requires inside { f.0 < length lists.old.marks.items }
+    requires absent { is_skipped (all_frames (frame_lists lists.old)) f.0 ≡ false }
+    ensures kept { ArePageLists lists.new }
+    ensures frames { frame_lists lists.new ≡ with_active f (frame_lists lists.old) }
+{
+    lists.marks[f.0 as usize] = false;
+    push(&mut lists.links, &mut lists.active, OnList::Active, f);
+}
+
+// Puts a frame that is on neither list at the inactive back, not referenced.
+fn put_inactive(lists: &mut Lists, f: FrameNo)
+    requires kept { ArePageLists lists.old }
+    requires inside { f.0 < length lists.old.marks.items }
+    requires absent { is_skipped (all_frames (frame_lists lists.old)) f.0 ≡ false }
+    ensures kept { ArePageLists lists.new }
+    ensures frames { frame_lists lists.new ≡ with_inactive f (frame_lists lists.old) }
+{
+    lists.marks[f.0 as usize] = false;
+    push(&mut lists.links, &mut lists.inactive, OnList::Inactive, f);
+}
+
+/// Takes a frame off its list.
+pub fn take_off(lists: &mut Lists, f: FrameNo)
+    requires kept { ArePageLists lists.old }
+    requires there { is_skipped (all_frames (frame_lists lists.old)) f.0 ≡ true }
+    ensures kept { ArePageLists lists.new }
+    ensures frames { frame_lists lists.new ≡ frames_except f.0 (frame_lists lists.old) }
+{
+    match lists.links[f.0 as usize].list {
+        OnList::Active => unlink(&mut lists.links, &mut lists.active, f),
+        OnList::Inactive => unlink(&mut lists.links, &mut lists.inactive, f),
+        OnList::Neither => {}
+    }
 }
 
 // Moves the active front to the inactive back, and clears its mark.
 fn age(lists: &mut Lists)
     requires kept { ArePageLists lists.old }
-    requires some { 0 < length lists.old.active.items }
+    requires some { 0 < lists.old.active.count }
     ensures kept { ArePageLists lists.new }
     ensures moved { page_lists lists.new ≡ with_deactivated 1 (page_lists lists.old) }
 {
-    if let Some(frame) = lists.active.pop_front() {
-        lists.marks[frame.0 as usize] = false;
-        let _ = lists.inactive.push_back(frame);
+    if let Some(frame) = lists.active.first {
+        take_off(lists, frame);
+        put_inactive(lists, frame);
     }
 }
 
 // Moves the inactive front to the active back, and clears its mark.
 fn spare_front(lists: &mut Lists)
     requires kept { ArePageLists lists.old }
-    requires some { 0 < length lists.old.inactive.items }
+    requires some { front_referenced (page_lists lists.old) ≡ true }
     ensures kept { ArePageLists lists.new }
     ensures spared { page_lists lists.new ≡ one_spared (page_lists lists.old) }
 {
-    if let Some(frame) = lists.inactive.pop_front() {
-        lists.marks[frame.0 as usize] = false;
-        let _ = lists.active.push_back(frame);
+    if let Some(frame) = lists.inactive.first {
+        take_off(lists, frame);
+        put_active(lists, frame);
     }
 }
 
@@ -66,7 +106,7 @@ pub fn balance(lists: &mut Lists)
     ensures balanced { page_lists lists.new ≡ balanced (page_lists lists.old) }
     ensures done { needs_none (page_lists lists.new) }
 {
-    'balance: while 3 * lists.inactive.len() < lists.active.len() + lists.inactive.len() {
+    'balance: while 3 * lists.inactive.count < lists.active.count + lists.inactive.count {
         age(lists);
     }
 }
@@ -76,7 +116,7 @@ fn is_front_referenced(lists: &Lists) -> bool
     requires { ArePageLists lists.now }
     ensures { result ≡ front_referenced (page_lists lists.now) }
 {
-    match lists.inactive.front() {
+    match lists.inactive.first {
         Some(frame) => lists.marks[frame.0 as usize],
         None => false,
     }
@@ -95,23 +135,6 @@ pub fn spare(lists: &mut Lists)
     }
 }
 
-fn take_off(frames: &mut VecDeque<FrameNo>, f: FrameNo)
-    ensures items { frames.new.items ≡ without_frame f.0 frames.old.items }
-    ensures capacity { deque_capacity frames.new ≡ deque_capacity frames.old }
-{
-    frames.retain(|frame| frame.0 != f.0);
-}
-
-/// Takes a frame off both lists.
-pub fn drop_frame(lists: &mut Lists, f: FrameNo)
-    requires { ArePageLists lists.old }
-    ensures kept { ArePageLists lists.new }
-    ensures removed { page_lists lists.new ≡ queues_except f.0 (page_lists lists.old) }
-{
-    take_off(&mut lists.active, f);
-    take_off(&mut lists.inactive, f);
-}
-
 fn is_skipped(skip: &[FrameNo], f: FrameNo) -> bool
     ensures { result ≡ is_skipped skip.now f.0 }
 {
@@ -124,24 +147,30 @@ fn is_skipped(skip: &[FrameNo], f: FrameNo) -> bool
 }
 
 // The first frame of a list that isn't skipped.
-fn first_unskipped(frames: &VecDeque<FrameNo>, skip: &[FrameNo]) -> Option<FrameNo>
-    ensures { (marks : List Bool) → result ≡ first_unskipped skip.now (pages marks frames.now.items) }
+fn first_unskipped(links: &[Link], ends: Ends, skip: &[FrameNo]) -> Option<FrameNo>
+    requires { FramesAreApart (length links.now) (frames_on links.now ends) }
+    ensures { (marks : List Bool) → result ≡ first_unskipped skip.now (pages marks (frames_on links.now ends)) }
 {
-    'all: for i in 0..frames.len() {
-        let frame = frames[i];
+    let mut at = ends.first;
+    'all: for _ in 0..ends.count {
+        let Some(frame) = at else {
+            return None;
+        };
         if !is_skipped(skip, frame) {
             return Some(frame);
         }
+        at = links[frame.0 as usize].after;
     }
     None
 }
 
 /// The first frame that isn't skipped, inactive ones first.
 pub fn choose(lists: &Lists, skip: &[FrameNo]) -> Option<FrameNo>
+    requires { ArePageLists lists.now }
     ensures { result ≡ victim_frame skip.now (page_lists lists.now) }
 {
-    match first_unskipped(&lists.inactive, skip) {
+    match first_unskipped(&lists.links, lists.inactive, skip) {
         Some(frame) => Some(frame),
-        None => first_unskipped(&lists.active, skip),
+        None => first_unskipped(&lists.links, lists.active, skip),
     }
 }

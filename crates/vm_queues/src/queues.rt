@@ -1,8 +1,10 @@
 // The queues of the pages that are here.
-ghost use Rattle.std.specs.Prelude.{◌≡◌, ◌<◌, ◌++◌, ℕ, [], true, false, IfOk, MatchOption, if◌then◌else◌};
+ghost use Rattle.std.specs.Prelude.{◌≡◌, ◌<◌, ◌++◌, ℕ, [], true, false, IfOk, MatchOption, if◌then◌else◌, length};
+ghost use Rattle.vm_queues.specs.Links.{along, first_frame, frames_of, link_in, link_of};
 ghost use Rattle.vm_queues.specs.Queues.{AllSkipped, EachOnce, GainsPage, IsEmpty, KeepsPages, LosesPage, Queues, added, balanced, is_queued, is_skipped, queues_except, spared, victim_frame, with_reference};
 
-use crate::lists::{Lists, balance, choose, drop_frame, empty, spare};
+use crate::link::Link;
+use crate::lists::{Lists, balance, choose, empty, put_active, spare, take_off};
 use std::alloc::Global;
 use std::marker::Model;
 use vm_base::{FrameNo, NoMemory};
@@ -45,8 +47,7 @@ impl PageQueues {
         ensures queues { self.new ≡ added f.0 self.old }
         ensures pages { GainsPage f.0 self.old self.new }
     {
-        self.lists.marks[f.0 as usize] = false;
-        let _ = self.lists.active.push_back(f);
+        put_active(&mut self.lists, f);
     }
 
     /// Marks a page as referenced.
@@ -64,7 +65,7 @@ impl PageQueues {
         ensures queues { self.new ≡ queues_except f.0 self.old }
         ensures pages { LosesPage f.0 self.old self.new }
     {
-        drop_frame(&mut self.lists, f);
+        take_off(&mut self.lists, f);
     }
 
     /// Moves active fronts to the inactive back, as long as fewer than a third of the pages are
@@ -96,5 +97,16 @@ impl PageQueues {
         ensures { EachOnce (self.now.inactive ++ self.now.active) }
     {
         let _ = &self.lists;
+    }
+
+    /// The links of the frames, each under the number of its frame. A list begins at the one frame of
+    /// it that has none before it, and goes on along `after`.
+    pub fn links(&self) -> &[Link]
+        ensures count { length result.now ≡ self.now.frames }
+        ensures links { (f : ℕ) → link_of result.now f ≡ link_in self.now f }
+        ensures active { along (link_of result.now) (length self.now.active) (first_frame (frames_of self.now.active)) ≡ frames_of self.now.active }
+        ensures inactive { along (link_of result.now) (length self.now.inactive) (first_frame (frames_of self.now.inactive)) ≡ frames_of self.now.inactive }
+    {
+        &self.lists.links
     }
 }

@@ -1,33 +1,31 @@
-use Rattle.std.proofs.Common.{◌++◌, false, length, refl, subst, arith}
-use Rattle.std.proofs.lemmas.List.{length-set}
-use Rattle.std.specs.Vec.{with_item}
-use Rattle.vm_base.proofs.Results.{pushed}
-use Rattle.vm_queues.specs.declared.lists.Lists.{Lists}
-use Rattle.vm_queues.specs.Kept.{FramesAreApart}
-use Rattle.vm_queues.proofs.Apart.{stands}
-use Rattle.vm_queues.proofs.Moves.{Ages, aged_apart, aged_seen, all_fit, kept_so}
+use Rattle.std.proofs.Common.{◌∙◌, length, sym, ap, arith}
+use Rattle.vm_queues.specs.Kept.{FrameLists, all_frames, frame_lists, pages_of, with_inactive}
+use Rattle.vm_queues.specs.Queues.{is_skipped}
+use Rattle.vm_queues.proofs.Moves.{active_first, aged_seen, none_first, frame_inside, none_except}
 use Rattle.vm_queues.proofs.lists.age.Goals as goal
 
-pub index_mut-requires : goal.index_mut-requires
-index_mut-requires c =
-    let old = c.args.lists.now in
-    let apart = subst (λ z. FramesAreApart (length old.marks.items) (old.inactive.items ++ z)) c.in-Some.ensures.items c.requires.kept.apart in
-    omega (arith, (stands _ old.inactive.items c.in-Some.frame c.pop_front.new.self.items apart).inside, old.marks.ok.0)
+pub take_off-requires-clause-there : goal.take_off-requires-clause-there
+take_off-requires-clause-there c =
+    active_first (frame_lists c.args.lists.now) c.in-Some.frame (sym c.requires.kept.active.first ∙ c.in-Some.is)
 
-pub returns-in-Some-clause-kept : goal.returns-in-Some-clause-kept
-returns-in-Some-clause-kept c =
-    let old = c.args.lists.now in
-    let new : Lists = record { active = c.pop_front.new.self; inactive = c.push_back.new.self; marks = with_item old.marks c.in-Some.frame.0 false } in
-    let fit = all_fit old c.requires.kept in
-    let ok = c.push_back.ensures.succeeds (omega (arith, fit, c.requires.some, c.requires.kept.inactive, old.inactive.ok.0)) in
-    let ages : Ages c.in-Some.frame old new = record { active = c.in-Some.ensures.items; inactive = pushed _ _ _ _ c.push_back.ensures.items ok; marks = refl } in
-    kept_so old new c.requires.kept (aged_apart c.in-Some.frame old new ages c.requires.kept) (length-set old.marks.items c.in-Some.frame.0 false) (omega (arith, c.in-Some.ensures.capacity)) c.push_back.ensures.capacity
+pub put_inactive-requires-clause-inside : goal.put_inactive-requires-clause-inside
+put_inactive-requires-clause-inside c =
+    let old = frame_lists c.args.lists.now in
+    let there = active_first old c.in-Some.frame (sym c.requires.kept.active.first ∙ c.in-Some.is) in
+    let marks = ap (λ (l : FrameLists). length l.marks) c.take_off.ensures.frames in
+    omega (arith, marks, frame_inside old c.in-Some.frame.0 c.requires.kept.apart there)
+
+pub put_inactive-requires-clause-absent : goal.put_inactive-requires-clause-absent
+put_inactive-requires-clause-absent c =
+    ap (λ (l : FrameLists). is_skipped (all_frames l) c.in-Some.frame.0) c.take_off.ensures.frames ∙ none_except (frame_lists c.args.lists.now) c.in-Some.frame.0
 
 pub returns-in-Some-clause-moved : goal.returns-in-Some-clause-moved
 returns-in-Some-clause-moved c =
-    let old = c.args.lists.now in
-    let new : Lists = record { active = c.pop_front.new.self; inactive = c.push_back.new.self; marks = with_item old.marks c.in-Some.frame.0 false } in
-    let fit = all_fit old c.requires.kept in
-    let ok = c.push_back.ensures.succeeds (omega (arith, fit, c.requires.some, c.requires.kept.inactive, old.inactive.ok.0)) in
-    let ages : Ages c.in-Some.frame old new = record { active = c.in-Some.ensures.items; inactive = pushed _ _ _ _ c.push_back.ensures.items ok; marks = refl } in
-    aged_seen c.in-Some.frame old new ages c.requires.kept
+    let old = frame_lists c.args.lists.now in
+    ap pages_of (c.put_inactive.ensures.frames ∙ ap (with_inactive c.in-Some.frame) c.take_off.ensures.frames)
+    ∙ aged_seen c.in-Some.frame old (sym c.requires.kept.active.first ∙ c.in-Some.is) c.requires.kept.apart
+
+pub returns-in_default-clause-moved : goal.returns-in_default-clause-moved
+returns-in_default-clause-moved c =
+    let none = none_first (frame_lists c.args.lists.now).active (sym c.requires.kept.active.first ∙ c.in_default.is) in
+    absurd (omega (arith, c.requires.some, c.requires.kept.active.count, ap length none))

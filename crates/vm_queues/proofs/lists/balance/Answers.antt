@@ -1,27 +1,29 @@
 use Rattle.std.proofs.Common.{◌<◌, ◌∙◌, ap, arith}
 use Rattle.std.proofs.lemmas.List.{length-map}
-use Rattle.vm_queues.specs.Kept.{page_lists, queued_page}
+use Rattle.vm_queues.specs.Kept.{frame_lists, page_lists, queued_page}
 use Rattle.vm_queues.specs.Queues.{balanced, shortage}
 use Rattle.vm_queues.proofs.Balance.{balanced_one}
 use Rattle.vm_queues.proofs.Moves.{all_fit}
 use Rattle.vm_queues.proofs.lists.balance.Goals as goal
 
-pub overflow_mul-len : goal.overflow_mul-len
-overflow_mul-len c =
-    let lists = c.balance.lists in
-    let fit = all_fit lists c.balance.invariant.kept in
-    let few = c.balance.invariant.kept.few in
-    let is = c.len.ensures in
-    let long = lists.inactive.ok.0 in
-    omega arith
+pub overflow_mul-lists : goal.overflow_mul-lists
+overflow_mul-lists c =
+    let kept = c.balance.invariant.kept in
+    omega (arith, all_fit (frame_lists c.balance.lists) kept.apart, kept.few, kept.active.count, kept.inactive.count)
+
+pub overflow_add-lists : goal.overflow_add-lists
+overflow_add-lists c =
+    let kept = c.balance.invariant.kept in
+    omega (arith, all_fit (frame_lists c.balance.lists) kept.apart, kept.few, kept.active.count, kept.inactive.count)
 
 pub balance-preserved : goal.balance-preserved
 balance-preserved c =
-    let lists = c.balance.lists in
-    let active = length-map lists.active.items (queued_page lists.marks.items) in
-    let inactive = length-map lists.inactive.items (queued_page lists.marks.items) in
-    let some : 0 < shortage (page_lists lists) = omega (arith, active, inactive, c.balance-test.true, c.len.ensures, c.len-in-balance.ensures, c.len-in-balance-2.ensures, lists.active.ok.0, lists.inactive.ok.0) in
+    let kept = c.balance.invariant.kept in
+    let frames = frame_lists c.balance.lists in
+    let active = length-map frames.active (queued_page frames.marks) in
+    let inactive = length-map frames.inactive (queued_page frames.marks) in
+    let some : 0 < shortage (page_lists c.balance.lists) = omega (arith, active, inactive, c.balance-test.true, kept.active.count, kept.inactive.count) in
     record {
       kept = c.age.ensures.kept;
-      balanced = ap balanced c.age.ensures.moved ∙ balanced_one (page_lists lists) some ∙ c.balance.invariant.balanced;
+      balanced = ap balanced c.age.ensures.moved ∙ balanced_one (page_lists c.balance.lists) some ∙ c.balance.invariant.balanced;
     }
