@@ -5,6 +5,8 @@
 #[cfg(test)]
 mod kernel;
 #[cfg(test)]
+mod made;
+#[cfg(test)]
 mod paging;
 #[cfg(test)]
 mod runs;

@@ -23,7 +23,7 @@ none_waits header host task access waits on = let bad : None ≡ Some access = w
 
 none_owed : (header : Header) → IsPaid header []
 none_owed header = record {
-  returned = refl;
+  none_owed = refl;
   init = λ host object control size paged is. absurd (nothing is);
   create = λ host object control size paged is. absurd (nothing is);
   request = λ host object control page access paged is. absurd (nothing is);

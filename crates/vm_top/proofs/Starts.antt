@@ -26,7 +26,7 @@ start_waits header host task access waits on = let bad : None ≡ Some access = 
 
 start_paid : (header : Header) → IsPaid header []
 start_paid header = record {
-  returned = refl;
+  none_owed = refl;
   init = λ host object control size paged is. absurd (nothing is);
   create = λ host object control size paged is. absurd (nothing is);
   request = λ host object control page access paged is. absurd (nothing is);

@@ -2,6 +2,7 @@
 use Rattle.std.specs.Prelude.{ℕ, List, [], ◌∷◌, codes, map, length, nat_le, Option, Some, None, Result, Ok, Err, if◌then◌else◌, string_bytes, String}
 use Rattle.std.specs.Str.{bytes_eq}
 use Rattle.std.specs.declared.alloc.Global.{Global}
+use Rattle.vm_model.specs.Ranges.{IsBetween}
 use Rattle.vm_model.specs.declared.fault.ScriptFault.{ScriptFault}
 use Rattle.vm_model.specs.declared.fault.ScriptFault.TheVariants.{OutOfRange}
 use Rattle.vm_text.specs.Words.{number_of, number_between, word_in}
@@ -31,3 +32,8 @@ asked other = None
 
 abbrev pub asked_by : List (String Global) → Option Job
 asked_by words = asked (map string_bytes words)
+
+-- a script can be made with so many drawn lines
+abbrev pub HasLines : Job → Type 0
+HasLines (Generate number lines) = IsBetween 1 10000 lines
+HasLines (Run report) = Unit {0}

@@ -5,7 +5,7 @@ ghost use Rattle.std.specs.Io.KnownBytes.{Appends};
 ghost use Rattle.vm_model.specs.declared.event.Device.TheVariants as device;
 ghost use Rattle.vm_model.specs.declared.fault.ScriptFault.{ScriptFault};
 ghost use Rattle.vm_model.specs.declared.script.Script.{Script};
-ghost use Rattle.vm_model.specs.Ranges.{KeepsRanges};
+ghost use Rattle.vm_model.specs.Ranges.{IsBetween, KeepsRanges};
 ghost use Rattle.vm_outside.specs.Causes.{CountRises};
 ghost use Rattle.vm_top.specs.Ending.{EndsAs, RunHasEnded, Tells, status_after};
 ghost use Rattle.vm_top.specs.Flat.{FilesFlatAt};
@@ -13,6 +13,7 @@ ghost use Rattle.vm_top.specs.Top.{IsBad, IsRunDone, IsEventLimit, NothingRun, I
 ghost use Rattle.vm_legal.specs.Outside.{Outside};
 ghost use Rattle.vm_system.specs.Steps.{IsBelowLimit};
 ghost use Rattle.vm_top.specs.Arming.{FailuresBounded, FailuresCounted};
+ghost use Rattle.vm_top.specs.Making.{Generates};
 ghost use Rattle.vm_top.specs.Reading.{LeavesBytes, LeavesSource};
 ghost use Rattle.vm_top.specs.Resting.{CarriesAll, WaitsForFramesAlone};
 ghost use Rattle.vm_top.specs.Run.{IsRunnable, RanAs, outside_of};
@@ -27,6 +28,7 @@ use crate::run::{Ran, RunEnd, run_script};
 use crate::words::{Job, Report, asked};
 use std::alloc::Global;
 use vm_base::WriteStop;
+use vm_gen::make_script;
 use vm_model::{History, Script, ScriptFault};
 use vm_outside::{Armed, Backing, Sink, Source};
 use vm_text::{ScriptError, read_script, unbuilt_header};
@@ -51,7 +53,7 @@ pub enum Status {
     /// No memory was there.
     NoMemory,
     /// `line` is the first that isn't built: a header line for a wild object, or a `copy` from a
-    /// declared object. It is 0 where a script was to be made.
+    /// declared object.
     NotBuilt { line: u32 },
 }
 
@@ -267,8 +269,47 @@ fn run<S: Source, K: Sink, F: Backing, P: Backing>(
     }
 }
 
+// Makes a script, and runs it for its summary.
+fn generate<K: Sink, F: Backing, P: Backing>(
+    alloc: Global,
+    number: u64,
+    lines: u32,
+    out: &mut K,
+    files: &mut Armed<F>,
+    paging: &mut Armed<P>,
+) -> Outcome
+    requires lines { IsBetween 1 10000 lines }
+    requires files { files.old.left ≡ 0 }
+    requires paging { paging.old.left ≡ 0 }
+    ensures generates { Generates number lines (outside_of (F.area files.old.inner) (P.area paging.old.inner)) result.script result.history.items (K.written out.old) (K.written out.new) result.status }
+    ensures bad { (line : ℕ) → (kind : ScriptFault) → ¬ (result.status ≡ Status.BadScript line kind) }
+    ensures usage { ¬ (result.status ≡ Status.Usage) }
+    ensures read { ¬ (result.status ≡ Status.ReadFault) }
+    ensures quiet { result.status ≢ Status.NoMemory → WaitsForFramesAlone result.script result.history.items }
+    ensures carried { result.status ≢ Status.NoMemory → CarriesAll result.script result.history.items }
+    ensures ranges { IfSome result.script KeepsRanges }
+    ensures limit { IsBelowLimit result.history.items }
+    ensures output_cause { result.status ≡ Status.OutputFault → CountRises (K.faults out.old) (K.faults out.new) }
+    ensures sink_later { K.faults out.old ≤ K.faults out.new }
+    ensures kept { KeptAt (outside_of (F.area files.old.inner) (P.area paging.old.inner)) (P.area paging.old.inner) (P.area paging.new.inner) result.script result.history.items }
+    ensures files_kept { FilesKeptAt (F.area files.old.inner) (F.area files.new.inner) result.script result.history.items }
+    ensures files_flat { FilesFlatAt (outside_of (F.area files.old.inner) (P.area paging.old.inner)) (F.area files.old.inner) (F.area files.new.inner) result.script result.history.items }
+    ensures files { BackingEnds device.Files result.script result.history.items files.old files.new }
+    ensures paging { BackingEnds device.Paging result.script result.history.items paging.old paging.new }
+    ensures files_devices { FailuresCounted device.Files (⟦<Armed<F> as Backing>⟧.faults files.old) (⟦<Armed<F> as Backing>⟧.faults files.new) result.history.items }
+    ensures devices { FailuresCounted device.Paging (⟦<Armed<P> as Backing>⟧.faults paging.old) (⟦<Armed<P> as Backing>⟧.faults paging.new) result.history.items }
+    ensures files_bounded { FailuresBounded device.Files (commands_run result.script result.history.items) (F.faults files.old.inner) (F.faults files.new.inner) (⟦<Armed<F> as Backing>⟧.faults files.new) result.history.items }
+    ensures bounded { FailuresBounded device.Paging (commands_run result.script result.history.items) (P.faults paging.old.inner) (P.faults paging.new.inner) (⟦<Armed<P> as Backing>⟧.faults paging.new) result.history.items }
+{
+    match make_script(alloc, number, lines) {
+        Ok(script) => run_read(alloc, Report::Summary, script, out, files, paging),
+        Err(_) => ended(alloc, Status::NoMemory),
+    }
+}
+
 /// Does what the words say: `run` reads a script from the source, runs it, and writes its history;
-/// `summary` does the same, and writes eleven numbers in its place.
+/// `summary` does the same, and writes eleven numbers in its place; `generate` runs a script that it
+/// makes, and writes such numbers of it.
 ///
 /// `words` are without the program's name. The script is read to its end, or beyond its 1,048,576th
 /// byte by 4,096 bytes at most, and is a script of the grammar before its first step. Under `run` the
@@ -284,8 +325,8 @@ pub fn pagers_main<S: Source, K: Sink, F: Backing, P: Backing>(
     paging: &mut Armed<P>,
 ) -> Outcome
     // The whole script of the source was run: the history is legal for it, and its report was written and nothing else.
-    ensures done { result.status ≡ Status.Done
-        → (report : Report) × (asked_by words.now ≡ Some (jobs.Run report)) × IsRunDone (S.left script.old) (outside_of (F.area files.old.inner) (P.area paging.old.inner)) report result.script result.history.items (K.written out.old) (K.written out.new) }
+    ensures done { result.status ≡ Status.Done → (report : Report) → asked_by words.now ≡ Some (jobs.Run report)
+        → IsRunDone (S.left script.old) (outside_of (F.area files.old.inner) (P.area paging.old.inner)) report result.script result.history.items (K.written out.old) (K.written out.new) }
 
     // The source's bytes are no script: their first fault was written.
     ensures bad { (line : ℕ) → (kind : ScriptFault) → result.status ≡ Status.BadScript line kind
@@ -299,10 +340,9 @@ pub fn pagers_main<S: Source, K: Sink, F: Backing, P: Backing>(
         → NothingRun result.script result.history.items
         × Tells Status.Usage usage_text (K.written out.old) (K.written out.new) result.status }
 
-    // A script was to be made, which isn't built.
+    // A script was made, and run: the history is legal for it in the same way, and its summary was written and nothing else.
     ensures generate { (number : ℕ) → (lines : ℕ) → asked_by words.now ≡ Some (jobs.Generate number lines)
-        → NothingRun result.script result.history.items
-        × Tells (Status.NotBuilt 0) (not_built_text 0) (K.written out.old) (K.written out.new) result.status }
+        → Generates number lines (outside_of (F.area files.old.inner) (P.area paging.old.inner)) result.script result.history.items (K.written out.old) (K.written out.new) result.status }
 
     // The source failed, or the sink.
     ensures read { result.status ≡ Status.ReadFault
@@ -319,8 +359,9 @@ pub fn pagers_main<S: Source, K: Sink, F: Backing, P: Backing>(
         → IsNoMemory (S.left script.old) (outside_of (F.area files.old.inner) (P.area paging.old.inner)) report result.script result.history.items (K.written out.old) (K.written out.new) }
 
     // The history is full while a step is left; and no step of any history began where it was full.
-    ensures full { result.status ≡ Status.EventLimit
-        → (report : Report) × (asked_by words.now ≡ Some (jobs.Run report)) × IsEventLimit (S.left script.old) (outside_of (F.area files.old.inner) (P.area paging.old.inner)) report result.script result.history.items (K.written out.old) (K.written out.new) }
+    ensures full { result.status ≡ Status.EventLimit → (report : Report)
+        → asked_by words.now ≡ Some (jobs.Run report)
+        → IsEventLimit (S.left script.old) (outside_of (F.area files.old.inner) (P.area paging.old.inner)) report result.script result.history.items (K.written out.old) (K.written out.new) }
     ensures limit { IsBelowLimit result.history.items }
 
     // The script isn't built from exactly this line on.
@@ -365,10 +406,7 @@ pub fn pagers_main<S: Source, K: Sink, F: Backing, P: Backing>(
     paging.disarm();
     match asked(words) {
         Some(Job::Run(report)) => run(alloc, report, script, out, files, paging),
-        Some(Job::Generate { .. }) => {
-            let status = tell_not_built(alloc, 0, out);
-            ended(alloc, status)
-        }
+        Some(Job::Generate { number, lines }) => generate(alloc, number, lines, out, files, paging),
         None => {
             let status = tell(USAGE, Status::Usage, out);
             ended(alloc, status)

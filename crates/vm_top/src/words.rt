@@ -1,7 +1,7 @@
 // What the words ask the program to do.
-ghost use Rattle.std.specs.Prelude.{◌≡◌};
+ghost use Rattle.std.specs.Prelude.{◌≡◌, IfSome};
 ghost use Rattle.vm_text.specs.Words.{number_between, number_of, word_in};
-ghost use Rattle.vm_top.specs.Words.{asked_by, generate_of, short, words_alone};
+ghost use Rattle.vm_top.specs.Words.{HasLines, asked_by, generate_of, short, words_alone};
 
 use vm_text::{count_in, number_of};
 
@@ -25,7 +25,8 @@ pub enum Job {
 
 /// What the words ask for, if they are a command.
 pub fn asked(words: &[String]) -> Option<Job>
-    ensures { result ≡ asked_by words.now }
+    ensures job { result ≡ asked_by words.now }
+    ensures lines { IfSome result HasLines }
 {
     match words {
         [word] => word_alone(word.as_str().as_bytes()),
@@ -41,7 +42,8 @@ pub fn asked(words: &[String]) -> Option<Job>
 }
 
 fn word_alone(word: &[u8]) -> Option<Job>
-    ensures { result ≡ word_in words_alone word.now }
+    ensures job { result ≡ word_in words_alone word.now }
+    ensures lines { IfSome result HasLines }
 {
     if word == b"run".as_slice() {
         return Some(Job::Run(Report::History));
@@ -53,8 +55,9 @@ fn word_alone(word: &[u8]) -> Option<Job>
 }
 
 fn generate(number: &[u8], lines: &[u8]) -> Option<Job>
-    ensures { result
+    ensures job { result
         ≡ generate_of (short 20 number.now (number_of number.now)) (short 5 lines.now (number_between 1 10000 lines.now)) }
+    ensures lines { IfSome result HasLines }
 {
     if number.len() > 20 || lines.len() > 5 {
         return None;
