@@ -27,14 +27,14 @@ owes_nothing : (header : Header) (host object : ℕ) (m : Message) (past events 
 owes_nothing header host object m past events file one two is =
     subst (λ (es : List Event). IsPaid header (es ++ taking host object m past)) (sym is)
     (paid_of header host object m (taking host object m past)
-    (record { created = refl; took = refl; no_error = refl; no_absence = refl; ready = λ e. never (sym one ∙ e); answered = λ p e. never (sym (two p) ∙ e); lacking = λ p high. high_not header object file high }))
+    (record { none_owed = refl; took = refl; no_error = refl; no_absence = refl; ready = λ e. never (sym one ∙ e); answered = λ p e. never (sym (two p) ∙ e); lacking = λ p high. high_not header object file high }))
 
 is_ready : (header : Header) (host object : ℕ) (m : Message) (control strategy : ℕ) (past events : List Event) → is_file header object ≡ true → ((p : ℕ) → asks p m ≡ false) → events ≡ sent_to host object control (message.Ready false strategy) ∷ []
     → IsPaid header (events ++ taking host object m past)
 is_ready header host object m control strategy past events file two is =
     subst (λ (es : List Event). IsPaid header (es ++ taking host object m past)) (sym is)
     (paid_of header host object m (sent_to host object control (message.Ready false strategy) ∷ taking host object m past)
-    (record { created = refl; took = refl; no_error = refl; no_absence = refl; ready = λ e. rw (itself object) refl; answered = λ p e. never (sym (two p) ∙ e); lacking = λ p high. high_not header object file high }))
+    (record { none_owed = refl; took = refl; no_error = refl; no_absence = refl; ready = λ e. rw (itself object) refl; answered = λ p e. never (sym (two p) ∙ e); lacking = λ p high. high_not header object file high }))
 
 requested : (header : Header) (host size object control : ℕ) (page : PageNo) (access : ℕ) (lost : Bool) (past events : List Event) → is_file header object ≡ true → RequestAnswer size host object control page lost events
     → IsPaid header (events ++ taking host object (message.Request control page access) past)
@@ -47,17 +47,17 @@ requested header host size object control page access lost past events file is =
     on es e did = subst (λ (x : List Event). IsPaid header (x ++ first)) (sym e) (paid_of header host object (message.Request control page access) (es ++ first) did)
 
     by : (lost : Bool) → RequestAnswer size host object control page lost events → IsPaid header (events ++ first)
-    by true e = on _ e (record { created = refl; took = refl; no_error = refl; no_absence = refl; ready = λ e. never e; answered = λ p e. own_test object page.0 p _ e; lacking = λ p high. high_not header object file high })
-    by false (inl e) = on _ e.2 (record { created = refl; took = refl; no_error = refl; no_absence = refl; ready = λ e. never e; answered = λ p e. own_test object page.0 p _ e; lacking = λ p high. high_not header object file high })
-    by false (inr (inl e)) = on _ e (record { created = refl; took = refl; no_error = refl; no_absence = refl; ready = λ e. never e; answered = λ p e. own_test object page.0 p _ e; lacking = λ p high. high_not header object file high })
-    by false (inr (inr e)) = on _ e (record { created = refl; took = refl; no_error = refl; no_absence = refl; ready = λ e. never e; answered = λ p e. own_test object page.0 p _ e; lacking = λ p high. high_not header object file high })
+    by true e = on _ e (record { none_owed = refl; took = refl; no_error = refl; no_absence = refl; ready = λ e. never e; answered = λ p e. own_test object page.0 p _ e; lacking = λ p high. high_not header object file high })
+    by false (inl e) = on _ e.2 (record { none_owed = refl; took = refl; no_error = refl; no_absence = refl; ready = λ e. never e; answered = λ p e. own_test object page.0 p _ e; lacking = λ p high. high_not header object file high })
+    by false (inr (inl e)) = on _ e (record { none_owed = refl; took = refl; no_error = refl; no_absence = refl; ready = λ e. never e; answered = λ p e. own_test object page.0 p _ e; lacking = λ p high. high_not header object file high })
+    by false (inr (inr e)) = on _ e (record { none_owed = refl; took = refl; no_error = refl; no_absence = refl; ready = λ e. never e; answered = λ p e. own_test object page.0 p _ e; lacking = λ p high. high_not header object file high })
 
 returned : (header : Header) (host object control : ℕ) (page : PageNo) (dirty keep : Bool) (bytes : List ℕ) (stored : Bool) (past : List Event) → is_file header object ≡ true
     → IsPaid header (told_of stored object page ++ taking host object (message.Return control page dirty keep bytes) past)
 returned header host object control page dirty keep bytes true past file =
-    paid_of header host object (message.Return control page dirty keep bytes) _ (record { created = refl; took = refl; no_error = refl; no_absence = refl; ready = λ e. never e; answered = λ p e. never e; lacking = λ p high. high_not header object file high })
+    paid_of header host object (message.Return control page dirty keep bytes) _ (record { none_owed = refl; took = refl; no_error = refl; no_absence = refl; ready = λ e. never e; answered = λ p e. never e; lacking = λ p high. high_not header object file high })
 returned header host object control page dirty keep bytes false past file =
-    paid_of header host object (message.Return control page dirty keep bytes) _ (record { created = refl; took = refl; no_error = refl; no_absence = refl; ready = λ e. never e; answered = λ p e. never e; lacking = λ p high. high_not header object file high })
+    paid_of header host object (message.Return control page dirty keep bytes) _ (record { none_owed = refl; took = refl; no_error = refl; no_absence = refl; ready = λ e. never e; answered = λ p e. never e; lacking = λ p high. high_not header object file high })
 
 pub paid : (header : Header) (host : ℕ) (past : List Event) (object : ℕ) (m : Message) (old new : FileTable) (events : List Event) → PagerServes header host past object m old new events → IsPaid header (events ++ taking host object m past)
 paid header host past object m old new events serves = by m serves.answered

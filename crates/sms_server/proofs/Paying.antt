@@ -10,7 +10,7 @@ use Rattle.vm_base.specs.declared.ids.ObjectKind.TheVariants.{Temp, File, Shared
 use Rattle.vm_legal.proofs.Answering.{itself}
 use Rattle.vm_legal.proofs.Locks.{came_down, no_lock, no_request}
 use Rattle.vm_legal.specs.Debts.{IsPaid}
-use Rattle.vm_legal.specs.Licences.{created, is_paged, up}
+use Rattle.vm_legal.specs.Licences.{is_paged, owed, up}
 use Rattle.vm_legal.specs.Outside.{is_file_kept, is_file_kind, is_shared, is_shared_kind, kind_in}
 use Rattle.vm_legal.specs.Steps.{Letter, absence_taken, error_taken, readies, since, taken_letter}
 use Rattle.vm_model.specs.Named.{declared, named}
@@ -23,7 +23,7 @@ use Rattle.vm_model.specs.declared.message.Message.{Message}
 use Rattle.vm_model.specs.declared.message.Message.TheVariants as message
 use Rattle.vm_model.specs.declared.script.Declared.{Declared}
 use Rattle.vm_model.specs.declared.script.Header.{Header}
-use Rattle.sms_server.proofs.Serving.{created_replies}
+use Rattle.sms_server.proofs.Serving.{owed_replies}
 use Rattle.sms_server.proofs.Whole.{turns}
 use Rattle.sms_server.specs.Answers.{AnswersInTurn, heard_by, page_events, page_no, replies_to, reply_events, sent_to, stretches}
 use Rattle.sms_server.specs.Stands.{IsCreate, ServerServes, taking}
@@ -60,12 +60,12 @@ stretches_sendings old h object m [] = tt
 stretches_sendings old h object m (p ∷ ps) =
     both_sendings (stretches old h object m ps) (page_events old h object m p) (stretches_sendings old h object m ps) (replies_sendings object p (heard_by h (up_word p m) (heard_at old object.0 p)) (replies_to h (up_word p m) (directory_at old object.0 p)))
 
--- no first control is made
-created_stretches : (old : ServerTable) (h : ℕ) (object : ObjectId) (m : Message) (ps : List ℕ) (past : List Event) → created past ≡ None → created (stretches old h object m ps ++ past) ≡ None
-created_stretches old h object m [] past none = none
-created_stretches old h object m (p ∷ ps) past none =
-    subst (λ (l : List Event). created l ≡ None) (sym (append_assoc (stretches old h object m ps) (page_events old h object m p) past))
-    (created_stretches old h object m ps (page_events old h object m p ++ past) (created_replies object p (heard_by h (up_word p m) (heard_at old object.0 p)) (replies_to h (up_word p m) (directory_at old object.0 p)) past none))
+-- nothing is owed behind them
+owed_stretches : (old : ServerTable) (h : ℕ) (object : ObjectId) (m : Message) (ps : List ℕ) (past : List Event) → owed past ≡ None → owed (stretches old h object m ps ++ past) ≡ None
+owed_stretches old h object m [] past none = none
+owed_stretches old h object m (p ∷ ps) past none =
+    subst (λ (l : List Event). owed l ≡ None) (sym (append_assoc (stretches old h object m ps) (page_events old h object m p) past))
+    (owed_stretches old h object m ps (page_events old h object m p ++ past) (owed_replies object p (heard_by h (up_word p m) (heard_at old object.0 p)) (replies_to h (up_word p m) (directory_at old object.0 p)) past none))
 
 -- a shared object is declared, and its pager may answer later
 kind_shared : (d : Option Declared) → is_shared_kind (kind_in d) ≡ true → is_file_kept d ≡ false
@@ -103,7 +103,7 @@ message_of (Some letter) = letter.message
 
 -- what the step took, and what the server did of that
 record Did (header : Header) (h : ℕ) (object : ObjectId) (m : Message) (now : List Event) : Type 0 where
-  made : created now ≡ None
+  none_owed : owed now ≡ None
   took : taken_letter now ≡ Some (record { channel = up h object.0; message = m })
   no_error : error_taken header.size now ≡ None
   no_absence : absence_taken header.size now ≡ None
@@ -111,7 +111,7 @@ record Did (header : Header) (h : ℕ) (object : ObjectId) (m : Message) (now : 
 
 paid_of : (header : Header) (h : ℕ) (object : ObjectId) (m : Message) (now : List Event) → is_shared header object.0 ≡ true → (IsCreate m → ⊥) → Did header h object m now → IsPaid header now
 paid_of header h object m now shared other did = record {
-  returned = did.made;
+  none_owed = did.none_owed;
   init = λ at o control size wild is. subst (λ (k : ℕ). since (readies k) now ≡ true) (ap object_of (sym did.took ∙ is)) (did.ready control size (ap message_of (sym did.took ∙ is)));
   create = λ at o control size wild is. absurd (other (subst IsCreate (sym (ap message_of (sym did.took ∙ is))) tt));
   request = λ at o control page access paged is. let d = declared_of header object.0 shared in absurd (false≢true (sym d.unpaged ∙ (ap (is_paged header) (ap object_of (sym did.took ∙ is)) ∙ paged)));
@@ -132,7 +132,7 @@ turned header h past object m old new events s other apart t =
     let same = same_step header.size (stretches old h object m t.pages) first (stretches_sendings old h object m t.pages) in
     subst (λ (es : List Event). IsPaid header (es ++ first)) (sym t.are)
     (paid_of header h object m (stretches old h object m t.pages ++ first) s.shared other (record {
-      made = created_stretches old h object m t.pages first refl;
+      none_owed = owed_stretches old h object m t.pages first refl;
       took = same.letter;
       no_error = same.no_error;
       no_absence = same.no_absence;
@@ -144,7 +144,7 @@ greeted : (header : Header) (h : ℕ) (past : List Event) (object : ObjectId) (c
 greeted header h past object control size old new events s is =
     subst (λ (es : List Event). IsPaid header (es ++ taking h object (message.Init control size) past)) (sym is)
     (paid_of header h object (message.Init control size) (sent_to (record { 0 = h }) object control (message.Ready false 0) ∷ taking h object (message.Init control size) past) s.shared (λ bad. bad) (record {
-      made = refl;
+      none_owed = refl;
       took = refl;
       no_error = refl;
       no_absence = refl;

@@ -13,7 +13,8 @@ use Rattle.vm_base.specs.declared.ids.ObjectId.{ObjectId}
 use Rattle.vm_base.specs.declared.ids.ObjectKind.{ObjectKind}
 use Rattle.vm_base.specs.declared.ids.ObjectKind.TheVariants.{Temp, File, Shared, Wild}
 use Rattle.vm_legal.proofs.Stretched.{licensed_both}
-use Rattle.vm_legal.specs.Licences.{AllLicensed, IsBehind, PagerSends, ServerSends, created}
+use Rattle.vm_legal.proofs.Owing.{behind_none}
+use Rattle.vm_legal.specs.Licences.{AllLicensed, PagerSends, ServerSends, owed}
 use Rattle.vm_legal.specs.Outside.{Outside, is_shared, is_shared_kind, kind_of}
 use Rattle.vm_model.specs.Coherence.{SomebodyIsAwaited}
 use Rattle.vm_model.specs.PageLicences.{ActsLicensed, ReplyCause}
@@ -129,44 +130,41 @@ pub sends : (header : Header) (outside : Outside) (doing : Command) (h : ℕ) (o
 sends header outside doing h object control m past shared may =
     subst (λ (k : ObjectKind). PagerSends k header outside doing h object.0 control m past) (sym (shared_is (kind_of header object.0) shared)) may
 
-pub created_replies : (object : ObjectId) (p : ℕ) (heard : ℕ → ℕ) (rs : List Reply) (past : List Event) → created past ≡ None → created (reply_events object (page_no p) heard rs ++ past) ≡ None
-created_replies object p heard [] past none = none
-created_replies object p heard (Supply host lock bytes ∷ rs) past none = refl
-created_replies object p heard (Flush host ∷ rs) past none = refl
-created_replies object p heard (CleanLock host ∷ rs) past none = refl
-created_replies object p heard (Unlock host ∷ rs) past none = refl
+pub owed_replies : (object : ObjectId) (p : ℕ) (heard : ℕ → ℕ) (rs : List Reply) (past : List Event) → owed past ≡ None → owed (reply_events object (page_no p) heard rs ++ past) ≡ None
+owed_replies object p heard [] past none = none
+owed_replies object p heard (Supply host lock bytes ∷ rs) past none = refl
+owed_replies object p heard (Flush host ∷ rs) past none = refl
+owed_replies object p heard (CleanLock host ∷ rs) past none = refl
+owed_replies object p heard (Unlock host ∷ rs) past none = refl
 
-behind : (e : Event) (past : List Event) → created past ≡ None → IsBehind e past
-behind e past none = rw none tt
-
-pub replies_caused : (header : Header) (outside : Outside) (doing : Command) (object : ObjectId) (p : ℕ) (heard : ℕ → ℕ) (rs : List Reply) (past : List Event) → is_shared header object.0 ≡ true → created past ≡ None
+pub replies_caused : (header : Header) (outside : Outside) (doing : Command) (object : ObjectId) (p : ℕ) (heard : ℕ → ℕ) (rs : List Reply) (past : List Event) → is_shared header object.0 ≡ true → owed past ≡ None
     → ActsLicensed header.size (reply_acts heard rs ++ page_part header.size object.0 p past) → AllLicensed header outside doing (reply_events object (page_no p) heard rs) past
 replies_caused header outside doing object p heard [] past shared none licensed = tt
 replies_caused header outside doing object p heard (Supply host lock bytes ∷ rs) past shared none licensed = (
   (
     sends header outside doing host.0 object (heard host.0) (message.Supply (page_no p) (lock_number lock) false bytes) (reply_events object (page_no p) heard rs ++ past) shared (subst (ReplyCause header.size host.0 (heard host.0) (Supplying (lock_number lock) false bytes)) (sym (own_replies header.size p object heard rs past)) licensed.0),
-    behind (reply_event object (page_no p) heard (Supply host lock bytes)) (reply_events object (page_no p) heard rs ++ past) (created_replies object p heard rs past none),
+    behind_none (reply_event object (page_no p) heard (Supply host lock bytes)) (reply_events object (page_no p) heard rs ++ past) (owed_replies object p heard rs past none),
   ),
   replies_caused header outside doing object p heard rs past shared none licensed.1,
 )
 replies_caused header outside doing object p heard (Flush host ∷ rs) past shared none licensed = (
   (
     sends header outside doing host.0 object (heard host.0) (message.Lock (page_no p) 1 1 true 8 true) (reply_events object (page_no p) heard rs ++ past) shared (subst (ReplyCause header.size host.0 (heard host.0) (Locking 1 1 true 8 true)) (sym (own_replies header.size p object heard rs past)) licensed.0),
-    behind (reply_event object (page_no p) heard (Flush host)) (reply_events object (page_no p) heard rs ++ past) (created_replies object p heard rs past none),
+    behind_none (reply_event object (page_no p) heard (Flush host)) (reply_events object (page_no p) heard rs ++ past) (owed_replies object p heard rs past none),
   ),
   replies_caused header outside doing object p heard rs past shared none licensed.1,
 )
 replies_caused header outside doing object p heard (CleanLock host ∷ rs) past shared none licensed = (
   (
     sends header outside doing host.0 object (heard host.0) (message.Lock (page_no p) 1 1 false 2 true) (reply_events object (page_no p) heard rs ++ past) shared (subst (ReplyCause header.size host.0 (heard host.0) (Locking 1 1 false 2 true)) (sym (own_replies header.size p object heard rs past)) licensed.0),
-    behind (reply_event object (page_no p) heard (CleanLock host)) (reply_events object (page_no p) heard rs ++ past) (created_replies object p heard rs past none),
+    behind_none (reply_event object (page_no p) heard (CleanLock host)) (reply_events object (page_no p) heard rs ++ past) (owed_replies object p heard rs past none),
   ),
   replies_caused header outside doing object p heard rs past shared none licensed.1,
 )
 replies_caused header outside doing object p heard (Unlock host ∷ rs) past shared none licensed = (
   (
     sends header outside doing host.0 object (heard host.0) (message.Lock (page_no p) 1 0 false 0 false) (reply_events object (page_no p) heard rs ++ past) shared (subst (ReplyCause header.size host.0 (heard host.0) (Locking 1 0 false 0 false)) (sym (own_replies header.size p object heard rs past)) licensed.0),
-    behind (reply_event object (page_no p) heard (Unlock host)) (reply_events object (page_no p) heard rs ++ past) (created_replies object p heard rs past none),
+    behind_none (reply_event object (page_no p) heard (Unlock host)) (reply_events object (page_no p) heard rs ++ past) (owed_replies object p heard rs past none),
   ),
   replies_caused header outside doing object p heard rs past shared none licensed.1,
 )
@@ -213,7 +211,7 @@ Done header h object m old new was p past = HasAnswered header.size (directory_a
 
 -- one page, whose events come now
 pub one_answers : (header : Header) (outside : Outside) (doing : Command) (h : ℕ) (object : ObjectId) (m : Message) (old new : ServerTable) (was : ℕ → Type 0) (p : ℕ) (past : List Event) → Asked header h object m old new was
-    → created past ≡ None → Waits header h object m old was p past
+    → owed past ≡ None → Waits header h object m old was p past
     → Done header h object m old new was p (page_events old h object m p ++ past) × AllLicensed header outside doing (page_events old h object m p) past
 one_answers header outside doing h object m old new was p past a none waits =
     let r = answers header.size h (up_word p m) (directory_at old object.0 p) (directory_at new object.0 p) (heard_at old object.0 p) (was p) (page_part header.size object.0 p past) waits (a.after p) in (
@@ -252,12 +250,12 @@ pub record InTurn (header : Header) (outside : Outside) (doing : Command) (h : �
   pub licensed : AllLicensed header outside doing (stretches old h object m ps) past
 
 pub in_turn : (header : Header) (outside : Outside) (doing : Command) (h : ℕ) (object : ObjectId) (m : Message) (old new : ServerTable) (was : ℕ → Type 0) (n : ℕ) (ps : List ℕ) (past : List Event) → Asked header h object m old new was
-    → RisesFrom n ps → created past ≡ None → ((q : ℕ) → n ≤ q → Waits header h object m old was q past) → InTurn header outside doing h object m old new was ps past
+    → RisesFrom n ps → owed past ≡ None → ((q : ℕ) → n ≤ q → Waits header h object m old was q past) → InTurn header outside doing h object m old new was ps past
 in_turn header outside doing h object m old new was n [] past a rises none waits = record { done = λ q is. absurd (false≢true is); licensed = tt }
 in_turn header outside doing h object m old new was n (p ∷ ps) past a rises none waits =
     let first = one_answers header outside doing h object m old new was p past a none (waits p rises.0) in
     let rest = in_turn header outside doing h object m old new was (suc p) ps (page_events old h object m p ++ past) a rises.1
-    (created_replies object p (heard_by h (up_word p m) (heard_at old object.0 p)) (replies_to h (up_word p m) (directory_at old object.0 p)) past none)
+    (owed_replies object p (heard_by h (up_word p m) (heard_at old object.0 p)) (replies_to h (up_word p m) (directory_at old object.0 p)) past none)
     (λ q high. waits_free header.size h (up_word q m) (directory_at old object.0 q) (heard_at old object.0 q) (was q) object.0 q (page_events old h object m p) past
     (page_free header.size h object.0 q p object m old past (λ same. grind (arith, nat_tests))) (waits q (omega (arith, rises.0)))) in
     record {

@@ -10,7 +10,6 @@ use Rattle.vm_model.specs.Rows.{AllRows, rows_map}
 use Rattle.vm_model.specs.Tasks.{entries_of, has_entry}
 use Rattle.vm_model.specs.Waiting.{copy_target, fills, waiting}
 use Rattle.vm_legal.specs.Homes.{is_open}
-use Rattle.vm_legal.specs.Licences.{created}
 use Rattle.vm_legal.specs.Living.{lives_on, tasks}
 use Rattle.vm_legal.specs.Outside.{Outside}
 use Rattle.vm_legal.specs.Stretches.{EachIn}
@@ -155,10 +154,3 @@ use_same header h r old new same temporary was now = plain (in_use header h r ne
     plain : (a b : Bool) → b ≡ false → a ≡ (a && not b)
     plain true b is = rw is refl
     plain false b is = refl
-
--- behind each event but a create nothing waits for its return
-
-pub settled : (e : Event) (past : List Event) → MatchOption (created (e ∷ past)) (Unit {0}) (λ channel. (control size : ℕ) × (e ≡ event.Sent channel (message.Create control size)))
-settled (event.Sent channel (message.Create control size)) past = (control, size, refl)
-settled (event.Sent channel other) past = tt
-settled other past = tt

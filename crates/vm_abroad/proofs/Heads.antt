@@ -34,7 +34,7 @@ use Rattle.vm_legal.specs.Frames.{frames_wired}
 use Rattle.vm_legal.specs.Homes.{EntersNext, enters, is_open, starts_copy}
 use Rattle.vm_legal.specs.Outside.{Outside}
 use Rattle.vm_legal.specs.Refusal.{refusal}
-use Rattle.vm_legal.specs.Stretches.{EachOf}
+use Rattle.vm_legal.specs.Stretches.{EachIn, EachOf}
 use Rattle.vm_abroad.specs.Whose.{IsShut}
 use Rattle.vm_abroad.proofs.Sounds.{both_left}
 
@@ -59,13 +59,13 @@ each_onto : (events more : List Event) → EachOf MakesNone events → EachOf Ma
 each_onto [] more one two = two
 each_onto (e ∷ events) more one two = each_onto events (e ∷ more) one.1 (one.0, two)
 
-consequence : (e : Event) → IsConsequence e → MakesNone e
-consequence (event.RegionMade region object pages) is = absurd is
-consequence other is = λ r past. refl
+consequence : (e : Event) (past : List Event) → IsConsequence e past → MakesNone e
+consequence (event.RegionMade region object pages) past is = absurd is
+consequence other past is = λ r front. refl
 
-consequences : (events : List Event) → EachOf IsConsequence events → EachOf MakesNone events
-consequences [] each = tt
-consequences (e ∷ events) each = (consequence e each.0, consequences events each.1)
+consequences : (events past : List Event) → EachIn IsConsequence events past → EachOf MakesNone events
+consequences [] past each = tt
+consequences (e ∷ events) past each = (consequence e (events ++ past) each.0, consequences events past each.1)
 
 -- heads
 
@@ -169,8 +169,8 @@ head_paired header before past (command.Map task address bytes object offset) fi
 head_paired header before past (command.Clean object page count flush) first is was = cleaned object page count flush (known_below (length header.frames.items) object.0 before) first past is was
 
 -- a head and what follows from it
-run_paired : (header : Header) (before past : List Event) (doing : Command) (first more : List Event) → head header before doing ≡ Some first → EachOf IsConsequence more → Paired past → Paired (more ++ (reverse first ++ past))
-run_paired header before past doing first more is follows was = paired more (reverse first ++ past) (consequences more follows) (head_paired header before past doing first is was)
+run_paired : (header : Header) (before past : List Event) (doing : Command) (first more : List Event) → head header before doing ≡ Some first → EachIn IsConsequence more (reverse first ++ past) → Paired past → Paired (more ++ (reverse first ++ past))
+run_paired header before past doing first more is follows was = paired more (reverse first ++ past) (consequences more (reverse first ++ past) follows) (head_paired header before past doing first is was)
 
 -- groups
 
@@ -204,8 +204,8 @@ none_open header outside commands history follows = (so_far_paired header outsid
 
 -- what a command adds behind its line
 
-pub entered_run : (header : Header) (before past : List Event) (doing : Command) (first more : List Event) → head header before doing ≡ Some first → EachOf IsConsequence more → EachEvent EntersNext past → IsShut past → EachEvent EntersNext (more ++ (reverse first ++ past))
+pub entered_run : (header : Header) (before past : List Event) (doing : Command) (first more : List Event) → head header before doing ≡ Some first → EachIn IsConsequence more (reverse first ++ past) → EachEvent EntersNext past → IsShut past → EachEvent EntersNext (more ++ (reverse first ++ past))
 entered_run header before past doing first more is follows each shut = (run_paired header before past doing first more is follows (record { each = each; shut = shut })).each
 
-pub shut_run : (header : Header) (before past : List Event) (doing : Command) (first more : List Event) → head header before doing ≡ Some first → EachOf IsConsequence more → EachEvent EntersNext past → IsShut past → IsShut (more ++ (reverse first ++ past))
+pub shut_run : (header : Header) (before past : List Event) (doing : Command) (first more : List Event) → head header before doing ≡ Some first → EachIn IsConsequence more (reverse first ++ past) → EachEvent EntersNext past → IsShut past → IsShut (more ++ (reverse first ++ past))
 shut_run header before past doing first more is follows each shut = (run_paired header before past doing first more is follows (record { each = each; shut = shut })).shut

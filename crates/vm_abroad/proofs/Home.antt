@@ -15,13 +15,13 @@ use Rattle.vm_model.specs.Named.{declared_pages, named}
 use Rattle.vm_model.specs.Regions.{backing_of, next_object, next_region, region_of}
 use Rattle.vm_model.specs.Tasks.{host_of}
 use Rattle.vm_model.specs.Waiting.{Target, begins_copy, copy_target}
-use Rattle.vm_legal.specs.Homes.{is_home}
+use Rattle.vm_legal.specs.Homes.{begins_here, is_home}
 use Rattle.vm_legal.specs.Licences.{HasCause}
 use Rattle.vm_legal.specs.Living.{lives_on, tasks}
 use Rattle.vm_legal.specs.Outside.{Outside, is_file}
 use Rattle.vm_legal.specs.Stretches.{EachIn}
 use Rattle.vm_legal.specs.Used.{in_use, is_held, is_kept, made_here}
-use Rattle.vm_abroad.specs.Home.{HaveHomes, first_of, home_at, home_of, object_home, region_for}
+use Rattle.vm_abroad.specs.Home.{HaveHomes, copying_host, first_of, home_at, home_of, object_home, region_for}
 use Rattle.vm_abroad.specs.Sound.{IsAbroad}
 use Rattle.vm_abroad.proofs.Sounds.{objects_rise, regions_rise, unlike}
 
@@ -32,6 +32,7 @@ first_stays false h was later is = is
 
 pub home_stays : (r h : ℕ) (e : Event) (past : List Event) → home_of r past ≡ Some h → home_of r (e ∷ past) ≡ Some h
 home_stays r h (event.Entered task address bytes region offset prot inherit) past is = first_stays (region.0 == r) h (home_of r past) (host_of task.0 past) is
+home_stays r h (event.RegionMade region object pages) past is = first_stays (region.0 == r) h (home_of r past) (copying_host past) is
 home_stays r h other past is = is
 
 pub homes_stay : (r h : ℕ) (events past : List Event) → home_of r past ≡ Some h → home_of r (events ++ past) ≡ Some h
@@ -60,7 +61,25 @@ homes_kept f r task address bytes region offset prot inherit past has = elim (eq
 pub home_apart : (r : ℕ) (task : TaskId) (address bytes : ℕ) (region : RegionId) (offset : ℕ) (prot : Prot) (inherit : Inherit) (past : List Event) → (region.0 ≡ r → ⊥) → home_of r (event.Entered task address bytes region offset prot inherit ∷ past) ≡ home_of r past
 home_apart r task address bytes region offset prot inherit past apart = rw (unlike region.0 r apart) refl
 
+-- nor does a region that is made move other regions; and it has no home, unless a slow copy fills it
+
+pub home_made : (r : ℕ) (region : RegionId) (object : ObjectId) (pages : ℕ) (past : List Event) → (region.0 ≡ r → ⊥) → home_of r (event.RegionMade region object pages ∷ past) ≡ home_of r past
+home_made r region object pages past apart = rw (unlike region.0 r apart) refl
+
+pub home_plain : (r : ℕ) (region : RegionId) (object : ObjectId) (pages : ℕ) (past : List Event) → copying_host past ≡ None → home_of r (event.RegionMade region object pages ∷ past) ≡ home_of r past
+home_plain r region object pages past plain = ap (λ x. if region.0 == r then first_of (home_of r past) x else home_of r past) plain ∙ by (region.0 == r) (home_of r past)
+  where
+    by : (b : Bool) (was : Option ℕ) → (if b then first_of was None else was) ≡ was
+    by true None = refl
+    by true (Some h) = refl
+    by false was = refl
+
 -- what other hosts do makes no region this host's
+
+copied_here : (h : ℕ) (past : List Event) → is_on h (copying_host past) ≡ begins_here h past
+copied_here h (event.BegunCopy task address bytes to ∷ past) = refl
+copied_here h [] = refl
+copied_here h (e ∷ past) = refl
 
 entered_abroad : (h : ℕ) (b : Bool) (was x : Option ℕ) → is_on h x ≡ false → is_on h (if b then first_of was x else was) ≡ is_on h was
 entered_abroad h true None x foreign = foreign
@@ -69,6 +88,7 @@ entered_abroad h false was x foreign = refl
 
 pub home_abroad : (header : Header) (h r : ℕ) (e : Event) (past : List Event) → is_home header h e past ≡ false → is_on h (home_of r (e ∷ past)) ≡ is_on h (home_of r past)
 home_abroad header h r (event.Entered task address bytes region offset prot inherit) past foreign = entered_abroad h (region.0 == r) (home_of r past) (host_of task.0 past) foreign
+home_abroad header h r (event.RegionMade region object pages) past foreign = entered_abroad h (region.0 == r) (home_of r past) (copying_host past) (copied_here h past ∙ foreign)
 home_abroad header h r other past foreign = refl
 
 pub homes_abroad : (header : Header) (outside : Outside) (h r : ℕ) (events past : List Event) → EachIn (IsAbroad header outside h) events past → is_on h (home_of r (events ++ past)) ≡ is_on h (home_of r past)
@@ -121,11 +141,12 @@ object_later header (event.RegionMade region object pages) past o high = omega (
 object_later header (event.Shadowed region new old) past o high = omega (arith, high)
 object_later header other past o high = high
 
-regions_next : (header : Header) (outside : Outside) (e : Event) (past : List Event) (r : ℕ) → HasCause header outside e past → next_region header past ≤ r → home_of r past ≡ None → home_of r (e ∷ past) ≡ None
+regions_next : (header : Header) (outside : Outside) (e : Event) (past : List Event) (r : ℕ) → HasCause header outside e past → next_region header (e ∷ past) ≤ r → home_of r past ≡ None → home_of r (e ∷ past) ≡ None
 regions_next header outside (event.Entered task address bytes region offset prot inherit) past r cause high none =
     let made = cause.1.made in
     let apart : (region.0 == r) ≡ false = unlike region.0 r (λ same. omega (arith, same, made, high)) in
     ap (λ b. if b then first_of (home_of r past) (host_of task.0 past) else home_of r past) apart ∙ none
+regions_next header outside (event.RegionMade region object pages) past r cause high none = home_made r region object pages past (λ same. let number = cause.1.0 in omega (arith, same, number, high)) ∙ none
 regions_next header outside other past r cause high none = none
 
 objects_next : (header : Header) (outside : Outside) (e : Event) (past : List Event) (o : ℕ) → HasCause header outside e past → next_object header (e ∷ past) ≤ o → region_for o past ≡ None → region_for o (e ∷ past) ≡ None
@@ -174,9 +195,25 @@ new_homeless header g h r n true here past test number homes used home stays =
     absurd (let bad : None ≡ Some h = sym (homes.regions r (omega (arith, same, number))) ∙ home in cc)
 new_homeless header g h r n false here past test number homes used home stays = stays used
 
+-- a region that a slow copy fills is in use on the host of its task, and that is its home; any other that is made now has none
+made_there : (g h : ℕ) (past : List Event) → made_here g past ≡ true → copying_host past ≡ Some h → g ≡ h
+made_there g h (event.BegunCopy task address bytes to ∷ past) here home = same_some g h (sym (on_host g (host_of task.0 past) here) ∙ home)
+made_there g h [] here home = absurd (let bad : None ≡ Some h = home in cc)
+made_there g h (e ∷ past) here home = absurd (let bad : None ≡ Some h = home in cc)
+
+made_where : (header : Header) (g h r n : ℕ) (b c : Bool) (past : List Event) → (r == n) ≡ b → (n == r) ≡ c → n ≡ next_region header past → HaveHomes header past → (if b then made_here g past else in_use header g r past) ≡ true
+    → (if c then first_of (home_of r past) (copying_host past) else home_of r past) ≡ Some h → g ≡ h
+made_where header g h r n true true past test turned number homes used home =
+    let same : r ≡ n = grind (arith, nat_tests) in
+    let none : home_of r past ≡ None = homes.regions r (omega (arith, same, number)) in
+    made_there g h past used (ap (λ x. first_of x (copying_host past)) (sym none) ∙ home)
+made_where header g h r n false false past test turned number homes used home = homes.stay g h r used home
+made_where header g h r n true false past test turned number homes used home = absurd (grind (arith, nat_tests))
+made_where header g h r n false true past test turned number homes used home = absurd (grind (arith, nat_tests))
+
 stay_next : (header : Header) (outside : Outside) (e : Event) (past : List Event) → HasCause header outside e past → HaveHomes header past → (g h r : ℕ) → in_use header g r (e ∷ past) ≡ true → home_of r (e ∷ past) ≡ Some h → g ≡ h
 stay_next header outside (event.RegionMade new object pages) past cause homes g h r used home =
-    new_homeless header g h r new.0 (r == new.0) (made_here g past) past refl cause.1.0 homes used home (λ now. homes.stay g h r now home)
+    made_where header g h r new.0 (r == new.0) (new.0 == r) past refl refl cause.1.0 homes used home
 stay_next header outside (event.RegionCopied new source offset pages) past cause homes g h r used home =
     new_homeless header g h r new.0 (r == new.0) (in_use header g source.0 past) past refl cause.1.next homes used home (λ now. homes.stay g h r now home)
 stay_next header outside (event.Entered task address bytes region offset prot inherit) past cause homes g h r used home =
@@ -241,7 +278,12 @@ file_entered header g h r (Some own) x past homes file was lives used (inr home)
 
 files_next : (header : Header) (outside : Outside) (e : Event) (past : List Event) → HasCause header outside e past → HaveHomes header past → (r h : ℕ) → is_file header r ≡ true
     → (home_of r (e ∷ past) ≡ None) ⊎ (home_of r (e ∷ past) ≡ Some h) → in_use header h r (e ∷ past) ≡ true
-files_next header outside (event.RegionMade new object pages) past cause homes r h file home = rw (file_other header r new.0 past file cause.1.0) (homes.files r h file home)
+files_next header outside (event.RegionMade new object pages) past cause homes r h file home =
+    let other : (r == new.0) ≡ false = file_other header r new.0 past file cause.1.0 in
+    let turned : (new.0 == r) ≡ false = grind (arith, nat_tests) in
+    let before : (home_of r past ≡ None) ⊎ (home_of r past ≡ Some h) =
+    subst (λ (b : Bool). ((if b then first_of (home_of r past) (copying_host past) else home_of r past) ≡ None) ⊎ ((if b then first_of (home_of r past) (copying_host past) else home_of r past) ≡ Some h)) turned home in
+    rw other (homes.files r h file before)
 files_next header outside (event.RegionCopied new source offset pages) past cause homes r h file home = rw (file_other header r new.0 past file cause.1.next) (homes.files r h file home)
 files_next header outside (event.Entered task address bytes region offset prot inherit) past cause homes r h file home = elim (eqb_tells r region.0) [
   | inl same ↦
@@ -314,7 +356,7 @@ fills_next header outside other past cause homes task target is = homes.fills ta
 pub homes_next : (header : Header) (outside : Outside) (e : Event) (past : List Event) → HasCause header outside e past → HaveHomes header past → HaveHomes header (e ∷ past)
 homes_next header outside e past cause homes =
     record {
-      regions = λ r high. let old = region_later header e past r high in regions_next header outside e past r cause old (homes.regions r old);
+      regions = λ r high. regions_next header outside e past r cause high (homes.regions r (region_later header e past r high));
       objects = λ o high. objects_next header outside e past o cause high (homes.objects o (object_later header e past o high));
       stay = stay_next header outside e past cause homes;
       files = files_next header outside e past cause homes;

@@ -1,4 +1,4 @@
--- On which host a region is, and an object: a region on that of the task that first got an entry on it, an object on that of the region that it was made for.
+-- On which host a region is, and an object: a region on that of the task that first got an entry on it, or that fills it by a slow copy; an object on that of the region that it was made for.
 use Rattle.std.specs.Prelude.{ℕ, ◌≡◌, ◌≤◌, ◌<◌, ◌⊎◌, ◌==◌, true, false, List, [], ◌∷◌, Option, Some, None, if◌then◌else◌}
 use Rattle.vm_model.specs.declared.event.Event.{Event}
 use Rattle.vm_model.specs.declared.event.Event.TheVariants as event
@@ -14,9 +14,15 @@ abbrev pub first_of : Option ℕ → Option ℕ → Option ℕ
 first_of None later = later
 first_of (Some host) later = Some host
 
--- None where no task ever had an entry on it
+-- that of the task whose slow copy has just begun
+abbrev pub copying_host : List Event → Option ℕ
+copying_host (event.BegunCopy task address bytes to ∷ past) = host_of task.0 past
+copying_host other = None
+
+-- None where no task ever had an entry on it, nor fills it: the region that a slow copy fills is made right behind its beginning
 abbrev pub home_of : ℕ → List Event → Option ℕ
 home_of r [] = None
+home_of r (event.RegionMade region object pages ∷ past) = if region.0 == r then first_of (home_of r past) (copying_host past) else home_of r past
 home_of r (event.Entered task address bytes region offset prot inherit ∷ past) = if region.0 == r then first_of (home_of r past) (host_of task.0 past) else home_of r past
 home_of r (e ∷ past) = home_of r past
 

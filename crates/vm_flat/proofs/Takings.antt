@@ -1,14 +1,14 @@
--- In a step that took a message no entry of a task changes; so whoever lives there lives on.
+-- In a step that took a message no task loses an entry; so whoever lives there lives on.
 use Rattle.std.proofs.Common.{ℕ, ◌≡◌, ◌<◌, ◌+◌, ◌-◌, ◌/◌, ◌⊎◌, inl, inr, List, [], ◌∷◌, ◌++◌, reverse, length, Bool, true, false, Option, Some, None, MatchOption, refl, sym, ap, subst, ◌∙◌, arith, append_assoc, if◌then◌else◌}
 use mathlib.Core.List.{reverse_aux}
 use Rattle.std.proofs.lemmas.Bool.Decides.{nat_tests}
-use Rattle.std.specs.Prelude.{◌==◌, ◌&&◌, is_some, nat_lt}
+use Rattle.std.specs.Prelude.{◌==◌, ◌&&◌, ◌||◌, is_some, nat_lt}
 use Rattle.vm_base.specs.declared.code.Code.{Code}
 use Rattle.vm_base.specs.declared.entry.Entry.{Entry}
 use Rattle.vm_base.specs.declared.ids.HostId.{HostId}
 use Rattle.vm_base.specs.declared.ids.Inherit.{Inherit}
 use Rattle.vm_base.specs.declared.ids.Inherit.TheVariants.{Copy, Never, Share}
-use Rattle.vm_base.specs.Entries.{entry_at, page_at}
+use Rattle.vm_base.specs.Entries.{entered, entry_at, page_at}
 use Rattle.vm_base.specs.declared.ids.ObjectId.{ObjectId}
 use Rattle.vm_base.specs.declared.ids.PageNo.{PageNo}
 use Rattle.vm_base.specs.declared.ids.TaskId.{TaskId}
@@ -28,7 +28,7 @@ use Rattle.vm_model.specs.Moments.{BeforeSteps, EachEvent}
 use Rattle.vm_model.specs.Named.{named}
 use Rattle.vm_model.specs.Regions.{next_object, next_region}
 use Rattle.vm_model.specs.Server.{first as oldest}
-use Rattle.vm_model.specs.Tasks.{entries_of, host_of}
+use Rattle.vm_model.specs.Tasks.{entries_of, has_entry, host_of}
 use Rattle.vm_legal.proofs.Inside.{taken_more}
 use Rattle.vm_legal.specs.Follows.{Follows, FollowsCut, IsConsequence, IsGroup, IsRun, clean_head, copy_head, fork_head, head, inherits, inherits_all, map_head, next_behind, opening, say_head, take_head}
 use Rattle.vm_legal.specs.Frames.{frames_wired}
@@ -38,17 +38,16 @@ use Rattle.vm_legal.specs.Pagers.{Known, known_below}
 use Rattle.vm_legal.specs.Prompt.{Prompt}
 use Rattle.vm_legal.specs.Refusal.{refusal}
 use Rattle.vm_legal.specs.Steps.{Letter, absence_taken, before_step, taken_letter}
-use Rattle.vm_legal.specs.Stretches.{AllInner, EachOf}
+use Rattle.vm_legal.specs.Stretches.{AllInner, EachIn}
 use Rattle.vm_legal.specs.Walks.{page_on}
 use Rattle.vm_flat.proofs.Pagers.{not_taken}
 use Rattle.vm_flat.proofs.Using.{by_cause}
 use Rattle.vm_flat.proofs.Voids.{Came, absent, came, not_absent}
 
--- the event changes no task's entries, nor where a task lives
+-- the event takes no entry from a task, nor changes where a task lives
 abbrev pub KeepsEntries : Event → Type 0
 KeepsEntries (event.TaskMade task host) = ⊥
 KeepsEntries (event.TaskEnded task) = ⊥
-KeepsEntries (event.Entered task address bytes region offset prot inherit) = ⊥
 KeepsEntries (event.Removed task address bytes) = ⊥
 KeepsEntries (event.Protected task address bytes prot) = ⊥
 KeepsEntries (event.Inherited task address bytes inherit) = ⊥
@@ -58,18 +57,17 @@ KeepsEntries other = Unit {0}
 abbrev pub TakingKeeps : Event → List Event → Type 0
 TakingKeeps e past = (letter : Letter) → taken_letter past ≡ Some letter → KeepsEntries e
 
-consequence : (e : Event) → IsConsequence e → KeepsEntries e
-consequence (event.TaskMade task host) is = is
-consequence (event.TaskEnded task) is = is
-consequence (event.Entered task address bytes region offset prot inherit) is = is
-consequence (event.Removed task address bytes) is = is
-consequence (event.Protected task address bytes prot) is = is
-consequence (event.Inherited task address bytes inherit) is = is
-consequence other is = tt
+consequence : (e : Event) (past : List Event) → IsConsequence e past → KeepsEntries e
+consequence (event.TaskMade task host) past is = is
+consequence (event.TaskEnded task) past is = is
+consequence (event.Removed task address bytes) past is = is
+consequence (event.Protected task address bytes prot) past is = is
+consequence (event.Inherited task address bytes inherit) past is = is
+consequence other past is = tt
 
-consequences : (events past : List Event) → EachOf IsConsequence events → EachEvent TakingKeeps past → EachEvent TakingKeeps (events ++ past)
+consequences : (events past : List Event) → EachIn IsConsequence events past → EachEvent TakingKeeps past → EachEvent TakingKeeps (events ++ past)
 consequences [] past each was = was
-consequences (e ∷ events) past each was = ((λ letter is. consequence e each.0), consequences events past each.1 was)
+consequences (e ∷ events) past each was = ((λ letter is. consequence e (events ++ past) each.0), consequences events past each.1 was)
 
 -- heads
 
@@ -205,6 +203,23 @@ takings_keep header outside (numbered ∷ before) history (past, group, is, made
 
 -- in such a step
 
+-- whoever has no entry on a region with one entry more had none on it
+neither : (a b : Bool) → (a || b) ≡ false → (a ≡ false) × (b ≡ false)
+neither true b is = absurd (let bad : true ≡ false = is in cc)
+neither false b is = (refl, is)
+
+without : (region : ℕ) (row : Entry) (rows : List Entry) → has_entry region (entered row rows) ≡ false → has_entry region rows ≡ false
+without region row [] none = refl
+without region row (first ∷ rows) none = by (nat_lt row.address first.address) (without region row rows) none
+  where
+    by : (b : Bool) → (has_entry region (entered row rows) ≡ false → has_entry region rows ≡ false) → has_entry region (if b then row ∷ first ∷ rows else first ∷ entered row rows) ≡ false → has_entry region (first ∷ rows) ≡ false
+    by true later is = (neither (row.region.0 == region) (has_entry region (first ∷ rows)) is).1
+    by false later is = let both = neither (first.region.0 == region) (has_entry region (entered row rows)) is in rw (both.0, later both.1) refl
+
+fewer : (b : Bool) (region : ℕ) (row : Entry) (rows : List Entry) → has_entry region (if b then entered row rows else rows) ≡ false → has_entry region rows ≡ false
+fewer true region row rows none = without region row rows none
+fewer false region row rows none = none
+
 -- what nothing holds now was held by nothing when the step began
 unheld_then : (header : Header) (host region : ℕ) (letter : Letter) (past : List Event) → EachEvent TakingKeeps past → taken_letter past ≡ Some letter → IsUnheld header host region past → IsUnheld header host region (before_step past)
 unheld_then header host region letter [] keeps is unheld = not_taken letter is
@@ -212,7 +227,9 @@ unheld_then header host region letter (event.Line line ∷ past) keeps is unheld
 unheld_then header host region letter (event.Taken channel m ∷ past) keeps is unheld = unheld
 unheld_then header host region letter (event.TaskMade task at ∷ past) keeps is unheld = absurd (keeps.0 letter is)
 unheld_then header host region letter (event.TaskEnded task ∷ past) keeps is unheld = absurd (keeps.0 letter is)
-unheld_then header host region letter (event.Entered task address bytes entered offset prot inherit ∷ past) keeps is unheld = absurd (keeps.0 letter is)
+unheld_then header host region letter (event.Entered task address bytes on offset prot inherit ∷ past) keeps is unheld =
+    unheld_then header host region letter past keeps.1 is (λ owner lives.
+    fewer (task.0 == owner) region (record { address = address; bytes = bytes; region = on; offset = offset; prot = prot; inherit = inherit }) (entries_of header.size owner past) (unheld owner lives))
 unheld_then header host region letter (event.Removed task address bytes ∷ past) keeps is unheld = absurd (keeps.0 letter is)
 unheld_then header host region letter (event.Protected task address bytes prot ∷ past) keeps is unheld = absurd (keeps.0 letter is)
 unheld_then header host region letter (event.Inherited task address bytes inherit ∷ past) keeps is unheld = absurd (keeps.0 letter is)

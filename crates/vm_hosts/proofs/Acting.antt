@@ -1,5 +1,5 @@
 -- One host acts: the kernels of the others stand for what it adds as well.
-use Rattle.vm_hosts.proofs.Common.{AllInner, AllLicensed, AllRest, Bool, Command, CreatesHere, EachIn, EachOf, EntersNext, Event, HasQueue, Header, HostTable, Ids, IsAbroad, IsMine, IsNewTask, IsOfHost, KernelSays, Licensed, List, MomentsIn, None, Option, Outside, OwnBytes, Parts, PromptAt, Rests, Some, SomeKernelSays, Stretch, Suffice, [], abroad_of_own, arith, common_of, each_both, false, first_home, frames_abroad, home_of, host_of, if◌then◌else◌, inl, inr, is_home, length, length-set, licensed_both, of_both, of_host, own_of_home, prompt_abroad, queue_abroad, refl, rests_abroad, same_Some, slice_get, sound_more, subst, sym, true, ℕ, ℕ_discrete, ◌++◌, ◌+◌, ◌<◌, ◌==◌, ◌∙◌, ◌∷◌, ◌≡◌, ◌≢◌}
+use Rattle.vm_hosts.proofs.Common.{AllInner, AllLicensed, AllRest, Bool, Command, CreatesHere, EachIn, EachOf, EntersNext, Event, HasQueue, Header, HostTable, Ids, IsAbroad, IsMine, IsNewTask, IsOfHost, KernelSays, Licensed, List, MomentsIn, None, Option, Outside, OwnBytes, Parts, PromptAt, Rests, Some, SomeKernelSays, Stretch, Suffice, [], abroad_of_own, arith, common_of, each_both, false, copying_host, first_home, frames_abroad, home_of, host_of, if◌then◌else◌, inl, inr, is_home, length, length-set, licensed_both, of_both, of_host, own_of_home, prompt_abroad, queue_abroad, refl, rests_abroad, same_Some, slice_get, sound_more, subst, sym, true, ℕ, ℕ_discrete, ◌++◌, ◌+◌, ◌<◌, ◌==◌, ◌∙◌, ◌∷◌, ◌≡◌, ◌≢◌}
 use Rattle.vm_model.specs.declared.event.Event.TheVariants as event
 use Rattle.vm_hosts.proofs.Tables.{common_all, put, set_cases}
 
@@ -35,7 +35,19 @@ tasks_more n [] past makes was = was
 tasks_more n (e ∷ events) past makes was = tasks_next n e (events ++ past) makes.0 (tasks_more n events past makes.1 was)
 
 -- so homes are hosts of the header
+
+copied_on : (n : ℕ) (past : List Event) → ((task g : ℕ) → host_of task past ≡ Some g → g < n) → (g : ℕ) → copying_host past ≡ Some g → g < n
+copied_on n (event.BegunCopy task address bytes to ∷ past) tasks g is = tasks task.0 g is
+copied_on n [] tasks g is = absurd (let bad : None ≡ Some g = is in cc)
+copied_on n (e ∷ past) tasks g is = absurd (let bad : None ≡ Some g = is in cc)
+
 homes_next : (n : ℕ) (e : Event) (past : List Event) → ((task g : ℕ) → host_of task past ≡ Some g → g < n) → ((r g : ℕ) → home_of r past ≡ Some g → g < n) → (r g : ℕ) → home_of r (e ∷ past) ≡ Some g → g < n
+homes_next n (event.RegionMade region object pages) past tasks was r g is = by_test (region.0 == r) (home_of r past) refl is
+  where
+    by_test : (b : Bool) (x : Option ℕ) → home_of r past ≡ x → (if b then first_home x (copying_host past) else x) ≡ Some g → g < n
+    by_test true None none is = copied_on n past tasks g is
+    by_test true (Some h) there is = was r g (there ∙ is)
+    by_test false x there is = was r g (there ∙ is)
 homes_next n (event.Entered task address bytes region offset prot inherit) past tasks was r g is = by_test (region.0 == r) (home_of r past) refl is
   where
     by_test : (b : Bool) (x : Option ℕ) → home_of r past ≡ x → (if b then first_home x (host_of task.0 past) else x) ≡ Some g → g < n

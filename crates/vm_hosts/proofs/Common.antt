@@ -7,7 +7,7 @@ pub use Rattle.std.proofs.lemmas.Option.{same_Some, slice_get_read, slice_get_wi
 pub use Rattle.std.specs.Prelude.{IfSome, MatchOption, if◌then◌else◌, is_some, nat_lt, not, reverse, slice_get, ◌⊎◌}
 pub use Rattle.vm_abroad.proofs.Sounds.{sound_start}
 pub use Rattle.vm_abroad.proofs.Whose.{abroad_of_own, own_of_home}
-pub use Rattle.vm_abroad.specs.Home.{first_of as first_home, home_of}
+pub use Rattle.vm_abroad.specs.Home.{copying_host, first_of as first_home, home_of}
 pub use Rattle.vm_abroad.specs.Sound.{IsAbroad}
 pub use Rattle.vm_abroad.specs.Whose.{IsNewTask, IsOfHost}
 pub use Rattle.vm_base.specs.declared.code.Code.{Code}
@@ -34,7 +34,7 @@ pub use Rattle.vm_legal.specs.Debts.{WaitsAt}
 pub use Rattle.vm_legal.specs.Follows.{IsConsequence, IsDone}
 pub use Rattle.vm_legal.specs.Frames.{FramesSuffice, Suffice, frames_free, frames_used}
 pub use Rattle.vm_legal.specs.Homes.{EntersNext, gives_frame, is_home}
-pub use Rattle.vm_legal.specs.Licences.{AllLicensed, HasCause, IsBehind, Licensed, PagerSends, ReturnsOn, Says, created, zeroes}
+pub use Rattle.vm_legal.specs.Licences.{AllLicensed, HasCause, IsBehind, Licensed, PagerSends, ReturnsOn, Says, owed, zeroes}
 pub use Rattle.vm_legal.specs.Outside.{Outside, is_file, is_file_kept, is_file_kind, kind_in, kind_of}
 pub use Rattle.vm_legal.specs.Prompt.{PromptAt}
 pub use Rattle.vm_legal.specs.Refusal.{is_elsewhere, refusal}

@@ -1,5 +1,6 @@
 -- What is no host's leaves all kernels what they stand for.
-use Rattle.vm_hosts.proofs.Common.{AllInner, AllLicensed, AllQueued, AllRest, Channel, Code, Command, Down, EachIn, EachOf, EntersNext, Event, HasCause, Header, HostTable, Ids, InRange, IsAbroad, IsBehind, IsCommon, IsNobodys, Licensed, List, MatchOption, Message, None, ObjectKind, Option, Outside, PagerSends, ReturnsOn, Says, Temp, Up, [], ap, created, false, inl, inr, just_begun, kind_of, length, next_object, next_region, nobodys_abroad, nobodys_shut, queue_abroad, refl, region_of, rests_abroad, sound_caused, subst, sym, true, ℕ, ◌++◌, ◌∙◌, ◌∷◌, ◌≡◌, ◌≤◌, ◌⊎◌}
+use Rattle.vm_hosts.proofs.Common.{AllInner, AllLicensed, AllQueued, AllRest, Code, Command, Down, EachIn, EachOf, EntersNext, Event, HasCause, Header, HostTable, Ids, InRange, IsAbroad, IsCommon, IsNobodys, Licensed, List, Message, None, ObjectKind, Option, Outside, PagerSends, Says, Temp, Up, [], ap, false, inl, inr, just_begun, kind_of, length, next_object, next_region, nobodys_abroad, nobodys_shut, owed, queue_abroad, refl, region_of, rests_abroad, sound_caused, subst, sym, true, ℕ, ◌++◌, ◌∙◌, ◌∷◌, ◌≡◌, ◌≤◌, ◌⊎◌}
+use Rattle.vm_legal.proofs.Owing.{behind_none}
 use Rattle.vm_model.specs.declared.event.Event.TheVariants as event
 use Rattle.vm_model.specs.declared.message.Message.TheVariants as message
 use Rattle.vm_model.specs.declared.command.Command.TheVariants as command
@@ -69,10 +70,11 @@ told_controls header outside doing [] past e none inner licensed = tt
 told_controls header outside doing (f ∷ told) past e none inner licensed =
     (one_sends header outside doing f (told ++ e ∷ past) (inr (later_begun told past e none inner.1)) licensed.0, told_controls header outside doing told past e none inner.1 licensed.1)
 
-none_created : (e : Event) (past : List Event) → IsNobodys e → MakesNoControl e → created (e ∷ past) ≡ None
-none_created (event.Sent (Down host object control) (message.Create number size)) past nobodys none = absurd none
-none_created (event.Sent (Up host object) m) past nobodys none = absurd nobodys
-none_created other past nobodys none = refl
+none_owed_behind : (e : Event) (past : List Event) → IsNobodys e → MakesNoControl e → owed (e ∷ past) ≡ None
+none_owed_behind (event.Sent (Down host object control) (message.Create number size)) past nobodys none = absurd none
+none_owed_behind (event.Sent (Up host object) m) past nobodys none = absurd nobodys
+none_owed_behind (event.CopyEnded task) past nobodys none = absurd nobodys
+none_owed_behind other past nobodys none = refl
 
 -- the next numbers of regions and objects, and the regions
 pub record SameTables (header : Header) (past new : List Event) : Type 0 where
@@ -107,7 +109,7 @@ common_more header outside doing ids (e ∷ events) past none nobodys licensed c
       marks = before.marks ∙ sym marks;
       few = subst (λ (z : ℕ). z + marked_regions header (e ∷ events ++ past) ≤ most_objects) (sym same.object) (subst (λ (z : ℕ). next_object header (events ++ past) + z ≤ most_objects) (sym marks) before.few);
       homeless = homes_next header outside e (events ++ past) (doing, licensed.0.0) before.homeless;
-      settled = record { returned = none_created e (events ++ past) nobodys.0 none.0; shut = nobodys_shut (e ∷ events) past nobodys common.settled.shut };
+      settled = record { none_owed = none_owed_behind e (events ++ past) nobodys.0 none.0; shut = nobodys_shut (e ∷ events) past nobodys common.settled.shut };
       replied = nobody_replied e (events ++ past) nobodys.0 before.replied;
     }
 
@@ -137,21 +139,18 @@ module _ (header : Header) (outside : Outside) (doing : Command) (hosts : HostTa
 
 -- behind a line and a refusal nothing has changed
 
-unforced : (e : Event) (past : List Event) → created past ≡ None → IsBehind e past
-unforced e past none = subst (λ (z : Option Channel). MatchOption z (Unit {0}) (λ channel. ReturnsOn channel e)) (sym none) tt
-
 pub all_lined : (header : Header) (outside : Outside) (doing : Command) (hosts : HostTable) (line : ℕ) (past : List Event) → AllRest header hosts past → AllRest header hosts (event.Line line ∷ past)
 all_lined header outside doing hosts line past all =
-    all_nobodys header outside doing hosts (event.Line line ∷ []) past all (tt, tt) (tt, tt) ((tt, unforced (event.Line line) past (common_all header hosts past all).settled.returned), tt)
+    all_nobodys header outside doing hosts (event.Line line ∷ []) past all (tt, tt) (tt, tt) ((tt, behind_none (event.Line line) past (common_all header hosts past all).settled.none_owed), tt)
 
 pub queued_lined : (header : Header) (outside : Outside) (doing : Command) (hosts : HostTable) (line : ℕ) (past : List Event) → AllRest header hosts past → AllQueued header hosts past → AllQueued header hosts (event.Line line ∷ past)
 queued_lined header outside doing hosts line past all =
-    queued_nobodys header outside doing hosts (event.Line line ∷ []) past all (tt, tt) (tt, tt) ((tt, unforced (event.Line line) past (common_all header hosts past all).settled.returned), tt)
+    queued_nobodys header outside doing hosts (event.Line line ∷ []) past all (tt, tt) (tt, tt) ((tt, behind_none (event.Line line) past (common_all header hosts past all).settled.none_owed), tt)
 
 pub all_refused : (header : Header) (outside : Outside) (doing : Command) (hosts : HostTable) (code : Code) (past : List Event) → AllRest header hosts past → AllRest header hosts (event.Refused code ∷ past)
 all_refused header outside doing hosts code past all =
-    all_nobodys header outside doing hosts (event.Refused code ∷ []) past all (tt, tt) (tt, tt) ((tt, unforced (event.Refused code) past (common_all header hosts past all).settled.returned), tt)
+    all_nobodys header outside doing hosts (event.Refused code ∷ []) past all (tt, tt) (tt, tt) ((tt, behind_none (event.Refused code) past (common_all header hosts past all).settled.none_owed), tt)
 
 pub queued_refused : (header : Header) (outside : Outside) (doing : Command) (hosts : HostTable) (code : Code) (past : List Event) → AllRest header hosts past → AllQueued header hosts past → AllQueued header hosts (event.Refused code ∷ past)
 queued_refused header outside doing hosts code past all =
-    queued_nobodys header outside doing hosts (event.Refused code ∷ []) past all (tt, tt) (tt, tt) ((tt, unforced (event.Refused code) past (common_all header hosts past all).settled.returned), tt)
+    queued_nobodys header outside doing hosts (event.Refused code ∷ []) past all (tt, tt) (tt, tt) ((tt, behind_none (event.Refused code) past (common_all header hosts past all).settled.none_owed), tt)

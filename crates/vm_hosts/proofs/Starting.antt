@@ -54,5 +54,5 @@ began header outside doing past events hosts h g k ids last new same known all r
       ended = went.ended;
       heads = whole;
       done = subst (λ (z : List Event). IsDone header doing z past) (sym went.is) (done_more header doing past events went.more built went.follows.stretch.inner ran.done);
-      paid = paid_of header past new lined whole.stretch.inner (common_all header last (new ++ past) went.ended.rests).settled.returned;
+      paid = paid_of header past new lined whole.stretch.inner (common_all header last (new ++ past) went.ended.rests).settled.none_owed;
     }

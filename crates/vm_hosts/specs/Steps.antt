@@ -38,7 +38,7 @@ pub record Stretch (header : Header) (outside : Outside) (doing : Command) (past
 
 -- they follow from what stands in front of them
 pub record EventsFollow (header : Header) (outside : Outside) (doing : Command) (past events : List Event) : Type 0 where
-  pub follows : EachOf IsConsequence events
+  pub follows : EachIn IsConsequence events past
   pub stretch : Stretch header outside doing past events
 
 -- the head of the command, and what follows from it
@@ -47,7 +47,7 @@ pub record Heads (header : Header) (outside : Outside) (doing : Command) (past e
   pub more : List Event
   pub head : head header past doing ≡ Some first
   pub is : events ≡ more ++ reverse first
-  pub follows : EachOf IsConsequence more
+  pub follows : EachIn IsConsequence more (reverse first ++ past)
   pub stretch : Stretch header outside doing past events
 
 -- all hosts have served their frame queues: a step has ended

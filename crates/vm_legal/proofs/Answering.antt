@@ -11,7 +11,7 @@ use Rattle.vm_model.specs.declared.message.Message.TheVariants as message
 use Rattle.vm_model.specs.declared.script.Header.{Header}
 use Rattle.vm_legal.proofs.Locks.{came_down, no_lock, no_request}
 use Rattle.vm_legal.specs.Debts.{IsPaid}
-use Rattle.vm_legal.specs.Licences.{created, up}
+use Rattle.vm_legal.specs.Licences.{owed, up}
 use Rattle.vm_legal.specs.Pagers.{LacksSlot}
 use Rattle.vm_legal.specs.Steps.{Letter, absence_taken, answers, before_step, error_taken, lacks_slot, readies, since, taken_letter}
 
@@ -56,7 +56,7 @@ test_of test (Some letter) = test letter.message
 
 -- what the step took, and what it did of that
 pub record Did (header : Header) (host o : ℕ) (m : Message) (now : List Event) : Type 0 where
-  pub created : created now ≡ None
+  pub none_owed : owed now ≡ None
   pub took : taken_letter now ≡ Some (record { channel = up host o; message = m })
   pub no_error : error_taken header.size now ≡ None
   pub no_absence : absence_taken header.size now ≡ None
@@ -66,7 +66,7 @@ pub record Did (header : Header) (host o : ℕ) (m : Message) (now : List Event)
 
 pub paid_of : (header : Header) (host o : ℕ) (m : Message) (now : List Event) → Did header host o m now → IsPaid header now
 paid_of header host o m now did = record {
-  returned = did.created;
+  none_owed = did.none_owed;
   init = λ at object control size paged is. subst (λ (k : ℕ). since (readies k) now ≡ true) (ap object_of (sym did.took ∙ is)) (did.ready (ap (test_of opens) (sym did.took ∙ is)));
   create = λ at object control size paged is. subst (λ (k : ℕ). since (readies k) now ≡ true) (ap object_of (sym did.took ∙ is)) (did.ready (ap (test_of opens) (sym did.took ∙ is)));
   request = λ at object control page access paged is. subst (λ (k : ℕ). since (answers k page) now ≡ true) (ap object_of (sym did.took ∙ is)) (did.answered page (ap (test_of (asks page)) (sym did.took ∙ is) ∙ itself page));

@@ -5,6 +5,7 @@ pub mod Groups
 pub mod Inside
 pub mod LockNames
 pub mod Locks
+pub mod Owing
 pub mod Pageouts
 pub mod Paying
 pub mod Served

@@ -6,7 +6,7 @@ use Rattle.vm_model.specs.declared.event.Event.TheVariants as event
 use Rattle.vm_model.specs.declared.script.Header.{Header}
 use Rattle.vm_legal.specs.Debts.{EndsWaiters, IsPaid, WaitsAt, HasLocked}
 use Rattle.vm_legal.specs.Frames.{frames_free}
-use Rattle.vm_legal.specs.Licences.{LockRequest, created, gives_back, lock_taken, zeroes}
+use Rattle.vm_legal.specs.Licences.{LockRequest, gives_back, lock_taken, owed, zeroes}
 use Rattle.vm_legal.specs.Pagers.{LacksSlot}
 use Rattle.vm_legal.specs.Steps.{answers, completes, drops_page, fails_access, fails_task, lacks_slot, readies, returns_page}
 use Rattle.vm_legal.specs.Walks.{page_on}
@@ -46,11 +46,11 @@ locked_more header request events past inner had =
       reply = λ wanted. since_more (completes request.host request.object) events past inner (had.reply wanted);
     }
 
-pub paid_more : (header : Header) (events past : List Event) → AllInner events → IsPaid header past → created (events ++ past) ≡ None → IsPaid header (events ++ past)
+pub paid_more : (header : Header) (events past : List Event) → AllInner events → IsPaid header past → owed (events ++ past) ≡ None → IsPaid header (events ++ past)
 paid_more header events past inner paid none =
     let same = taken_more events past inner in
     record {
-      returned = none;
+      none_owed = none;
       init = λ host object control size paged is. since_more (readies object) events past inner (paid.init host object control size paged (sym same ∙ is));
       create = λ host object control size paged is. since_more (readies object) events past inner (paid.create host object control size paged (sym same ∙ is));
       request = λ host object control page access paged is. since_more (answers object page) events past inner (paid.request host object control page access paged (sym same ∙ is));

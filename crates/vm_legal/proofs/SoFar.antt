@@ -13,14 +13,14 @@ use Rattle.vm_legal.specs.Outside.{Outside}
 use Rattle.vm_legal.specs.Prompt.{IsExhausted}
 use Rattle.vm_legal.specs.Refusal.{refusal}
 use Rattle.vm_legal.specs.Steps.{departures}
-use Rattle.vm_legal.specs.Stretches.{EachOf}
+use Rattle.vm_legal.specs.Stretches.{EachIn}
 
 -- no line stands in the group of a pageout
 no_line : (header : Header) (outside : Outside) (past : List Event) (numbered : Numbered) (line : ℕ) (more : List Event) (refused : Option Code)
     → MatchOption refused (IsRun header outside past numbered [] (event.Line line ∷ more)) (λ code. event.Line line ∷ more ≡ event.Refused code ∷ []) → ⊥
 no_line header outside past numbered line more None run =
     let same : event.Line line ∷ more ≡ run.more = run.is ∙ append-nil run.more in
-    let each : EachOf IsConsequence (event.Line line ∷ more) = subst (EachOf IsConsequence) (sym same) run.follows in each.0
+    let each : EachIn IsConsequence (event.Line line ∷ more) (event.Line numbered.line ∷ past) = subst (λ (z : List Event). EachIn IsConsequence z (event.Line numbered.line ∷ past)) (sym same) run.follows in each.0
 no_line header outside past numbered line more (Some code) is = absurd (cc)
 
 -- it wants a page, and has reclaimed none

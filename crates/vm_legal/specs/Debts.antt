@@ -8,7 +8,7 @@ use Rattle.vm_model.specs.Named.{named}
 use Rattle.vm_model.specs.Waiting.{Access, is_store}
 use Rattle.vm_legal.specs.Accesses.{Comes, HasPlace, Waits, page_of}
 use Rattle.vm_legal.specs.Frames.{frames_free}
-use Rattle.vm_legal.specs.Licences.{LockRequest, created, gives_back, is_paged, lock_taken, up, zeroes}
+use Rattle.vm_legal.specs.Licences.{LockRequest, gives_back, is_paged, lock_taken, owed, up, zeroes}
 use Rattle.vm_legal.specs.Outside.{is_wild}
 use Rattle.vm_legal.specs.Pagers.{LacksSlot}
 use Rattle.vm_legal.specs.Prompt.{Awaits}
@@ -46,8 +46,8 @@ pub record HasLocked (header : Header) (request : LockRequest) (past : List Even
   pub reply : request.reply ≡ true → since (completes request.host request.object) past ≡ true
 
 pub record IsPaid (header : Header) (past : List Event) : Type 0 where
-  -- an object's first control is never made without the return behind it
-  pub returned : created past ≡ None
+  -- an object's first control is never made without the return behind it, and no slow copy ends without its entry
+  pub none_owed : owed past ≡ None
   -- a pager that was told of an object is ready; a wild object has none
   pub init : (host object control size : ℕ) → is_wild header object ≡ false → taken_letter past ≡ Some (record { channel = up host object; message = message.Init control size }) → since (readies object) past ≡ true
   pub create : (host object control size : ℕ) → is_wild header object ≡ false → taken_letter past ≡ Some (record { channel = up host object; message = message.Create control size }) → since (readies object) past ≡ true

@@ -26,14 +26,14 @@ use Rattle.vm_model.specs.Named.{named}
 use Rattle.vm_model.specs.Tasks.{host_of, entries_of}
 use Rattle.vm_legal.specs.Accesses.{FindsPage}
 use Rattle.vm_legal.specs.Frames.{frames_wired}
-use Rattle.vm_legal.specs.Licences.{AllLicensed}
+use Rattle.vm_legal.specs.Licences.{AllLicensed, IsOwed}
 use Rattle.vm_legal.specs.Outside.{Outside}
 use Rattle.vm_legal.specs.Pagers.{Known, known_below}
 use Rattle.vm_legal.specs.Prompt.{IsExhausted}
 use Rattle.vm_legal.specs.Reclaims.{IsReclaim}
 use Rattle.vm_legal.specs.Refusal.{refusal}
 use Rattle.vm_legal.specs.Steps.{departures, takings}
-use Rattle.vm_legal.specs.Stretches.{EachOf}
+use Rattle.vm_legal.specs.Stretches.{EachIn, EachOf}
 use Rattle.vm_legal.specs.Undelivered.{undelivered}
 
 -- what a child gets of an entry of the forked task, where the next region has this number: the same entry, where it is shared; one on a copy of its
@@ -127,41 +127,41 @@ head header past (command.Copy task address bytes target to) =
     copy_head (named header) header.size (next_region header past) address bytes target to (entry_at address (entries_of header.size task.0 past))
 head header past (command.Clean object page count flush) = Some (clean_head object page count flush (known_below (length header.frames.items) object.0 past))
 
--- the event is no part of a head, nor a line
-abbrev pub IsConsequence : Event → Type 0
-IsConsequence (event.Line line) = ⊥
-IsConsequence (event.Refused code) = ⊥
-IsConsequence (event.TaskMade task host) = ⊥
-IsConsequence (event.TaskEnded task) = ⊥
-IsConsequence (event.RegionMade region object pages) = ⊥
-IsConsequence (event.RegionCopied region source offset pages) = ⊥
-IsConsequence (event.Entered task address bytes region offset prot inherit) = ⊥
-IsConsequence (event.Removed task address bytes) = ⊥
-IsConsequence (event.Protected task address bytes prot) = ⊥
-IsConsequence (event.Inherited task address bytes inherit) = ⊥
-IsConsequence (event.BegunLoad task address size) = ⊥
-IsConsequence (event.BegunStore task address size value) = ⊥
-IsConsequence (event.BegunCopy task address bytes to) = ⊥
-IsConsequence (event.Wired host count) = ⊥
-IsConsequence (event.Loaded task object page value) = Unit {0}
-IsConsequence (event.Stored task object page at size value) = Unit {0}
-IsConsequence (event.CopiedPage task page object object_page target) = Unit {0}
-IsConsequence (event.CopyEnded task) = Unit {0}
-IsConsequence (event.Failed task object page) = Unit {0}
-IsConsequence (event.Sent channel m) = Unit {0}
-IsConsequence (event.Taken channel m) = Unit {0}
-IsConsequence (event.Dropped host object page) = Unit {0}
-IsConsequence (event.Zeroed host object page) = Unit {0}
-IsConsequence (event.Raised host lower lower_page upper upper_page) = Unit {0}
-IsConsequence (event.Shadowed region new old) = Unit {0}
-IsConsequence (event.DeviceFailed who way object page) = Unit {0}
-IsConsequence (event.NoSlot object page) = Unit {0}
+-- the event is no part of a head, nor a line; an entry is none where it is owed
+abbrev pub IsConsequence : Event → List Event → Type 0
+IsConsequence (event.Line line) past = ⊥
+IsConsequence (event.Refused code) past = ⊥
+IsConsequence (event.TaskMade task host) past = ⊥
+IsConsequence (event.TaskEnded task) past = ⊥
+IsConsequence (event.RegionMade region object pages) past = ⊥
+IsConsequence (event.RegionCopied region source offset pages) past = ⊥
+IsConsequence (event.Entered task address bytes region offset prot inherit) past = IsOwed (event.Entered task address bytes region offset prot inherit) past
+IsConsequence (event.Removed task address bytes) past = ⊥
+IsConsequence (event.Protected task address bytes prot) past = ⊥
+IsConsequence (event.Inherited task address bytes inherit) past = ⊥
+IsConsequence (event.BegunLoad task address size) past = ⊥
+IsConsequence (event.BegunStore task address size value) past = ⊥
+IsConsequence (event.BegunCopy task address bytes to) past = ⊥
+IsConsequence (event.Wired host count) past = ⊥
+IsConsequence (event.Loaded task object page value) past = Unit {0}
+IsConsequence (event.Stored task object page at size value) past = Unit {0}
+IsConsequence (event.CopiedPage task page object object_page target) past = Unit {0}
+IsConsequence (event.CopyEnded task) past = Unit {0}
+IsConsequence (event.Failed task object page) past = Unit {0}
+IsConsequence (event.Sent channel m) past = Unit {0}
+IsConsequence (event.Taken channel m) past = Unit {0}
+IsConsequence (event.Dropped host object page) past = Unit {0}
+IsConsequence (event.Zeroed host object page) past = Unit {0}
+IsConsequence (event.Raised host lower lower_page upper upper_page) past = Unit {0}
+IsConsequence (event.Shadowed region new old) past = Unit {0}
+IsConsequence (event.DeviceFailed who way object page) past = Unit {0}
+IsConsequence (event.NoSlot object page) past = Unit {0}
 
 -- behind its line a group is the head of its command and what follows from it; each event has its cause
 pub record IsRun (header : Header) (outside : Outside) (past : List Event) (numbered : Numbered) (first group : List Event) : Type 0 where
   pub more : List Event
   pub is : group ≡ more ++ reverse first
-  pub follows : EachOf IsConsequence more
+  pub follows : EachIn IsConsequence more (reverse first ++ event.Line numbered.line ∷ past)
   pub licensed : AllLicensed header outside numbered.command group (event.Line numbered.line ∷ past)
 
 -- what stands behind the line of a command: its refusal alone, or what it makes

@@ -1,6 +1,8 @@
 -- Why an event stands where it does: its cause, in the events in front of it.
 use Rattle.std.specs.Prelude.{ℕ, zero, suc, ◌+◌, ◌*◌, ◌/◌, ◌%◌, ◌<◌, ◌≤◌, ◌≡◌, ◌⊎◌, List, [], ◌∷◌, ◌++◌, Bool, true, false, not, Option, Some, None, MatchOption, if◌then◌else◌, ◌==◌, ◌&&◌, ◌||◌, nat_lt}
 use Rattle.vm_base.specs.Entries.{page_at}
+use Rattle.vm_base.specs.declared.ids.Inherit.TheVariants.{Copy}
+use Rattle.vm_base.specs.declared.ids.TaskId.{TaskId}
 use Rattle.vm_base.specs.declared.ids.ObjectKind.{ObjectKind}
 use Rattle.vm_base.specs.declared.ids.ObjectKind.TheVariants.{Temp, File, Shared, Wild}
 use Rattle.vm_model.specs.declared.event.Event.{Event}
@@ -26,7 +28,7 @@ use Rattle.vm_model.specs.Regions.{next_region, next_object, region_of, backing_
 use Rattle.vm_model.specs.Server.{first}
 use Rattle.vm_model.specs.Tasks.{host_of, entries_of, has_entry}
 use Rattle.vm_model.specs.Words.{Supplying, Locking, in_range}
-use Rattle.vm_model.specs.Waiting.{Access, Loading, Storing, Copying, waiting, next_page, copy_target, is_store}
+use Rattle.vm_model.specs.Waiting.{Access, Loading, Storing, Copying, Target, waiting, next_page, copy_target, is_store}
 use Rattle.vm_legal.specs.Accesses.{At, Waits, Comes, HasPlace, begun_at, is_ready, names, page_of}
 use Rattle.vm_legal.specs.Living.{lives_on, tasks}
 use Rattle.vm_legal.specs.Outside.{Outside, is_file, is_said, is_wild, kind_of, start_page, zeros}
@@ -482,17 +484,44 @@ pub record NoSlotFor (header : Header) (object page : ℕ) (past : List Event) :
 abbrev pub is_paged : Header → ℕ → Bool
 is_paged header object = not (nat_lt object (named header)) || is_file header object
 
--- behind the create of an object stands the return for which it was made
-abbrev pub created : List Event → Option Channel
-created (event.Sent channel (message.Create control size) ∷ past) = Some channel
-created other = None
+-- the range of a task that a slow copy fills, and the region that it made for it
+pub record Filled : Type 0 where
+  pub task : TaskId
+  pub address : ℕ
+  pub bytes : ℕ
+  pub region : ℕ
+
+-- what has to stand right behind an event
+pub data Owed : Type 0 where
+  -- behind the create of an object the return for which it was made
+  ReturnOn : Channel → Owed
+  -- behind the end of a slow copy the entry of what it filled
+  EntryOf : Filled → Owed
+
+-- of a slow copy with this access, and this target, that ends now
+abbrev pub entry_of : TaskId → Option Access → Option Target → Option Owed
+entry_of task (Some (Copying address bytes to)) (Some target) = Some (EntryOf (record { task = task; address = to; bytes = bytes; region = target.region }))
+entry_of task other target = None
+
+abbrev pub owed : List Event → Option Owed
+owed (event.Sent channel (message.Create control size) ∷ past) = Some (ReturnOn channel)
+owed (event.CopyEnded task ∷ past) = entry_of task (waiting task.0 past) (copy_target task.0 past)
+owed other = None
 
 abbrev pub ReturnsOn : Channel → Event → Type 0
 ReturnsOn channel (event.Sent on (message.Return control page dirty keep bytes)) = on ≡ channel
 ReturnsOn channel other = ⊥
 
+abbrev pub Pays : Owed → Event → Type 0
+Pays (ReturnOn channel) e = ReturnsOn channel e
+Pays (EntryOf filled) e = e ≡ event.Entered filled.task filled.address filled.bytes (record { 0 = filled.region }) 0 (record { read = true; write = true }) Copy
+
 abbrev pub IsBehind : Event → List Event → Type 0
-IsBehind e past = MatchOption (created past) (Unit {0}) (λ channel. ReturnsOn channel e)
+IsBehind e past = MatchOption (owed past) (Unit {0}) (λ due. Pays due e)
+
+-- the event is owed
+abbrev pub IsOwed : Event → List Event → Type 0
+IsOwed e past = MatchOption (owed past) ⊥ (λ due. Pays due e)
 
 -- the cause of an event in the step of a command; heads of groups have theirs in the command, and premises here
 abbrev pub Caused : Header → Outside → Command → Event → List Event → Type 0

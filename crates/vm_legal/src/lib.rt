@@ -2,10 +2,15 @@
 //! what each command makes of the history.
 #![tactic(auto)]
 
-ghost use Rattle.std.specs.Prelude.{◌≡◌, ◌≢◌, ℕ, ◌<◌, List, [], None, ◌∷◌, ◌++◌, ◌+◌, ◌≤◌, ◌||◌, true, false, Some};
+ghost use Rattle.std.specs.Prelude.{◌≡◌, ◌≢◌, ℕ, ◌<◌, List, [], None, ◌∷◌, ◌++◌, ◌+◌, ◌≤◌, ◌||◌, true, false, Some, reverse};
 ghost use Rattle.vm_base.specs.declared.ids.HostId.{HostId};
 ghost use Rattle.vm_base.specs.declared.ids.ObjectId.{ObjectId};
+ghost use Rattle.vm_base.specs.declared.ids.Inherit.TheVariants.{Copy};
+ghost use Rattle.vm_base.specs.declared.ids.Inherit.{Inherit};
 ghost use Rattle.vm_base.specs.declared.ids.PageNo.{PageNo};
+ghost use Rattle.vm_base.specs.declared.ids.Prot.{Prot};
+ghost use Rattle.vm_base.specs.declared.ids.RegionId.{RegionId};
+ghost use Rattle.vm_base.specs.declared.ids.TaskId.{TaskId};
 ghost use Rattle.vm_model.specs.Moments.{EachEvent};
 ghost use Rattle.vm_model.specs.declared.command.Command.{Command};
 ghost use Rattle.vm_model.specs.declared.command.Command.TheVariants as command;
@@ -15,8 +20,10 @@ ghost use Rattle.vm_model.specs.declared.event.Event.TheVariants as event;
 ghost use Rattle.vm_model.specs.declared.message.Channel.TheVariants.{Up};
 ghost use Rattle.vm_model.specs.declared.message.Message.TheVariants as message;
 ghost use Rattle.vm_model.specs.declared.script.Header.{Header};
-ghost use Rattle.vm_legal.specs.Follows.{Follows, FollowsCut, FollowsSoFar, IsDone};
-ghost use Rattle.vm_legal.specs.Licences.{HasCause, Caused, LockRequest, gives_back, is_answered_over, lock_taken};
+ghost use Rattle.vm_model.specs.Waiting.{Copying, Target, copy_target, waiting};
+ghost use Rattle.vm_legal.specs.Debts.{IsPaid};
+ghost use Rattle.vm_legal.specs.Follows.{Follows, FollowsCut, FollowsSoFar, IsDone, IsRun};
+ghost use Rattle.vm_legal.specs.Licences.{HasCause, Caused, Licensed, LockRequest, gives_back, is_answered_over, lock_taken, owed};
 ghost use Rattle.vm_legal.specs.Outside.{Outside};
 ghost use Rattle.vm_legal.specs.Prompt.{IsExhausted};
 ghost use Rattle.vm_legal.specs.Reclaims.{IsReclaim};
@@ -59,4 +66,13 @@ pub fn pageouts_count_own_pages()
 /// may have more to do there.
 pub fn pageouts_are_whole_so_far()
     ensures { (header : Header) (outside : Outside) (line count : ℕ) (at : HostId) (run : List Numbered) (past : List Event) → 0 < count → refusal header past (command.Pageout at count) ≡ None → (IsExhausted header at.0 (event.Line line ∷ past) (event.Line line ∷ past) → ⊥) → FollowsSoFar header outside (record { line = line; command = command.Pageout at count } ∷ run) (event.Line line ∷ past) → ⊥ }
+{}
+
+/// Right behind the end of a slow copy stands the entry of the range that it was to fill, on the region that it made for that, and no step
+/// ends in between. Behind its head a group has no other entry.
+#[tactic(auto, using(crate::proofs::Owing::behind, crate::proofs::Owing::unpaid))]
+pub fn slow_copies_end_with_their_entries()
+    ensures behind { (header : Header) (outside : Outside) (doing : Command) (task : TaskId) (address bytes to : ℕ) (target : Target) (e : Event) (past : List Event) → waiting task.0 past ≡ Some (Copying address bytes to) → copy_target task.0 past ≡ Some target → Licensed header outside doing e (event.CopyEnded task ∷ past) → e ≡ event.Entered task to bytes (record { 0 = target.region }) 0 (record { read = true; write = true }) Copy }
+    ensures owed { (header : Header) (task : TaskId) (address bytes to : ℕ) (target : Target) (past : List Event) → waiting task.0 past ≡ Some (Copying address bytes to) → copy_target task.0 past ≡ Some target → IsPaid header (event.CopyEnded task ∷ past) → ⊥ }
+    ensures alone { (header : Header) (outside : Outside) (past : List Event) (numbered : Numbered) (first more before : List Event) (task : TaskId) (address bytes : ℕ) (region : RegionId) (offset : ℕ) (prot : Prot) (inherit : Inherit) → owed (before ++ (reverse first ++ event.Line numbered.line ∷ past)) ≡ None → IsRun header outside past numbered first ((more ++ event.Entered task address bytes region offset prot inherit ∷ before) ++ reverse first) → ⊥ }
 {}

@@ -7,7 +7,7 @@ use Rattle.vm_model.specs.Moments.{BeforeSteps, EachEvent}
 use Rattle.vm_model.specs.Waiting.{Loading}
 use Rattle.vm_legal.specs.Accesses.{Waits}
 use Rattle.vm_legal.specs.Debts.{IsPaid}
-use Rattle.vm_legal.specs.Licences.{HasCause, created}
+use Rattle.vm_legal.specs.Licences.{HasCause, owed}
 use Rattle.vm_legal.specs.Prompt.{NoneInVain, Prompt}
 use Rattle.vm_legal.specs.Steps.{absence_taken, error_taken, taken_letter}
 use Rattle.vm_legal.specs.Undelivered.{undelivered}
@@ -20,10 +20,10 @@ pub full_paged : AllPaged header
 full_paged o below = absurd (omega (arith, below))
 
 -- a step that took nothing owes nothing
-idle : (past : List Event) → created past ≡ None → taken_letter past ≡ None → error_taken header.size past ≡ None → absence_taken header.size past ≡ None → IsPaid header past
+idle : (past : List Event) → owed past ≡ None → taken_letter past ≡ None → error_taken header.size past ≡ None → absence_taken header.size past ≡ None → IsPaid header past
 idle past made took failed lacked =
     record {
-      returned = made;
+      none_owed = made;
       init = λ h o k size ours is. absurd (cc);
       create = λ h o k size ours is. absurd (cc);
       request = λ h o k p access ours is. absurd (cc);

@@ -54,11 +54,11 @@ replies other object old new events a = absurd a
 
 -- one such event
 
-consequence_one : (by : Device) (e : Event) → IsReply by e → IsConsequence e
-consequence_one by (event.Sent channel m) reply = tt
-consequence_one by (event.NoSlot object page) reply = tt
-consequence_one by (event.DeviceFailed who way object page) reply = tt
-consequence_one by other reply = absurd reply
+consequence_one : (by : Device) (e : Event) (past : List Event) → IsReply by e → IsConsequence e past
+consequence_one by (event.Sent channel m) past reply = tt
+consequence_one by (event.NoSlot object page) past reply = tt
+consequence_one by (event.DeviceFailed who way object page) past reply = tt
+consequence_one by other past reply = absurd reply
 
 inner_one : (by : Device) (e : Event) → IsReply by e → IsInner e
 inner_one by (event.Sent channel m) reply = tt
@@ -97,9 +97,9 @@ spares_one by who e past other reply = absurd reply
 
 -- all of an answer
 
-pub reply_consequences : (by : Device) (events : List Event) → EachOf (IsReply by) events → EachOf IsConsequence events
-reply_consequences by [] reply = tt
-reply_consequences by (e ∷ events) reply = (consequence_one by e reply.0, reply_consequences by events reply.1)
+pub reply_consequences : (by : Device) (events past : List Event) → EachOf (IsReply by) events → EachIn IsConsequence events past
+reply_consequences by [] past reply = tt
+reply_consequences by (e ∷ events) past reply = (consequence_one by e (events ++ past) reply.0, reply_consequences by events past reply.1)
 
 pub reply_inner : (by : Device) (events : List Event) → EachOf (IsReply by) events → AllInner events
 reply_inner by [] reply = tt

@@ -13,7 +13,7 @@ use Rattle.vm_system.proofs.Letters.{orderly_line}
 use Rattle.vm_system.proofs.Sayings.{can_say, orderly_said}
 use Rattle.vm_system.proofs.Following.{fit_same, kept_at, same_declared, same_files, same_pagers}
 use Rattle.vm_system.proofs.Growth.{front_begun, grew_begun}
-use Rattle.vm_system.proofs.Silent.{all_returned, paid_inner}
+use Rattle.vm_system.proofs.Silent.{all_settled, paid_inner}
 use Rattle.vm_system.proofs.Legal.{head_line, legal_refused, legal_settle}
 
 -- what was told behind a line, and what the hosts are then
@@ -123,7 +123,7 @@ stands_told header outside line events hosts old new stands told same posts grow
         orderly = rw grown told.orderly;
         lawful = rw grown told.lawful;
       };
-      paid = rw grown (paid_inner header line h events told.inner (all_returned header hosts (events ++ past) told.rests));
+      paid = rw grown (paid_inner header line h events told.inner (all_settled header hosts (events ++ past) told.rests));
       served = rw grown (served_more header events past told.silent (served_other header (event.Line line) h tt stands.served));
     }
 

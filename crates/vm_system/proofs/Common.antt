@@ -60,7 +60,7 @@ pub use Rattle.vm_legal.specs.Follows.{Follows, FollowsSoFar, IsConsequence, IsD
 pub use Rattle.vm_legal.specs.Frames.{FramesSuffice, Gives, Suffice, change_where, frames_after, frames_held, frames_used, returns_out, taken_down_change, taken_up_change}
 pub use Rattle.vm_legal.specs.Homes.{gives_frame}
 pub use Rattle.vm_legal.specs.Legal.{HasOneWriter, Holds, IsAtRest, LegalFor}
-pub use Rattle.vm_legal.specs.Licences.{AllLicensed, HasCause, Licensed, MaySendUp, MayTake, ReturnsOn, created, lock_taken, tells, up}
+pub use Rattle.vm_legal.specs.Licences.{AllLicensed, HasCause, Licensed, MaySendUp, MayTake, ReturnsOn, lock_taken, owed, tells, up}
 pub use Rattle.vm_legal.specs.Outside.{Outside, is_file, is_shared, kind_of}
 pub use Rattle.vm_legal.specs.Pagers.{Known, known_after, known_below, known_control, last_return, or_known}
 pub use Rattle.vm_legal.specs.Prompt.{AReady, AnAnswer, AnUnlock, Awaits, HostIsFull, IsExhausted, IsSource, NoneInVain, Prompt, AllServed, WaitsForPager}

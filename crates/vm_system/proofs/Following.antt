@@ -4,7 +4,7 @@ use Rattle.vm_model.specs.declared.event.Device.TheVariants.{Files, Paging}
 use Rattle.vm_system.proofs.Agreeing.{carry_spared, content_stays, devices_said, files_spared, serve_said, spared_said}
 use Rattle.vm_system.proofs.Lawfulness.{lawful_more, others_said, served_more, server_more}
 use Rattle.vm_system.proofs.Sayings.{can_say, orderly_said}
-use Rattle.vm_system.proofs.Silent.{all_returned}
+use Rattle.vm_system.proofs.Silent.{all_settled}
 
 pub same_pagers : (old new : State) → SameHosts old new → new.pagers.items ≡ old.pagers.items
 same_pagers old new same = rw same.pagers refl
@@ -130,7 +130,7 @@ followed given host washed old new events answered passed size pagers files decl
         queues = rw now passed.ended.queues;
         agrees = agrees_said header given.outside given.command past events new
             (orderly_said header given.outside given.command past events answered.built.supplied orderly stretch.licensed stretch.said stretch.inner) serve filed heard lawful (declared ∙ answered.agrees.declared) stretch (size ∙ answered.agrees.size) now posts;
-        paid = rw now (paid_more header events past stretch.inner owed (all_returned header new.hosts (events ++ past) passed.ended.rests));
+        paid = rw now (paid_more header events past stretch.inner owed (all_settled header new.hosts (events ++ past) passed.ended.rests));
         served = rw now (served_more header events past (others_said header events past stretch.said) served);
       };
       more = events;

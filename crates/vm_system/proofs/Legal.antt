@@ -3,13 +3,13 @@ use Rattle.std.proofs.Common.{zero, suc, length, refl, ap, ℕ, Some, None, Opti
 use Rattle.vm_base.specs.declared.ids.ObjectId.{ObjectId}
 use Rattle.vm_base.specs.declared.ids.TaskId.{TaskId}
 use Rattle.vm_legal.specs.Follows.{clean_head, map_head}
-use Rattle.vm_system.proofs.Common.{AllInner, AllLicensed, AllServed, Began, Bool, Code, Command, EachEvent, EachIn, EachOf, Entry, Event, FlatBytes, FollowsSoFar, FramesSuffice, HasCause, Header, Holds, HostTable, IfNone, IsAtRest, IsDone, IsDoneSoFar, IsGroup, IsPaid, IsRun, IsWholeGroup, IsWholeSoFar, KeepsLegal, List, MomentsIn, None, Numbered, Option, Outside, OwnBytes, Prompt, Some, Went, [], acting, answers, ap, code_where, copies, copies_from, copy_refusal, each_both, each_whole, entries_of, entry_at, false, has_copy_mark, head, host_of, if◌then◌else◌, inl, inner_both, is_copied, is_copy_full, is_elsewhere, is_fork_full, is_full, is_idle, is_none, is_range, is_some, length, licensed_both, marked_below, marked_regions, meets_range, moment_last, moments_both, moments_whole, most_entries, nat_le, new_marks, next_object, next_region, not, of_both, refl, refusal, region_of, reverse, settles, so_far, steps_whole, subst, suc, sym, takings_more, true, waiting, zero, ℕ, ◌++◌, ◌+◌, ◌/◌, ◌∙◌, ◌∷◌, ◌≡◌, AllSupplied}
+use Rattle.vm_system.proofs.Common.{AllInner, AllLicensed, AllServed, Began, Bool, Code, Command, EachEvent, EachIn, EachOf, Entry, Event, FlatBytes, FollowsSoFar, FramesSuffice, HasCause, Header, Holds, HostTable, IfNone, IsAtRest, IsConsequence, IsDone, IsDoneSoFar, IsGroup, IsPaid, IsRun, IsWholeGroup, IsWholeSoFar, KeepsLegal, List, MomentsIn, None, Numbered, Option, Outside, OwnBytes, Prompt, Some, Went, [], acting, answers, ap, code_where, copies, copies_from, copy_refusal, each_both, each_whole, entries_of, entry_at, false, has_copy_mark, head, host_of, if◌then◌else◌, inl, inner_both, is_copied, is_copy_full, is_elsewhere, is_fork_full, is_full, is_idle, is_none, is_range, is_some, length, licensed_both, marked_below, marked_regions, meets_range, moment_last, moments_both, moments_whole, most_entries, nat_le, new_marks, next_object, next_region, not, of_both, refl, refusal, region_of, reverse, settles, so_far, steps_whole, subst, suc, sym, takings_more, true, waiting, zero, ℕ, ◌++◌, ◌+◌, ◌/◌, ◌∙◌, ◌∷◌, ◌≡◌, AllSupplied}
 use Rattle.std.proofs.Common.{◌||◌, ◌&&◌, nat_lt}
 use Rattle.vm_base.specs.declared.code.Code.TheVariants as code
 use Rattle.vm_model.specs.declared.event.Event.TheVariants as event
 use Rattle.vm_model.specs.declared.command.Command.TheVariants as command
 use Rattle.vm_system.proofs.Cleaning.{IsAsked, known_line}
-use Rattle.vm_system.proofs.Silent.{all_returned, paid_inner, prompt_code, prompt_line}
+use Rattle.vm_system.proofs.Silent.{all_settled, paid_inner, prompt_code, prompt_line}
 use Rattle.sms_server.specs.Stands.{IsOther as IsServerOther}
 use Rattle.vm_shared.proofs.Currents.{copies_current, loads_current}
 use Rattle.vm_system.proofs.Sharing.{writers as one_writer}
@@ -204,7 +204,7 @@ legal_passed header outside c h asked events hosts supplied idle fine is says we
     let made : IsRun header outside h c asked events = record {
       more = more;
       is = both;
-      follows = went.follows.follows;
+      follows = subst (λ (z : List Event). EachIn IsConsequence more (z ++ past)) (sym says.back) went.follows.follows;
       licensed = subst (λ (z : List Event). AllLicensed header outside c.command z past) (sym went.is) (licensed_both header outside c.command more asked past stretch.licensed says.licensed);
     } in
     legal_step header outside c h events supplied (record {
@@ -215,7 +215,7 @@ legal_passed header outside c h asked events hosts supplied idle fine is says we
       inner = inner;
       rests = λ rests. record {
         prompt = went.ended.prompt;
-        paid = paid_inner header c.line h events inner (all_returned header hosts (events ++ past) went.ended.rests);
+        paid = paid_inner header c.line h events inner (all_settled header hosts (events ++ past) went.ended.rests);
         served = served_said header c.line h events
             (subst (EachOf (IsServerOther header)) (sym went.is) (of_both (IsServerOther header) more asked (others_said header more (asked ++ past) stretch.said) says.silent)) rests.served;
       };

@@ -1,5 +1,5 @@
 -- A history stays legal with one message more taken.
-use Rattle.vm_system.proofs.Common.{AllLicensed, AllServed, AreSame, BeforeSteps, Channel, ChannelId, Command, EachEvent, EachMoment, EachOf, Event, FollowsSoFar, FramesSuffice, HasCause, HasMore, Header, Holds, IsConsequence, IsGroup, IsPaid, KeepsOpen, LegalOpen, Letter, List, MayBeCut, MayCutOpen, MayTakeFrom, Message, None, Numbered, Outside, OwnBytes, Prompt, Some, State, Step, SystemStands, TakesStep, Took, [], ap, append_assoc, channel_number, channel_of_first, cut_of, each_whole, false, inl, inr, is_some, licensed_both, messages_on, moments_whole, of_both, oldest_channel, queue, queue_is, refl, so_far, steps_whole, subst, sym, takings, takings_more, true, undelivered, ℕ, ◌++◌, ◌∙◌, ◌∷◌, ◌≡◌, AllSupplied}
+use Rattle.vm_system.proofs.Common.{AllLicensed, AllServed, AreSame, BeforeSteps, Channel, ChannelId, Command, EachEvent, EachIn, EachMoment, Event, FollowsSoFar, FramesSuffice, HasCause, HasMore, Header, Holds, IsConsequence, IsGroup, IsPaid, KeepsOpen, LegalOpen, Letter, List, MayBeCut, MayCutOpen, MayTakeFrom, Message, None, Numbered, Outside, OwnBytes, Prompt, Some, State, Step, SystemStands, TakesStep, Took, [], ap, append-nil, append_assoc, channel_number, channel_of_first, cut_of, each_both, each_whole, false, inl, inr, is_some, licensed_both, messages_on, moments_whole, oldest_channel, queue, queue_is, refl, so_far, steps_whole, subst, sym, takings, takings_more, true, undelivered, ℕ, ◌++◌, ◌∙◌, ◌∷◌, ◌≡◌, AllSupplied}
 use Rattle.vm_model.specs.declared.command.Command.TheVariants as command
 use Rattle.vm_model.specs.declared.event.Event.TheVariants as event
 use Rattle.vm_ports.specs.Ports.{oldest as oldest_on}
@@ -47,21 +47,23 @@ holds_taken given new step caused front =
 -- the number of messages taken
 
 -- the group of a settle grows
-grown : (header : Header) (outside : Outside) (count line : ℕ) (past group stretch : List Event) → EachOf IsConsequence stretch → AllLicensed header outside (command.Settle count) stretch (group ++ event.Line line ∷ past)
+grown : (header : Header) (outside : Outside) (count line : ℕ) (past group stretch : List Event) → EachIn IsConsequence stretch (group ++ event.Line line ∷ past) → AllLicensed header outside (command.Settle count) stretch (group ++ event.Line line ∷ past)
     → IsGroup header outside past (record { line = line; command = command.Settle count }) group → IsGroup header outside past (record { line = line; command = command.Settle count }) (stretch ++ group)
 grown header outside count line past group stretch follows licensed made = record {
   more = stretch ++ made.more;
   is = ap (λ (z : List Event). stretch ++ z) made.is ∙ sym (append_assoc stretch made.more []);
-  follows = of_both IsConsequence stretch made.more follows made.follows;
+  follows = each_both IsConsequence stretch made.more (event.Line line ∷ past)
+      (subst (λ (z : List Event). EachIn IsConsequence stretch (z ++ event.Line line ∷ past)) (made.is ∙ append-nil made.more) follows) made.follows;
   licensed = licensed_both header outside (command.Settle count) stretch group (event.Line line ∷ past) licensed made.licensed;
 }
 
 -- and so does what a settle made so far
-pub settled_more : (header : Header) (outside : Outside) (count line : ℕ) (run : List Numbered) (old new stretch : List Event) → new ≡ stretch ++ old → EachOf IsConsequence stretch → AllLicensed header outside (command.Settle count) stretch old
+pub settled_more : (header : Header) (outside : Outside) (count line : ℕ) (run : List Numbered) (old new stretch : List Event) → new ≡ stretch ++ old → EachIn IsConsequence stretch old → AllLicensed header outside (command.Settle count) stretch old
     → FollowsSoFar header outside (record { line = line; command = command.Settle count } ∷ run) old → FollowsSoFar header outside (record { line = line; command = command.Settle count } ∷ run) new
 settled_more header outside count line run old new stretch is follows licensed (past, group, was, made, done, before) =
     let licensed_on : AllLicensed header outside (command.Settle count) stretch (group ++ event.Line line ∷ past) = subst (λ (z : List Event). AllLicensed header outside (command.Settle count) stretch z) was licensed in
-    (past, stretch ++ group, is ∙ ap (λ (z : List Event). stretch ++ z) was ∙ sym (append_assoc stretch group (event.Line line ∷ past)), grown header outside count line past group stretch follows licensed_on made, tt, before)
+    let follows_on : EachIn IsConsequence stretch (group ++ event.Line line ∷ past) = subst (λ (z : List Event). EachIn IsConsequence stretch z) was follows in
+    (past, stretch ++ group, is ∙ ap (λ (z : List Event). stretch ++ z) was ∙ sym (append_assoc stretch group (event.Line line ∷ past)), grown header outside count line past group stretch follows_on licensed_on made, tt, before)
 
 -- what holds of an open history that has a kernel
 pub up_to_open : (header : Header) (outside : Outside) (run : List Numbered) (s : State) → SystemStands header outside s → LegalOpen header outside run s.history.items → HoldsUpTo header outside s.history.items
@@ -84,7 +86,7 @@ follows_open : (header : Header) (outside : Outside) (count line : ℕ) (run : L
     → FollowsSoFar header outside (record { line = line; command = command.Settle count } ∷ run) new
 follows_open header outside count line run old new step follows =
     settled_more header outside count line run old new (step.more ++ event.Taken step.channel step.m ∷ []) (step_is (settling header outside count old) new step)
-    (of_both IsConsequence step.more (event.Taken step.channel step.m ∷ []) step.follows (tt, tt)) step.licensed follows
+    (each_both IsConsequence step.more (event.Taken step.channel step.m ∷ []) old step.follows (tt, tt)) step.licensed follows
 
 pub keeps_open : (header : Header) (outside : Outside) (count : ℕ) (s new : State) → SystemStands header outside s → Took (settling header outside count s.history.items) new → KeepsOpen header outside (command.Settle count) s.history.items new.history.items
 keeps_open header outside count s new stands took line run legal =

@@ -1,5 +1,5 @@
 -- What holds at the end of a step doesn't change with a line, or with the code of a refusal.
-use Rattle.vm_system.proofs.Common.{AReady, Access, AllInner, AllRest, AnAnswer, AnUnlock, Awaits, Bool, Code, Comes, Copies, Elsewhere, Event, HasPlace, Header, HostIsFull, HostTable, IsExhausted, IsPaid, IsSource, List, None, NoneInVain, Nowhere, Prompt, Raises, Waits, WaitsForPager, WaitsUnlocked, WantsFrame, common_all, created, inl, inr, is_store, page_of, paid_of, refl, ℕ, ◌++◌, ◌∷◌, ◌≡◌, [], Some, false, true, ap, is_some}
+use Rattle.vm_system.proofs.Common.{AReady, Access, AllInner, AllRest, AnAnswer, AnUnlock, Awaits, Bool, Code, Comes, Copies, Elsewhere, Event, HasPlace, Header, HostIsFull, HostTable, IsExhausted, IsPaid, IsSource, List, None, NoneInVain, Nowhere, Prompt, Raises, Waits, WaitsForPager, WaitsUnlocked, WantsFrame, common_all, inl, inr, is_store, owed, page_of, paid_of, refl, ℕ, ◌++◌, ◌∷◌, ◌≡◌, [], Some, false, true, ap, is_some}
 use Rattle.vm_model.specs.declared.event.Event.TheVariants as event
 
 -- the accesses that wait, and what they wait for
@@ -163,12 +163,12 @@ prompt_code header why h prompt host below = record {
 }
 
 -- no create waits for its return
-pub all_returned : (header : Header) (hosts : HostTable) (past : List Event) → AllRest header hosts past → created past ≡ None
-all_returned header hosts past rests = (common_all header hosts past rests).settled.returned
+pub all_settled : (header : Header) (hosts : HostTable) (past : List Event) → AllRest header hosts past → owed past ≡ None
+all_settled header hosts past rests = (common_all header hosts past rests).settled.none_owed
 
 -- a step that takes nothing owes nothing
 
-pub paid_inner : (header : Header) (line : ℕ) (h events : List Event) → AllInner events → created (events ++ event.Line line ∷ h) ≡ None → IsPaid header (events ++ event.Line line ∷ h)
+pub paid_inner : (header : Header) (line : ℕ) (h events : List Event) → AllInner events → owed (events ++ event.Line line ∷ h) ≡ None → IsPaid header (events ++ event.Line line ∷ h)
 paid_inner header line h events inner none = paid_of header (event.Line line ∷ h) events (record { line = line; before = h; is = refl }) inner none
 
 -- at the start nothing is owed
@@ -178,7 +178,7 @@ nothing_taken is = absurd (let bad : false ≡ true = ap is_some is in cc)
 
 pub paid_start : (header : Header) → IsPaid header []
 paid_start header = record {
-  returned = refl;
+  none_owed = refl;
   init = λ host object control size supplied is. nothing_taken is;
   create = λ host object control size supplied is. nothing_taken is;
   request = λ host object control page access paged is. nothing_taken is;

@@ -1,5 +1,6 @@
 -- A message is taken: what stands in front of that, and its cause.
-use Rattle.vm_system.proofs.Common.{AllFilesServe, AllInner, AllLicensed, AllQueued, AllRest, AllServe, AllServed, AreSame, Bool, Channel, ChannelId, Command, Device, Down, EachIn, EachOf, Event, FileTable, FilesCarry, FramesSuffice, Gives, Header, HostTable, IfSome, IsConsequence, IsSupplied, IsOrderly, IsPaid, Lawful, Letter, Licensed, List, MatchOption, MayTake, MayTakeFrom, Message, MomentsIn, None, Option, Outside, OwnBytes, ReturnsOn, ServerStands, ServerTable, SlotTable, Some, State, Step, TakesStep, Told, Up, [], all_lined, all_suffice, ap, arith, change_where, channel_number, content_of, created, devices, each_both, false, first, frames_after, frames_held, frames_used, if◌then◌else◌, is_channel, is_control, length, licensed_both, lined, live_control, local, messages_on, moments_both, nat_tests, queue, queue_is, queued_lined, refl, reverse, same_channel, slice_get, subst, suc, sym, taken_down_change, taken_up_change, true, undelivered, zero, ℕ, ◌++◌, ◌<◌, ◌∙◌, ◌∷◌, ◌≡◌, ◌≤◌}
+use Rattle.vm_system.proofs.Common.{AllFilesServe, AllInner, AllLicensed, AllQueued, AllRest, AllServe, AllServed, AreSame, Bool, Channel, ChannelId, Command, Device, Down, EachIn, EachOf, Event, FileTable, FilesCarry, FramesSuffice, Gives, Header, HostTable, IfSome, IsConsequence, IsSupplied, IsOrderly, IsPaid, Lawful, Letter, Licensed, List, MatchOption, MayTake, MayTakeFrom, Message, MomentsIn, None, Option, Outside, OwnBytes, ReturnsOn, ServerStands, ServerTable, SlotTable, Some, State, Step, TakesStep, Told, Up, [], all_lined, all_suffice, ap, arith, change_where, channel_number, content_of, devices, each_both, false, first, frames_after, frames_held, frames_used, if◌then◌else◌, is_channel, is_control, length, licensed_both, lined, live_control, local, messages_on, moments_both, nat_tests, owed, queue, queue_is, queued_lined, refl, reverse, same_channel, slice_get, subst, suc, sym, taken_down_change, taken_up_change, true, undelivered, zero, ℕ, ◌++◌, ◌<◌, ◌∙◌, ◌∷◌, ◌≡◌, ◌≤◌}
+use Rattle.vm_legal.proofs.Owing.{behind_none}
 use Rattle.std.proofs.Common.{◌==◌, ◌&&◌}
 use Rattle.vm_model.specs.declared.event.Event.TheVariants as event
 use Rattle.vm_model.specs.declared.message.Message.TheVariants as message
@@ -8,7 +9,7 @@ use Rattle.vm_ports.specs.declared.letter.Letter.{Letter as Posted}
 use Rattle.vm_system.proofs.Agreeing.{carry_other, files_other, serve_other}
 use Rattle.sms_server.proofs.Acting.{others_serve as served_other, others_stand as server_other}
 use Rattle.vm_system.proofs.Lawfulness.{lawful_line}
-use Rattle.vm_system.proofs.Silent.{all_returned, paid_inner}
+use Rattle.vm_system.proofs.Silent.{all_settled, paid_inner}
 use Rattle.vm_system.proofs.Letters.{orderly_line}
 use Rattle.vm_system.proofs.Numbers.{number_read}
 
@@ -147,13 +148,13 @@ pub taken_suffice : (header : Header) (channel : Channel) (m : Message) (past : 
 taken_suffice header channel m past suffice h = fewer (slice_get (reverse header.frames.items) h) _ _ (taken_less header.size h channel m past) (suffice h)
 
 -- the cause of a taking
-pub taken_licensed : (header : Header) (outside : Outside) (doing : Command) (channel : Channel) (m : Message) (past : List Event) → first (queue channel past) ≡ Some m → MayTake doing channel past → created past ≡ None
+pub taken_licensed : (header : Header) (outside : Outside) (doing : Command) (channel : Channel) (m : Message) (past : List Event) → first (queue channel past) ≡ Some m → MayTake doing channel past → owed past ≡ None
     → Licensed header outside doing (event.Taken channel m) past
-taken_licensed header outside doing channel m past is may settled = ((is, may), subst (λ (z : Option Channel). MatchOption z (Unit {0}) (λ c. ReturnsOn c (event.Taken channel m))) (sym settled) tt)
+taken_licensed header outside doing channel m past is may settled = ((is, may), behind_none (event.Taken channel m) past settled)
 
 -- a step that begins with a taking, from what it says behind that
 pub takes_step : (given : Step) (channel : Channel) (m : Message) (more new : List Event) → new ≡ more ++ event.Taken channel m ∷ given.past → first (queue channel given.past) ≡ Some m → MayTake given.command channel given.past
-    → created given.past ≡ None → FramesSuffice given.header given.past → EachOf IsConsequence more → AllLicensed given.header given.outside given.command more (event.Taken channel m ∷ given.past)
+    → owed given.past ≡ None → FramesSuffice given.header given.past → EachIn IsConsequence more (event.Taken channel m ∷ given.past) → AllLicensed given.header given.outside given.command more (event.Taken channel m ∷ given.past)
     → EachIn (OwnBytes given.header) more (event.Taken channel m ∷ given.past)
     → MomentsIn (FramesSuffice given.header) more (event.Taken channel m ∷ given.past) → AllInner more → TakesStep given new
 takes_step given channel m more new is head may settled suffice follows licensed own frames inner =
@@ -202,8 +203,8 @@ front_of given line number channel s may =
       served = rw may.past (served_lined given.header line items stands.served);
     }
 
-pub front_settled : (given : Step) (s : State) → Front given s → created given.past ≡ None
-front_settled given s front = all_returned given.header s.hosts given.past front.rests
+pub front_settled : (given : Step) (s : State) → Front given s → owed given.past ≡ None
+front_settled given s front = all_settled given.header s.hosts given.past front.rests
 
 pub front_suffice : (given : Step) (s : State) → Front given s → FramesSuffice given.header given.past
 front_suffice given s front = all_suffice given.header s.hosts given.past front.rests

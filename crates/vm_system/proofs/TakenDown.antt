@@ -1,11 +1,11 @@
 -- An answer of a pager is taken by its host.
-use Rattle.vm_system.proofs.Common.{AllFilesServe, AllInner, AllServe, Bool, CanTellAll, Channel, ChannelId, Device, Down, EndsAll, Event, Header, HostId, HostTable, HostsPart, IsAbsencePaid, IsErrorPaid, IsLockPaid, IsPaid, IsWord, Letter, Licensed, List, MayTakeFrom, Message, None, ObjectId, Option, Posts, ServerStands, Some, Spares, State, Step, Took, Up, ap, created, devices, false, first, length, queue, sym, taken_letter, taken_more, true, up, ℕ, ◌++◌, ◌<◌, ◌∙◌, ◌∷◌, ◌≡◌, ServerTable, subst}
+use Rattle.vm_system.proofs.Common.{AllFilesServe, AllInner, AllServe, Bool, CanTellAll, Channel, ChannelId, Device, Down, EndsAll, Event, Header, HostId, HostTable, HostsPart, IsAbsencePaid, IsErrorPaid, IsLockPaid, IsPaid, IsWord, Letter, Licensed, List, MayTakeFrom, Message, None, ObjectId, Option, Posts, ServerStands, Some, Spares, State, Step, Took, Up, ap, devices, false, first, length, owed, queue, sym, taken_letter, taken_more, true, up, ℕ, ◌++◌, ◌<◌, ◌∙◌, ◌∷◌, ◌≡◌, ServerTable, subst}
 use Rattle.vm_model.specs.declared.event.Device.TheVariants.{Files, Paging}
 use Rattle.vm_model.specs.declared.event.Event.TheVariants as event
 use Rattle.vm_system.proofs.Agreeing.{carry_other, carry_spared, devices_said, files_other, files_spared, serve_other, spared_said}
 use Rattle.sms_server.proofs.Acting.{others_serve as served_other, others_stand as server_other}
 use Rattle.vm_system.proofs.Lawfulness.{lawful_taken, others_said, served_more}
-use Rattle.vm_system.proofs.Silent.{all_returned}
+use Rattle.vm_system.proofs.Silent.{all_settled}
 use Rattle.vm_system.proofs.Letters.{letter_first, orderly_taken}
 use Rattle.vm_system.proofs.Sayings.{can_say, orderly_said}
 use Rattle.vm_system.proofs.Following.{agrees_said, filed_spares, kept_behind}
@@ -50,11 +50,11 @@ not_up at object control m events past o host n inner is =
     channels bad = absurd (cc)
 
 -- the step owes what the hosts have done
-down_paid : (header : Header) (at : HostId) (object : ObjectId) (control : ℕ) (m : Message) (events past : List Event) → AllInner events → created (events ++ event.Taken (Down at object control) m ∷ past) ≡ None
+down_paid : (header : Header) (at : HostId) (object : ObjectId) (control : ℕ) (m : Message) (events past : List Event) → AllInner events → owed (events ++ event.Taken (Down at object control) m ∷ past) ≡ None
     → IsErrorPaid header (events ++ event.Taken (Down at object control) m ∷ past) → IsAbsencePaid header (events ++ event.Taken (Down at object control) m ∷ past) → IsLockPaid header (events ++ event.Taken (Down at object control) m ∷ past)
     → EndsAll header (events ++ event.Taken (Down at object control) m ∷ past) → IsPaid header (events ++ event.Taken (Down at object control) m ∷ past)
-down_paid header at object control m events past inner returned failed zeroed locked ended = record {
-  returned = returned;
+down_paid header at object control m events past inner none failed zeroed locked ended = record {
+  none_owed = none;
   init = λ host o k size paged is. absurd (not_up at object control m events past o host _ inner is);
   create = λ host o k size paged is. absurd (not_up at object control m events past o host _ inner is);
   request = λ host o k page access paged is. absurd (not_up at object control m events past o host _ inner is);
@@ -89,7 +89,7 @@ took_down given line number host object control m s new events may head passed f
     let filed : AllFilesServe header new.files.items past = rw files (front_filed given host object control m s front) in
     let heard : ServerStands header new.server past = subst (λ (z : ServerTable). ServerStands header z past) (sym server) (server_other header s.server (event.Taken channel m) given.past tt front.server) in
     let licence = taken_licensed header outside doing channel m given.past head may.may (front_settled given s front) in
-    let owed : IsPaid header new.history.items = rw items (down_paid header host object control m events given.past stretch.inner (all_returned header new.hosts (events ++ past) passed.ended.rests) failed zeroed locked ended) in
+    let owed : IsPaid header new.history.items = rw items (down_paid header host object control m events given.past stretch.inner (all_settled header new.hosts (events ++ past) passed.ended.rests) failed zeroed locked ended) in
     record {
       stands = record {
         built = front.built;

@@ -1,5 +1,5 @@
 -- A message about a declared object is taken by the pager of its file, which answers.
-use Rattle.vm_system.proofs.Common.{AllFilesServe, AllLicensed, AllServe, AnswersKept, Bool, CanTellAll, CarriesFile, ChannelId, Content, DevicesHaveCause, EachIn, Err, Event, FileAnswer, FileKept, FileTable, FilesAreKept, FilesCarry, Followed, FramesSuffice, Header, HostId, IsConsequence, LeavesFile, List, Listed, MayHave, MayTake, MayTakeFrom, Message, MomentsIn, None, ObjectId, Ok, Option, Outside, OwnBytes, PagerHasAnswered, PagingIsKept, Posts, SameAreas, SlotTable, SlotsFit, Some, SparesPaging, State, Step, TakesStep, TellsPage, Told, Took, Up, [], ap, append_assoc, arith, content_of, devices, each_both, first, gives_frame, home_of, inl, inner_both, inr, is_file, length, length-set, licensed_both, moments_both, name_of, nat_tests, none-some, of_both, others, others_carry, queue, refl, same_Some, set, slice_get, slice_get_within, subst, sym, tells, true, false, ℕ, ◌++◌, ◌<◌, ◌==◌, ◌∙◌, ◌∷◌, ◌≡◌, ◌≢◌, ◌⊎◌, reverse}
+use Rattle.vm_system.proofs.Common.{AllFilesServe, AllLicensed, AllServe, AnswersKept, Bool, CanTellAll, CarriesFile, ChannelId, Content, DevicesHaveCause, EachIn, Err, Event, FileAnswer, FileKept, FileTable, FilesAreKept, FilesCarry, Followed, FramesSuffice, Header, HostId, IsConsequence, LeavesFile, List, Listed, MayHave, MayTake, MayTakeFrom, Message, MomentsIn, None, ObjectId, Ok, Option, Outside, OwnBytes, PagerHasAnswered, PagingIsKept, Posts, SameAreas, SlotTable, SlotsFit, Some, SparesPaging, State, Step, TakesStep, TellsPage, Told, Took, Up, [], ap, append_assoc, arith, content_of, devices, each_both, first, gives_frame, home_of, inl, inner_both, inr, is_file, length, length-set, licensed_both, moments_both, name_of, nat_tests, none-some, others, others_carry, queue, refl, same_Some, set, slice_get, slice_get_within, subst, sym, tells, true, false, ℕ, ◌++◌, ◌<◌, ◌==◌, ◌∙◌, ◌∷◌, ◌≡◌, ◌≢◌, ◌⊎◌, reverse}
 use Rattle.pg_file.proofs.Carrying.{carries, others_carry as carries_apart}
 use Rattle.pg_file.proofs.Causes.{causes}
 use Rattle.pg_file.proofs.Debts.{paid}
@@ -323,7 +323,7 @@ cut_filed given host object m s old table events new filed items =
     let past = event.Taken (Up host object) m ∷ given.past in
     let told = (filed_events given host object m s old table events past filed).replies in
     let suffice = front_suffice given s front in
-    takes_step given (Up host object) m events new items filed.head filed.may (front_settled given s front) suffice (reply_consequences Files events told) filed.licensed (reply_own header Files events past told)
+    takes_step given (Up host object) m events new items filed.head filed.may (front_settled given s front) suffice (reply_consequences Files events past told) filed.licensed (reply_own header Files events past told)
     (reply_frames header Files events past told (taken_suffice header (Up host object) m given.past suffice)) (reply_inner Files events told)
 
 -- the hosts went on behind the answer
@@ -348,7 +348,7 @@ took_filed given host object m s new old table events filed followed =
     record {
       stands = followed.stands;
       step = takes_step given (Up host object) m (more ++ events) new.history.items (items ∙ sym (append_assoc more events past)) filed.head filed.may (front_settled given s front) suffice
-          (of_both IsConsequence more events followed.follows.follows (reply_consequences Files events told)) licensed own frames (inner_both more events stretch.inner (reply_inner Files events told));
+          (each_both IsConsequence more events past (subst (λ (z : List Event). EachIn IsConsequence more z) same followed.follows.follows) (reply_consequences Files events past told)) licensed own frames (inner_both more events stretch.inner (reply_inner Files events told));
       prompt = followed.prompt;
       paid = followed.stands.paid;
     }

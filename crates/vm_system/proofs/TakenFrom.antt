@@ -1,5 +1,5 @@
 -- A `take` is run.
-use Rattle.vm_system.proofs.Common.{Channel, Event, Follows, FollowsSoFar, FramesSuffice, Header, Holds, IsAtRest, IsGroup, IsPaid, IsRun, IsWholeGroup, KeepsLegal, LegalFor, List, MayBeCut, MayCut, None, Numbered, Outside, Some, State, Step, SystemStands, TakesStep, Took, [], ap, cut_of, false, first, head, inl, inr, is_some, licensed_front, moment_last, no_request, open_of, queue, refl, refusal, so_far, subst, sym, take_head, true, ℕ, ◌++◌, ◌∷◌, ◌≡◌}
+use Rattle.vm_system.proofs.Common.{Channel, EachIn, Event, Follows, FollowsSoFar, FramesSuffice, Header, Holds, IsAtRest, IsConsequence, IsGroup, IsPaid, IsRun, IsWholeGroup, KeepsLegal, LegalFor, List, MayBeCut, MayCut, None, Numbered, Outside, Some, State, Step, SystemStands, TakesStep, Took, [], ap, cut_of, false, first, head, inl, inr, is_some, licensed_front, moment_last, no_request, open_of, queue, refl, refusal, so_far, subst, sym, take_head, true, ℕ, ◌++◌, ◌∷◌, ◌≡◌}
 use Rattle.vm_model.specs.declared.command.Command.TheVariants as command
 use Rattle.vm_model.specs.declared.event.Event.TheVariants as event
 use Rattle.vm_system.proofs.Opening.{HoldsUpTo, holds_taken, step_is}
@@ -23,7 +23,12 @@ follows_take header outside line channel run old new fine step follows =
     let cause = (licensed_front header outside (command.Take channel) step.more (event.Taken step.channel step.m) past step.licensed).0 in
     let first_is : first (queue channel old) ≡ Some step.m = subst (λ (z : Channel). first (queue z old) ≡ Some step.m) cause.1.0 cause.0 in
     let headed : head header old (command.Take channel) ≡ Some (event.Taken channel step.m ∷ []) = ap (take_head channel) first_is in
-    let run_is : IsRun header outside old numbered (event.Taken channel step.m ∷ []) stretch = record { more = step.more; is = ap (λ (z : Channel). step.more ++ event.Taken z step.m ∷ []) cause.1.0; follows = step.follows; licensed = step.licensed } in
+    let run_is : IsRun header outside old numbered (event.Taken channel step.m ∷ []) stretch = record {
+      more = step.more;
+      is = ap (λ (z : Channel). step.more ++ event.Taken z step.m ∷ []) cause.1.0;
+      follows = subst (λ (z : Channel). EachIn IsConsequence step.more (event.Taken z step.m ∷ past)) cause.1.0 step.follows;
+      licensed = step.licensed;
+    } in
     let group : IsGroup header outside old numbered stretch = rw (fine, headed) run_is in
     let whole : IsWholeGroup header old numbered stretch = rw fine tt in
     (old, stretch, step_is (taking_of header outside line channel old) new step, group, whole, follows)
@@ -31,7 +36,7 @@ follows_take header outside line channel run old new fine step follows =
 -- a line owes nothing
 paid_line : (header : Header) (line : ℕ) (past : List Event) → IsPaid header (event.Line line ∷ past)
 paid_line header line past = record {
-  returned = refl;
+  none_owed = refl;
   init = λ host object control size paged is. absurd (some_none (sym is));
   create = λ host object control size paged is. absurd (some_none (sym is));
   request = λ host object control page access paged is. absurd (some_none (sym is));

@@ -1,5 +1,5 @@
 -- A message about a shared object is taken by its server, which answers.
-use Rattle.vm_system.proofs.Common.{SameHosts, AllFilesServe, AllInner, AllLicensed, AllServe, AreServerWords, Bool, CanTellAll, Channel, ChannelId, Command, Content, Device, Down, EachIn, EachOf, Event, Followed, FramesSuffice, Header, HostId, IsConsequence, IsHostLetter, IsOrderly, IsServerWord, IsSharedWord, IsToServer, IsWord, IsWordUp, List, Licensed, MayTake, MayTakeFrom, Message, MomentsIn, None, ObjectId, Option, Outside, OwnBytes, PagerHasAnswered, PagingIsKept, Posts, ServerAnswer, ServerServes, ServerTable, SlotTable, SlotsFit, Some, Spares, State, Step, TakesStep, Told, Took, Up, [], ap, append_assoc, arith, content_of, devices, each_both, false, first, gives_frame, host_id, inl, inner_both, inr, is_file, is_made, is_shared, kind_of, length, licensed_both, moments_both, named, never, nat_lt, of_both, others, others_carry, page_part, queue, refl, reverse, slice_get, subst, sym, taken_letter, taken_more, true, up, ℕ, ◌++◌, ◌<◌, ◌∙◌, ◌∷◌, ◌≡◌, ◌⊎◌, Letter, same_Some}
+use Rattle.vm_system.proofs.Common.{SameHosts, AllFilesServe, AllInner, AllLicensed, AllServe, AreServerWords, Bool, CanTellAll, Channel, ChannelId, Command, Content, Device, Down, EachIn, EachOf, Event, Followed, FramesSuffice, Header, HostId, IsConsequence, IsHostLetter, IsOrderly, IsServerWord, IsSharedWord, IsToServer, IsWord, IsWordUp, List, Licensed, MayTake, MayTakeFrom, Message, MomentsIn, None, ObjectId, Option, Outside, OwnBytes, PagerHasAnswered, PagingIsKept, Posts, ServerAnswer, ServerServes, ServerTable, SlotTable, SlotsFit, Some, Spares, State, Step, TakesStep, Told, Took, Up, [], ap, append_assoc, arith, content_of, devices, each_both, false, first, gives_frame, host_id, inl, inner_both, inr, is_file, is_made, is_shared, kind_of, length, licensed_both, moments_both, named, never, nat_lt, others, others_carry, page_part, queue, refl, reverse, slice_get, subst, sym, taken_letter, taken_more, true, up, ℕ, ◌++◌, ◌<◌, ◌∙◌, ◌∷◌, ◌≡◌, ◌⊎◌, Letter, same_Some}
 use Rattle.vm_model.specs.declared.event.Device.TheVariants.{Files, Paging}
 use Rattle.vm_model.specs.declared.event.Event.TheVariants as event
 use Rattle.vm_model.specs.declared.message.Message.TheVariants as message
@@ -336,7 +336,7 @@ cut_shared given host object m s old table events new said items =
     let past = event.Taken (Up host object) m ∷ given.past in
     let replies = shared_replies header.size object events said.words in
     let suffice = front_suffice given s front in
-    takes_step given (Up host object) m events new items said.head said.may (front_settled given s front) suffice (reply_consequences Files events replies) said.licensed (reply_own header Files events past replies)
+    takes_step given (Up host object) m events new items said.head said.may (front_settled given s front) suffice (reply_consequences Files events past replies) said.licensed (reply_own header Files events past replies)
     (reply_frames header Files events past replies (taken_suffice header (Up host object) m given.past suffice)) (reply_inner Files events replies)
 
 -- the hosts went on behind the answer
@@ -361,7 +361,7 @@ took_shared given host object m s new old table events said followed =
     record {
       stands = followed.stands;
       step = takes_step given (Up host object) m (more ++ events) new.history.items (items ∙ sym (append_assoc more events past)) said.head said.may (front_settled given s front) suffice
-          (of_both IsConsequence more events followed.follows.follows (reply_consequences Files events replies)) licensed own frames (inner_both more events stretch.inner (reply_inner Files events replies));
+          (each_both IsConsequence more events past (subst (λ (z : List Event). EachIn IsConsequence more z) same followed.follows.follows) (reply_consequences Files events past replies)) licensed own frames (inner_both more events stretch.inner (reply_inner Files events replies));
       prompt = followed.prompt;
       paid = followed.stands.paid;
     }

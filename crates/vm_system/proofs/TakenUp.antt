@@ -1,5 +1,5 @@
 -- A message about a temporary object is taken by the default pager of a host, which answers.
-use Rattle.vm_system.proofs.Common.{AllFilesServe, AllLicensed, AllServe, AnswerHasCause, AreNumbered, CanTellAll, CarriesContent, Channel, ChannelId, Content, CountRises, Device, DevicesHaveCause, EachIn, Err, Event, Followed, FramesSuffice, Going, HasRoom, Header, HostId, IsAreaTold, IsConsequence, IsHostLetter, IsToPager, KeepsShape, LeavesAreas, List, Listed, MayTake, MayTakeFrom, Message, MomentsIn, ObjectId, Ok, Option, Outside, OwnBytes, PagerHasAnswered, PagerServes, PagerStands, PagingIsKept, Posts, ReturnsWhole, SameAreas, SameHosts, SlotTable, SlotsFit, Some, SparesFiles, State, Step, SuppliesStored, TakesStep, TellsFault, Told, Took, Up, [], after_message, ap, append_assoc, area_name, arith, carries, causes, content_of, devices, each_both, first, get_or, gives_frame, inl, inner_both, inr, is_heard_elsewhere, length, length-append, length-set, licensed_both, lined, moments_both, named, of_both, others, others_carry, paid, queue, refl, same_Some, set, slice_get, slice_get-get_or, slice_get_within, stands, subst, suc, sym, take, true, zero, ℕ, ◌++◌, ◌+◌, ◌<◌, ◌∙◌, ◌∷◌, ◌≡◌, ◌≤◌, ◌⊎◌, reverse}
+use Rattle.vm_system.proofs.Common.{AllFilesServe, AllLicensed, AllServe, AnswerHasCause, AreNumbered, CanTellAll, CarriesContent, Channel, ChannelId, Content, CountRises, Device, DevicesHaveCause, EachIn, Err, Event, Followed, FramesSuffice, Going, HasRoom, Header, HostId, IsAreaTold, IsConsequence, IsHostLetter, IsToPager, KeepsShape, LeavesAreas, List, Listed, MayTake, MayTakeFrom, Message, MomentsIn, ObjectId, Ok, Option, Outside, OwnBytes, PagerHasAnswered, PagerServes, PagerStands, PagingIsKept, Posts, ReturnsWhole, SameAreas, SameHosts, SlotTable, SlotsFit, Some, SparesFiles, State, Step, SuppliesStored, TakesStep, TellsFault, Told, Took, Up, [], after_message, ap, append_assoc, area_name, arith, carries, causes, content_of, devices, each_both, first, get_or, gives_frame, inl, inner_both, inr, is_heard_elsewhere, length, length-append, length-set, licensed_both, lined, moments_both, named, others, others_carry, paid, queue, refl, same_Some, set, slice_get, slice_get-get_or, slice_get_within, stands, subst, suc, sym, take, true, zero, ℕ, ◌++◌, ◌+◌, ◌<◌, ◌∙◌, ◌∷◌, ◌≡◌, ◌≤◌, ◌⊎◌, reverse}
 use Rattle.std.proofs.Common.{◌≢◌}
 use Rattle.pg_default.specs.Answers.{PagerAnswer as Answers}
 use Rattle.vm_base.specs.declared.failure.NoMemory.{NoMemory}
@@ -204,7 +204,7 @@ cut_up given host object m s old slots events new reply items =
     let told = replies m object old slots events reply.answered in
     let past = event.Taken (Up host object) m ∷ given.past in
     let suffice = front_suffice given s front in
-    takes_step given (Up host object) m events new items reply.head reply.may (front_settled given s front) suffice (reply_consequences Paging events told) reply.licensed (reply_own header Paging events past told)
+    takes_step given (Up host object) m events new items reply.head reply.may (front_settled given s front) suffice (reply_consequences Paging events past told) reply.licensed (reply_own header Paging events past told)
     (reply_frames header Paging events past told (taken_suffice header (Up host object) m given.past suffice)) (reply_inner Paging events told)
 
 -- the hosts went on behind the answer
@@ -229,7 +229,7 @@ took_up given host object m s new old slots events reply followed =
     record {
       stands = followed.stands;
       step = takes_step given (Up host object) m (more ++ events) new.history.items (items ∙ sym (append_assoc more events past)) reply.head reply.may (front_settled given s front) suffice
-          (of_both IsConsequence more events followed.follows.follows (reply_consequences Paging events told)) licensed own frames (inner_both more events stretch.inner (reply_inner Paging events told));
+          (each_both IsConsequence more events past (subst (λ (z : List Event). EachIn IsConsequence more z) same followed.follows.follows) (reply_consequences Paging events past told)) licensed own frames (inner_both more events stretch.inner (reply_inner Paging events told));
       prompt = followed.prompt;
       paid = followed.stands.paid;
     }

@@ -35,7 +35,7 @@ pub record TakesStep (given : Step) (new : List Event) : Type 0 where
   pub m : Message
   pub more : List Event
   pub is : new ≡ more ++ event.Taken channel m ∷ given.past
-  pub follows : EachOf IsConsequence more
+  pub follows : EachIn IsConsequence more (event.Taken channel m ∷ given.past)
   pub licensed : AllLicensed given.header given.outside given.command (more ++ event.Taken channel m ∷ []) given.past
   pub own_bytes : EachIn (OwnBytes given.header) (more ++ event.Taken channel m ∷ []) given.past
   pub frames : MomentsIn (FramesSuffice given.header) (more ++ event.Taken channel m ∷ []) given.past
