@@ -1,8 +1,8 @@
 // Orders of beginning and of joining, worked out by hand.
 use std::alloc::Global;
 use std::test::Fail;
-use vm_base::{ObjectId, PageKey, PageNo, TaskId};
-use vm_waits::{On, Waiting, Waits, Want};
+use vm_base::{ObjectId, PageKey, PageNo, RegionId, TaskId};
+use vm_waits::{Destination, On, Waiting, Waits, Want};
 
 const fn page(page: u32) -> On {
     On::Page { key: key(page) }
@@ -21,16 +21,17 @@ const fn ready(object: u32) -> On {
     }
 }
 
+fn load(task: u32) -> Want {
+    Want::Load {
+        address: 16 * u64::from(task),
+        size: 4,
+    }
+}
+
 fn begin(waits: &mut Waits, task: u32) -> Result<(), Fail> {
     waits.reserve(1)?;
     if waits.get(TaskId(task)).is_none() {
-        waits.begin(
-            TaskId(task),
-            Want::Load {
-                address: 16 * u64::from(task),
-                size: 4,
-            },
-        );
+        waits.begin(TaskId(task), load(task), None);
     }
     Ok(())
 }
@@ -127,5 +128,43 @@ fn queue(rt: HostRuntime) -> Result<(), Fail> {
     assert!(rt; !waits.has_queue());
     assert_eq!(rt; number(waits.front()), 99);
     assert_eq!(rt; waits.count(), 0);
+    Ok(())
+}
+
+// A slow copy of three pages, of which so many are copied.
+fn copy(next: u32) -> Want {
+    Want::CopyTo {
+        address: 64,
+        pages: 3,
+        target: ObjectId(9),
+        next,
+    }
+}
+
+#[test]
+fn goes_on(rt: HostRuntime) -> Result<(), Fail> {
+    let mut waits = begun(rt.alloc(), &[7])?;
+    waits.reserve(1)?;
+    if waits.get(TaskId(3)).is_none() {
+        let destination = Destination {
+            region: RegionId(2),
+            address: 128,
+        };
+        waits.begin(TaskId(3), copy(0), Some(destination));
+    }
+    put(&mut waits, 3, page(2));
+    if waits.get(TaskId(3)).is_some() {
+        waits.set_want(TaskId(3), copy(2));
+    }
+
+    // Its reason, its destination and its place stay, and so does the other row.
+    let Some(row) = waits.get(TaskId(3)) else {
+        return Err(Fail::from("no row"));
+    };
+    assert_eq!(rt; row.want, copy(2));
+    assert_eq!(rt; row.on, page(2));
+    assert_eq!(rt; row.destination.map(|to| to.address), Some(128));
+    assert_eq!(rt; waits.get(TaskId(7)).map(|row| row.want), Some(load(7)));
+    assert_eq!(rt; number(waits.next_on(key(2))), 3);
     Ok(())
 }

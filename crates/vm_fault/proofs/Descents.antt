@@ -1,5 +1,5 @@
 -- A walk down a chain, place by place.
-use Rattle.std.proofs.Common.{◌≡◌, ℕ, zero, suc, ◌<◌, refl, None, arith}
+use Rattle.std.proofs.Common.{◌≡◌, ℕ, zero, suc, ◌<◌, refl, sym, subst, None, arith}
 use Rattle.vm_base.specs.declared.ids.PageKey.{PageKey}
 use Rattle.vm_fault.specs.Walks.{Finds, IsUnder, PassesOver, WalksTo}
 use Rattle.vm_parts.specs.declared.parts.HostParts.{HostParts}
@@ -18,6 +18,9 @@ found_below parts chains zero top key row finds more = absurd (omega arith)
 found_below parts chains (suc n) top key row finds more = finds.walks.0.absent
 
 -- what is nowhere isn't at the top
+pub passes_top : (parts : HostParts) (chains : ChainTable) (n : ℕ) (top last : PageKey) → WalksTo parts chains n top last → PassesOver parts last → PassesOver parts top
+passes_top parts chains zero top last walks passes = subst (PassesOver parts) (sym walks) passes
+passes_top parts chains (suc n) top last walks passes = walks.0
+
 pub sunk : (parts : HostParts) (chains : ChainTable) (n : ℕ) (top last : PageKey) → WalksTo parts chains n top last → PassesOver parts last → row_at parts.resident top.object.0 top.page.0 ≡ None
-sunk parts chains zero top last walks passes = rw walks passes.absent
-sunk parts chains (suc n) top last walks passes = walks.0.absent
+sunk parts chains n top last walks passes = (passes_top parts chains n top last walks passes).absent

@@ -1,5 +1,7 @@
+mod Copies
 mod Descents
 mod Ends
+mod Pages
 mod Places
 mod Runs
 mod Shadows

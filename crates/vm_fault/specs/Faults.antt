@@ -1,5 +1,5 @@
 -- What running an access once comes to, and what it changes.
-use Rattle.std.specs.Prelude.{ℕ, suc, ◌≡◌, ◌+◌, ◌-◌, ◌%◌, ◌^◌, ◌<◌, ◌≤◌, ◌⊎◌, ◌&&◌, Bool, true, false, List, ◌∷◌, Option, Some, None, slice_range}
+use Rattle.std.specs.Prelude.{ℕ, suc, ◌≡◌, ◌≢◌, ◌+◌, ◌-◌, ◌*◌, ◌%◌, ◌^◌, ◌<◌, ◌≤◌, ◌⊎◌, nat_lt, ◌&&◌, Bool, true, false, List, ◌∷◌, Option, Some, None, slice_range}
 use Rattle.vm_base.specs.declared.entry.Entry.{Entry}
 use Rattle.vm_base.specs.declared.ids.FrameNo.{FrameNo}
 use Rattle.vm_base.specs.declared.ids.HostId.{HostId}
@@ -10,7 +10,7 @@ use Rattle.vm_base.specs.declared.ids.RegionId.{RegionId}
 use Rattle.vm_base.specs.declared.ids.TaskId.{TaskId}
 use Rattle.vm_base.specs.Entries.{entry_at, page_at}
 use Rattle.vm_base.specs.Pages.{little_endian, little_endian_bytes, with_bytes}
-use Rattle.vm_fault.specs.Walks.{ChainsFit, Finds, IsAt, MayCome, Sinks, StopsAsked, is_storing, keeps_out, wanted_number, writes_at}
+use Rattle.vm_fault.specs.Walks.{ChainsFit, Finds, IsAt, MayCome, Sinks, StopsAsked, is_copying, is_storing, keeps_out, wanted_number, writes_at}
 use Rattle.vm_fault.specs.declared.step.FaultStep.{FaultStep}
 use Rattle.vm_fault.specs.declared.step.FaultStep.TheVariants as step
 use Rattle.vm_frames.specs.Frames.{free, page_in}
@@ -20,18 +20,19 @@ use Rattle.vm_model.specs.declared.event.Event.{Event}
 use Rattle.vm_model.specs.declared.event.Event.TheVariants as event
 use Rattle.vm_model.specs.declared.message.Channel.TheVariants.{Up}
 use Rattle.vm_model.specs.declared.message.Message.TheVariants as message
-use Rattle.vm_objects.specs.Objects.{PutsObject, SameMarks, object_at}
+use Rattle.vm_objects.specs.Objects.{PutsObject, SameMarks, absent_at, object_at}
 use Rattle.vm_objects.specs.declared.row.ObjectRow.{ObjectRow}
 use Rattle.vm_objects.specs.declared.row.PagerState.TheVariants as state
 use Rattle.vm_parts.specs.Changes.{AsksPage, Brings, NotesUnlock, RaisesPage, Writes}
-use Rattle.vm_parts.specs.Fits.{Fit}
+use Rattle.vm_parts.specs.Fits.{Fit, object_pages}
 use Rattle.vm_parts.specs.declared.parts.HostParts.{HostParts}
 use Rattle.vm_queues.specs.Queues.{KeepsPages, with_reference}
+use Rattle.vm_resident.specs.Resident.{row_at}
 use Rattle.vm_resident.specs.declared.page_row.PageRow.{PageRow}
-use Rattle.vm_shadow.specs.Chains.{ChainTable, ObjectsBelow, ShadowsRegion, region_at}
+use Rattle.vm_shadow.specs.Chains.{ChainTable, ObjectsBelow, ShadowsRegion, region_at, shadow_at}
 use Rattle.vm_shadow.specs.declared.ids.Ids.{Ids}
 use Rattle.vm_shadow.specs.declared.region_row.RegionRow.{RegionRow}
-use Rattle.vm_waits.specs.Wants.{IsSizedWant, address_in, need_in}
+use Rattle.vm_waits.specs.Wants.{IsSizedWant, address_in, need_in, with_page_done}
 use Rattle.vm_waits.specs.declared.waiting.Want.{Want}
 use Rattle.vm_waits.specs.declared.waiting.Want.TheVariants as want
 
@@ -42,19 +43,42 @@ pub record FaultState : Type 0 where
   pub ids : Ids
   pub events : List Event
 
+-- an access lies within its region, a slow copy with each of its pages, which are in its entry too
+abbrev pub LiesWithin : ℕ → Want → List Entry → Entry → RegionRow → Type 0
+LiesWithin size (want.Load address bytes) entries entry row = page_at size address entry < row.pages
+LiesWithin size (want.Store address bytes value) entries entry row = page_at size address entry < row.pages
+LiesWithin size (want.CopyTo address pages target next) entries entry row =
+    (p : ℕ) → p < pages → (entry_at (address + p * size) entries ≡ Some entry) × (page_at size (address + p * size) entry < row.pages)
+
+-- an object's pages can be copied to another: it is no shadow, its pager was told of it and isn't known to lack a page, and of the other's pages none from one on is
+-- here or asked
+pub record CopiesTo (source target : ObjectId) (pages next : ℕ) (parts : HostParts) (chains : ChainTable) : Type 0 where
+  pub bottom : shadow_at chains source.0 ≡ None
+  pub told : (row : ObjectRow) → object_at parts.objects source.0 ≡ Some row → row.state ≢ state.Without
+  pub present : (p : ℕ) → absent_at parts.objects source.0 p ≡ false
+  pub inside : pages ≤ object_pages parts.objects target.0
+  pub unmade : (p : ℕ) → next ≤ p → row_at parts.resident target.0 p ≡ None
+
+-- where an access is a slow copy, those of the top object of its region can be copied to its target
+abbrev pub CanCopy : Want → RegionRow → HostParts → ChainTable → Type 0
+CanCopy (want.Load address bytes) row parts chains = Unit {0}
+CanCopy (want.Store address bytes value) row parts chains = Unit {0}
+CanCopy (want.CopyTo address pages target next) row parts chains = CopiesTo row.top target pages next parts chains
+
 -- An access can be run: an entry of its task allows it, and it is about a page of the entry's region, which fits the objects below it. The next object
 -- isn't there yet, and marks are counted where the region has one.
 pub record CanFault (maps : Mapped) (s : FaultState) (task : ℕ) (what : Want) : Type 0 where
   pub fit : Fit s.parts
   pub chains : ChainsFit s.chains s.parts.objects
   pub size : maps.size ≡ s.parts.buffers.size
-  pub allowed : IsAllowed maps task (address_in what) (need_in what)
-  pub sized : IsSizedWant what
+  pub allowed : IsAllowed maps task (address_in maps.size what) (need_in what)
+  pub sized : IsSizedWant maps.size what
   pub entry : Entry
-  pub found : entry_at (address_in what) (rows_in task maps) ≡ Some entry
+  pub found : entry_at (address_in maps.size what) (rows_in task maps) ≡ Some entry
   pub row : RegionRow
   pub region : region_at s.chains entry.region.0 ≡ Some row
-  pub inside : page_at maps.size (address_in what) entry < row.pages
+  pub inside : LiesWithin maps.size what (rows_in task maps) entry row
+  pub copies : CanCopy what row s.parts s.chains
   pub counted : row.marked ≡ true → 0 < s.ids.marks
   pub named : ObjectsBelow s.ids.next_object s.chains
   pub unmade : (o : ℕ) → s.ids.next_object ≤ o → object_at s.parts.objects o ≡ None
@@ -105,8 +129,23 @@ Hits task (want.Load address size) key frame at value e old new =
     (value ≡ little_endian (slice_range (page_in old.frames frame.0) at (at + size))) × References frame old new × (e ≡ event.Loaded task key.object key.page value)
 Hits task (want.Store address size number) key frame at value e old new =
     (value ≡ number) × ((mid : HostParts) × WritesPage key frame at size number old mid × References frame mid new) × (e ≡ event.Stored task key.object key.page at size number)
+Hits task (want.CopyTo address pages target next) key frame at value e old new = ⊥
 
--- an access ends
+abbrev pub copied_key : ObjectId → ℕ → PageKey
+copied_key target next = record { object = target; page = record { 0 = next } }
+
+-- a slow copy makes its next page, in a frame that was free, of a page that is here, and both are referenced
+pub record CopiesPage (task : TaskId) (key : PageKey) (row : PageRow) (target : ObjectId) (next : ℕ) (old new : HostParts) (before after : List Event) : Type 0 where
+  pub frame : FrameNo
+  pub copied : HostParts
+  pub page : RaisesPage (copied_key target next) frame (page_in old.frames row.frame.0) old copied
+  pub plan : KeepsPlan old copied
+  pub hit : HostParts
+  pub marks : References frame copied hit
+  pub source : References row.frame hit new
+  pub told : after ≡ event.CopiedPage task (record { 0 = next }) key.object key.page target ∷ before
+
+-- an access ends, or a slow copy has copied its next page
 pub data Ended (host : HostId) (task : TaskId) (what : Want) (top : PageKey) (at value : ℕ) (old new : HostParts) (chains : ChainTable) (before after : List Event) : Type 0 where
   -- where its walk found the page, and a store in the top place alone; no lock keeps it out
   AtOnce : (steps : ℕ) → (key : PageKey) → (row : PageRow) → Finds old chains steps top key row → (is_storing what ≡ true → steps ≡ 0) → keeps_out row.lock (writes_at what steps) ≡ false
@@ -119,11 +158,15 @@ pub data Ended (host : HostId) (task : TaskId) (what : Want) (top : PageKey) (at
   -- its walk found the page nowhere: a page of zeros comes to the top place
   AfterZeros : Sinks old chains top → (frame : FrameNo) → (brought : HostParts) → Brings top frame old brought → KeepsPlan old brought
       → (e : Event) → Hits task what top frame at value e brought new → after ≡ e ∷ event.Zeroed host top.object top.page ∷ before → Ended host task what top at value old new chains before after
+  -- a slow copy whose walk found its page, which no lock keeps it from reading
+  Copied : (address pages next : ℕ) → (target : ObjectId) → what ≡ want.CopyTo address pages target next → (steps : ℕ) → (key : PageKey) → (row : PageRow) → Finds old chains steps top key row
+      → keeps_out row.lock false ≡ false → value ≡ 0 → CopiesPage task key row target next old new before after → Ended host task what top at value old new chains before after
 
 -- why an access needs a frame, and the page that it reads meanwhile, if that is here
 pub data Needs (what : Want) (top : PageKey) (parts : HostParts) (chains : ChainTable) : Option PageKey → Type 0 where
   Nowhere : Sinks parts chains top → Needs what top parts chains None
   ToAsk : (steps : ℕ) → (key : PageKey) → (object : ObjectRow) → MayCome parts chains steps top key object → object.state ≡ state.Ready → Needs what top parts chains None
+  ToCopy : (steps : ℕ) → (key : PageKey) → (row : PageRow) → Finds parts chains steps top key row → is_copying what ≡ true → keeps_out row.lock false ≡ false → Needs what top parts chains (Some key)
   ToRaise : (steps : ℕ) → (key : PageKey) → (row : PageRow) → Finds parts chains (suc steps) top key row → is_storing what ≡ true → keeps_out row.lock false ≡ false → Needs what top parts chains (Some key)
 
 -- its pager is asked for a page, for which a frame is held
@@ -171,18 +214,46 @@ Comes host task what may_claim top at (step.WaitReady object) old new =
 Comes host task what may_claim top at (step.WaitAnswer key) old new = AwaitsPage what top key old.parts old.chains × NothingChanges old new
 Comes host task what may_claim top at (step.NeedFrame source) old new = Needs what top old.parts old.chains source × (may_claim ≡ true → free old.parts.frames ≡ 0) × NothingChanges old new
 
--- an access of a task was run once: a store gave its region an object of its own first, where that was marked
+-- an access of a task was run once, a slow copy for its next page: a store gave its region an object of its own first, where that was marked
 pub record Faulted (maps : Mapped) (host : HostId) (task : TaskId) (what : Want) (may_claim : Bool) (answer : FaultStep) (old new : FaultState) : Type 0 where
   pub entry : Entry
-  pub found : entry_at (address_in what) (rows_in task.0 maps) ≡ Some entry
+  pub found : entry_at (address_in maps.size what) (rows_in task.0 maps) ≡ Some entry
   pub row : RegionRow
   pub region : region_at old.chains entry.region.0 ≡ Some row
   pub mid : FaultState
   pub prepares : Prepares (is_storing what && row.marked) entry.region row old mid
   pub top : PageKey
   pub at : IsAt maps mid.chains task.0 what top
-  pub comes : Comes host task what may_claim top (address_in what % old.parts.buffers.size) answer mid new
+  pub comes : Comes host task what may_claim top (address_in maps.size what % old.parts.buffers.size) answer mid new
   pub chains : new.chains ≡ mid.chains
   pub ids : new.ids ≡ mid.ids
   pub fit : Fit new.parts
   pub fits : ChainsFit new.chains new.parts.objects
+
+-- where an access is a slow copy, it has a page left
+abbrev pub HasNext : Want → Type 0
+HasNext (want.Load address size) = Unit {0}
+HasNext (want.Store address size value) = Unit {0}
+HasNext (want.CopyTo address pages target next) = next < pages
+
+-- a slow copy has another page behind its next one
+abbrev pub has_more : Want → Bool
+has_more (want.Load address size) = false
+has_more (want.Store address size value) = false
+has_more (want.CopyTo address pages target next) = nat_lt (next + 1) pages
+
+-- having come to this answer, a slow copy goes on with another page
+abbrev pub goes_on : FaultStep → Want → Bool
+goes_on (step.Done value) what = has_more what
+goes_on other what = false
+
+-- what is left to do then: of a slow copy the pages that aren't copied yet
+abbrev pub want_after : FaultStep → Want → Want
+want_after (step.Done value) what = with_page_done what
+want_after other what = what
+
+-- an access of a task was run: once, and a slow copy once more behind each page that it copied, up to its last or as far as it came
+pub data Runs (maps : Mapped) (host : HostId) (task : TaskId) (may_claim : Bool) (answer : FaultStep) : Want → Want → FaultState → FaultState → Type 0 where
+  Stops : (what : Want) → (old new : FaultState) → Faulted maps host task what may_claim answer old new → goes_on answer what ≡ false → Runs maps host task may_claim answer what (want_after answer what) old new
+  GoesOn : (what last : Want) → (value : ℕ) → (old mid new : FaultState) → Faulted maps host task what may_claim (step.Done value) old mid → has_more what ≡ true
+      → Runs maps host task may_claim answer (with_page_done what) last mid new → Runs maps host task may_claim answer what last old new

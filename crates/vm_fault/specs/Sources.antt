@@ -1,10 +1,10 @@
--- The page that a store would copy.
-use Rattle.std.specs.Prelude.{ℕ, ◌≡◌, ◌<◌, ◌&&◌, nat_lt, Option, Some, None, if◌then◌else◌}
+-- The page that an access would copy: a store to the top of its chain, a slow copy to its object.
+use Rattle.std.specs.Prelude.{ℕ, ◌≡◌, ◌<◌, ◌&&◌, ◌||◌, nat_lt, Option, Some, None, if◌then◌else◌}
 use Rattle.vm_base.specs.declared.entry.Entry.{Entry}
 use Rattle.vm_base.specs.declared.ids.PageKey.{PageKey}
 use Rattle.vm_base.specs.Entries.{entry_at, page_at}
 use Rattle.vm_fault.specs.Stops.{Stops}
-use Rattle.vm_fault.specs.Walks.{ChainsFit, IsAt, is_storing}
+use Rattle.vm_fault.specs.Walks.{ChainsFit, IsAt, is_copying, is_storing}
 use Rattle.vm_fault.specs.declared.walking.Stop.{Stop}
 use Rattle.vm_fault.specs.declared.walking.Stop.TheVariants as stop
 use Rattle.vm_maps.specs.Judge.{IsAllowed}
@@ -12,22 +12,24 @@ use Rattle.vm_maps.specs.Maps.{Mapped, rows_in}
 use Rattle.vm_parts.specs.declared.parts.HostParts.{HostParts}
 use Rattle.vm_shadow.specs.Chains.{ChainTable, region_at}
 use Rattle.vm_shadow.specs.declared.region_row.RegionRow.{RegionRow}
-use Rattle.vm_waits.specs.Wants.{address_in, need_in}
+use Rattle.vm_waits.specs.Wants.{IsSizedWant, address_in, need_in}
 use Rattle.vm_waits.specs.declared.waiting.Want.{Want}
 
 -- an access can be followed down its chain: an entry of its task allows it, and it is about a page of the entry's region, which fits the objects below it
 pub record CanWalk (maps : Mapped) (parts : HostParts) (chains : ChainTable) (task : ℕ) (what : Want) : Type 0 where
-  pub allowed : IsAllowed maps task (address_in what) (need_in what)
+  pub size : maps.size ≡ parts.buffers.size
+  pub allowed : IsAllowed maps task (address_in maps.size what) (need_in what)
+  pub sized : IsSizedWant maps.size what
   pub entry : Entry
-  pub found : entry_at (address_in what) (rows_in task maps) ≡ Some entry
+  pub found : entry_at (address_in maps.size what) (rows_in task maps) ≡ Some entry
   pub row : RegionRow
   pub region : region_at chains entry.region.0 ≡ Some row
-  pub inside : page_at maps.size (address_in what) entry < row.pages
+  pub inside : page_at maps.size (address_in maps.size what) entry < row.pages
   pub fits : ChainsFit chains parts.objects
 
--- the page of a store that is found below its top place
+-- the page of a store that is found below its top place, and that of a slow copy
 abbrev pub source_at : Want → Stop → Option PageKey
-source_at what (stop.Found key row steps) = if is_storing what && nat_lt 0 steps then Some key else None
+source_at what (stop.Found key row steps) = if (is_storing what && nat_lt 0 steps) || is_copying what then Some key else None
 source_at what other = None
 
 -- where the walk of an access stops says which page it would copy

@@ -31,10 +31,10 @@ top_place row page = record { object = row.top; page = record { 0 = row.shift + 
 -- the page that an access of a task is about, by its entry and region: its place in the region's top object
 pub record IsAt (maps : Mapped) (chains : ChainTable) (task : ℕ) (what : Want) (key : PageKey) : Type 0 where
   pub entry : Entry
-  pub found : entry_at (address_in what) (rows_in task maps) ≡ Some entry
+  pub found : entry_at (address_in maps.size what) (rows_in task maps) ≡ Some entry
   pub row : RegionRow
   pub region : region_at chains entry.region.0 ≡ Some row
-  pub is : key ≡ top_place row (page_at maps.size (address_in what) entry)
+  pub is : key ≡ top_place row (page_at maps.size (address_in maps.size what) entry)
 
 -- the place under another, in the chain
 pub record IsUnder (chains : ChainTable) (key under : PageKey) : Type 0 where
@@ -84,6 +84,12 @@ pub record MayCome (parts : HostParts) (chains : ChainTable) (steps : ℕ) (top 
 abbrev pub is_storing : Want → Bool
 is_storing (want.Load address size) = false
 is_storing (want.Store address size value) = true
+is_storing (want.CopyTo address pages target next) = false
+
+abbrev pub is_copying : Want → Bool
+is_copying (want.Load address size) = false
+is_copying (want.Store address size value) = false
+is_copying (want.CopyTo address pages target next) = true
 
 -- a store is to write its top place, and to read all others
 abbrev pub writes_at : Want → ℕ → Bool

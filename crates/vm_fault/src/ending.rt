@@ -9,7 +9,7 @@ ghost use Rattle.vm_model.specs.declared.event.Event.TheVariants as event;
 ghost use Rattle.vm_parts.specs.Fits.{Fit};
 ghost use Rattle.vm_parts.specs.declared.parts.HostParts.{HostParts as Parts};
 ghost use Rattle.vm_queues.specs.Queues.{KeepsPages};
-ghost use Rattle.vm_waits.specs.Wants.{IsSizedWant, want_size};
+ghost use Rattle.vm_waits.specs.Wants.{IsOfNumber, IsSizedWant, want_size};
 
 use crate::running::Running;
 use vm_base::{FrameNo, PageKey};
@@ -27,8 +27,9 @@ pub fn hit(
 ) -> u64
     requires fit { Fit parts.old }
     requires here { IsHere key frame parts.old }
-    requires inside { run.at + want_size run.want ≤ parts.old.buffers.size }
-    requires sized { IsSizedWant run.want }
+    requires inside { run.at + want_size parts.old.buffers.size run.want ≤ parts.old.buffers.size }
+    requires sized { IsSizedWant parts.old.buffers.size run.want }
+    requires number { IsOfNumber run.want }
     requires room { 0 < log.old.room }
     ensures hits { (e : Told) × Hits run.task run.want key frame run.at result e parts.old parts.new × (log.new.items ≡ e ∷ log.old.items) }
     ensures plan { KeepsPlan parts.old parts.new }
@@ -41,6 +42,7 @@ pub fn hit(
             store(run, key, frame, size, value, parts, log);
             value
         }
+        Want::CopyTo { .. } => unreachable!(),
     }
 }
 

@@ -1,22 +1,25 @@
 // What an access comes to where its walk has stopped.
-ghost use Rattle.std.specs.Prelude.{◌≡◌, ◌≢◌, ◌<◌, ◌≤◌, true, false, IfOk, IsOk, OnOk};
-ghost use Rattle.vm_fault.specs.Faults.{KeepsPlan};
+ghost use Rattle.std.specs.Prelude.{ℕ, ◌≡◌, ◌≢◌, ◌<◌, ◌≤◌, true, false, IfOk, IsOk, OnOk};
+ghost use Rattle.vm_fault.specs.Faults.{KeepsPlan, goes_on};
+ghost use Rattle.vm_fault.specs.Rooms.{LeavesRoom};
 ghost use Rattle.vm_fault.specs.Stops.{CanGo, Goes, Stands};
-ghost use Rattle.vm_fault.specs.Walks.{ChainsFit, Finds, MayCome, Sinks, is_storing, keeps_out, wanted_number, writes_at};
+ghost use Rattle.vm_fault.specs.Walks.{ChainsFit, Finds, MayCome, Sinks, is_copying, is_storing, keeps_out, wanted_number, writes_at};
 ghost use Rattle.vm_frames.specs.Frames.{free};
 ghost use Rattle.vm_objects.specs.declared.row.PagerState.TheVariants as state;
 ghost use Rattle.vm_shadow.specs.Chains.{ChainTable};
+ghost use Rattle.vm_waits.specs.Wants.{IsOfNumber};
 
 use crate::ending::hit;
-use crate::running::{Running, has_frame, is_store};
+use crate::running::{Running, has_frame, is_copy, is_store};
 use crate::step::FaultStep;
 use crate::walking::{Spot, Stop, walk};
-use vm_base::{Lock, NoMemory, PageKey};
+use vm_base::{Lock, NoMemory, PageKey, PageNo};
 use vm_model::{Channel, Event, Events, Message};
 use vm_objects::{ObjectRow, PagerState};
 use vm_parts::HostParts;
 use vm_resident::PageRow;
 use vm_shadow::Chains;
+use vm_waits::Want;
 
 // Whether a lock keeps an access out.
 fn is_kept_out(lock: Lock, writes: bool) -> bool
@@ -51,6 +54,7 @@ pub fn go(
     ensures goes { IfOk result (λ step. Goes run step chains.now parts.old parts.new log.old.items log.new.items) }
     ensures plan { OnOk result (KeepsPlan parts.old parts.new) }
     ensures still { OnOk result (run.may_claim ≡ false → free parts.new.frames ≡ free parts.old.frames) }
+    ensures room { IfOk result (λ step. LeavesRoom step run.want parts.old.resident.spare parts.new.resident.spare log.old.room log.new.room) }
     ensures succeeds { 1 ≤ parts.old.resident.spare → IsOk result }
 {
     match walk(top, parts, chains) {
@@ -75,6 +79,7 @@ fn found(
     ensures goes { (chains : ChainTable) → Finds parts.old chains steps run.top key row → IfOk result (λ step. Goes run step chains parts.old parts.new log.old.items log.new.items) }
     ensures plan { OnOk result (KeepsPlan parts.old parts.new) }
     ensures still { OnOk result (run.may_claim ≡ false → free parts.new.frames ≡ free parts.old.frames) }
+    ensures room { IfOk result (λ step. LeavesRoom step run.want parts.old.resident.spare parts.new.resident.spare log.old.room log.new.room) }
     ensures succeeds { 1 ≤ parts.old.resident.spare → IsOk result }
 {
     if is_kept_out(row.lock, is_store(run.want) && steps == 0) {
@@ -82,6 +87,9 @@ fn found(
     }
     if is_store(run.want) && steps > 0 {
         return raise(run, key, row, steps, parts, log);
+    }
+    if is_copy(run.want) {
+        return copy(run, key, row, parts, log);
     }
     let value = hit(run, key, row.frame, parts, log);
     Ok(FaultStep::Done { value })
@@ -101,6 +109,7 @@ fn unlock(
     requires locked { keeps_out row.lock (writes_at run.want steps) ≡ true }
     ensures goes { (chains : ChainTable) → Finds parts.old chains steps run.top key row → Goes run result chains parts.old parts.new log.old.items log.new.items }
     ensures plan { KeepsPlan parts.old parts.new }
+    ensures waits { goes_on result run.want ≡ false }
     ensures free { free parts.new.frames ≡ free parts.old.frames }
 {
     if row.unlock_sent {
@@ -160,6 +169,48 @@ fn raise(
     Ok(FaultStep::Done { value })
 }
 
+// A slow copy whose next page is here, and may be read: a copy of it becomes a page of its target.
+fn copy(
+    run: Running,
+    key: PageKey,
+    row: PageRow,
+    parts: &mut HostParts,
+    log: &mut Events,
+) -> Result<FaultStep, NoMemory>
+    requires can { CanGo run parts.old log.old.room }
+    requires copies { is_copying run.want ≡ true }
+    requires finds { (chains : ChainTable) × (steps : ℕ) × Finds parts.old chains steps run.top key row }
+    requires unlocked { keeps_out row.lock false ≡ false }
+    ensures goes { (chains : ChainTable) → (steps : ℕ) → Finds parts.old chains steps run.top key row → IfOk result (λ step. Goes run step chains parts.old parts.new log.old.items log.new.items) }
+    ensures plan { OnOk result (KeepsPlan parts.old parts.new) }
+    ensures still { OnOk result (run.may_claim ≡ false → free parts.new.frames ≡ free parts.old.frames) }
+    ensures room { IfOk result (λ step. LeavesRoom step run.want parts.old.resident.spare parts.new.resident.spare log.old.room log.new.room) }
+    ensures succeeds { 1 ≤ parts.old.resident.spare → IsOk result }
+{
+    let Want::CopyTo { target, next, .. } = run.want else {
+        unreachable!()
+    };
+    if !has_frame(run.may_claim, parts) {
+        return Ok(FaultStep::NeedFrame { source: Some(key) });
+    }
+    parts.reserve(1)?;
+    let page = PageKey {
+        object: target,
+        page: PageNo(next),
+    };
+    let frame = parts.raise(key, page);
+    let _ = log.push(Event::CopiedPage {
+        task: run.task,
+        page: page.page,
+        object: key.object,
+        object_page: key.page,
+        target,
+    });
+    parts.queues.touch(frame);
+    parts.queues.touch(row.frame);
+    Ok(FaultStep::Done { value: 0 })
+}
+
 // The pager of an object may have the page: it is asked for it, once it is ready.
 fn may_come(
     run: Running,
@@ -176,6 +227,7 @@ fn may_come(
     ensures goes { (chains : ChainTable) → MayCome parts.old chains steps run.top key object → IfOk result (λ step. Goes run step chains parts.old parts.new log.old.items log.new.items) }
     ensures plan { OnOk result (KeepsPlan parts.old parts.new) }
     ensures still { OnOk result (run.may_claim ≡ false → free parts.new.frames ≡ free parts.old.frames) }
+    ensures room { IfOk result (λ step. LeavesRoom step run.want parts.old.resident.spare parts.new.resident.spare log.old.room log.new.room) }
     ensures succeeds { 1 ≤ parts.old.resident.spare → IsOk result }
 {
     if object.state == PagerState::Sent {
@@ -203,6 +255,7 @@ fn may_come(
 // The page is nowhere: a page of zeros comes to the top place, with which the access ends.
 fn nowhere(run: Running, parts: &mut HostParts, log: &mut Events) -> Result<FaultStep, NoMemory>
     requires can { CanGo run parts.old log.old.room }
+    requires number { IsOfNumber run.want }
     requires sinks { (chains : ChainTable) × Sinks parts.old chains run.top }
     ensures goes { (chains : ChainTable) → Sinks parts.old chains run.top → IfOk result (λ step. Goes run step chains parts.old parts.new log.old.items log.new.items) }
     ensures plan { OnOk result (KeepsPlan parts.old parts.new) }

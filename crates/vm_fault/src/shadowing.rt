@@ -1,5 +1,5 @@
 // A marked region gets an object of its own.
-ghost use Rattle.std.specs.Prelude.{◌≡◌, ◌-◌, ◌<◌, ◌≤◌, ◌^◌, ◌&&◌, ℕ, Some, None, true, IfSome, IsOk, IsSome, OnOk};
+ghost use Rattle.std.specs.Prelude.{◌≡◌, ◌-◌, ◌<◌, ◌≤◌, ◌^◌, ◌&&◌, ℕ, Some, None, true, false, IfSome, IsOk, IsSome, OnOk};
 ghost use Rattle.vm_fault.specs.Faults.{MakesShadow, Prepares};
 ghost use Rattle.vm_fault.specs.Walks.{ChainsFit, is_storing};
 ghost use Rattle.vm_objects.specs.Objects.{object_at};
@@ -34,6 +34,7 @@ pub fn prepare(
         (record { parts = parts.old; chains = chains.old; ids = ids.old; events = log.old.items })
         (record { parts = parts.new; chains = chains.new; ids = ids.new; events = log.new.items }))) }
     ensures room { 2 ≤ log.new.room }
+    ensures kept { is_storing want ≡ false → log.new.room ≡ log.old.room }
     ensures succeeds { 1 ≤ chains.old.spare → 1 ≤ parts.old.objects.rows → IfSome (region_at chains.old region.0) (λ row. row.pages ≤ parts.old.objects.pages) → IsOk result }
 {
     let Some(row) = chains.region(region) else {

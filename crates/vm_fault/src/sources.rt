@@ -1,9 +1,9 @@
-// The page that a store would copy.
-ghost use Rattle.std.specs.Prelude.{◌≡◌, ◌<◌, ◌&&◌, nat_lt, Some, None, if◌then◌else◌};
+// The page that an access would copy.
+ghost use Rattle.std.specs.Prelude.{◌≡◌, ◌<◌, ◌&&◌, ◌||◌, nat_lt, Some, None, if◌then◌else◌};
 ghost use Rattle.vm_fault.specs.Sources.{CanWalk, Reads, source_at};
 
 use crate::faults::find;
-use crate::running::{address_of, is_store, need_of};
+use crate::running::{address_of, is_copy, is_store, need_of};
 use crate::walking::{Stop, top_of, walk};
 use vm_base::{PageKey, TaskId};
 use vm_maps::Maps;
@@ -12,7 +12,8 @@ use vm_shadow::Chains;
 use vm_waits::Want;
 
 /// The page that an access would copy if it were run now: that of a store whose walk finds it below its
-/// top place, whether its lock keeps the store out or not. None for every other access. Whoever waits
+/// top place, and that of a slow copy that finds its next page, whether a lock keeps it out or not. None
+/// for every other access. Whoever waits
 /// for a frame to copy it to needs it meanwhile (this profile).
 pub fn source(
     task: TaskId,
@@ -24,18 +25,23 @@ pub fn source(
     requires { CanWalk maps.now parts.now chains.now task.0 want }
     ensures { Reads maps.now parts.now chains.now task.0 want result }
 {
-    let place = find(maps, task, address_of(want), need_of(want));
+    let place = find(
+        maps,
+        task,
+        address_of(want, parts.buffers.size()),
+        need_of(want),
+    );
     let top = top_of(place.region, place.page, parts, chains);
     source_of(want, walk(top, parts, chains))
 }
 
-// The page of a store that was found below its top place.
+// The page of a store that was found below its top place, and that of a slow copy.
 fn source_of(want: Want, stop: Stop) -> Option<PageKey>
     ensures { result ≡ source_at want stop }
 {
     match stop {
         Stop::Found { key, steps, .. } => {
-            if is_store(want) && steps > 0 {
+            if (is_store(want) && steps > 0) || is_copy(want) {
                 Some(key)
             } else {
                 None

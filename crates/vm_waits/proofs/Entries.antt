@@ -4,7 +4,6 @@ use Rattle.std.proofs.Common.{ℕ, ◌≡◌, ◌≢◌, ◌==◌, Bool, true, f
 use Rattle.std.proofs.lemmas.Bool.{cases_Bool}
 use Rattle.std.proofs.lemmas.Bool.Decides.{nat_tests}
 use Rattle.std.proofs.lemmas.Option.{none-some, same_Some}
-use Rattle.std.specs.Prelude.{option_map, if◌then◌else◌}
 use Rattle.vm_waits.proofs.Rows.{no_row_passes, none_passes}
 use Rattle.vm_waits.specs.Waits.{EachOnce, PutsEntry, Waked, count_again, entry, is_again, is_frame, queued, with_on, woken}
 use Rattle.vm_waits.specs.declared.waiting.On.{On}
@@ -41,15 +40,6 @@ waked_cases test (Some was) new w waked is stays turns =
     woken_cases test was w (same_Some (woken test was) w (sym waked ∙ is))
     (λ fails same. stays (ap Some same) (ap (λ (z : Waiting). test z.on) (sym same) ∙ fails))
     (λ passes same. turns was refl passes same)
-
-woken_want : (test : Bool) (w : Waiting) → (if test then with_on w on.Again else w).want ≡ w.want
-woken_want true w = refl
-woken_want false w = refl
-
--- each task's access is to do what it was to do
-pub waked_wants : (test : On → Bool) (old new : Option Waiting) → Waked test old new → option_map (λ (w : Waiting). w.want) new ≡ option_map (λ (w : Waiting). w.want) old
-waked_wants test None new waked = ap (option_map (λ (w : Waiting). w.want)) waked
-waked_wants test (Some was) new waked = ap (option_map (λ (w : Waiting). w.want)) waked ∙ ap Some (woken_want (test was.on) was)
 
 -- nothing is to be run again
 pub none_again : (rows : List Waiting) (t : ℕ) (w : Waiting) → count_again rows ≡ 0 → entry rows t ≡ Some w → is_again w.on ≡ false

@@ -6,10 +6,11 @@ use Rattle.std.proofs.lemmas.Option.{none-some, same_Some, slice_get_read}
 use Rattle.std.specs.List.{remove}
 use Rattle.std.specs.Prelude.{option_map, slice_get, if◌then◌else◌}
 use Rattle.vm_waits.specs.Kept.{closer, row_place}
-use Rattle.vm_waits.specs.Waits.{EachOnce, count_rows, entry, oldest_row, one, rows_without, turned, with_on, woken}
+use Rattle.vm_waits.specs.Waits.{EachOnce, count_rows, entry, oldest_row, one, rewanted, rows_without, turned, with_on, with_want, woken}
 use Rattle.vm_waits.specs.declared.waiting.On.{On}
 use Rattle.vm_waits.specs.declared.waiting.On.TheVariants as on
 use Rattle.vm_waits.specs.declared.waiting.Waiting.{Waiting}
+use Rattle.vm_waits.specs.declared.waiting.Want.{Want}
 
 none_split : {A : Type 0} (b : Bool) (x : A) (o : Option A) → (if b then Some x else o) ≡ None → (b ≡ false) × (o ≡ None)
 none_split true x o none = absurd (none-some x (sym none))
@@ -129,37 +130,50 @@ pub once_map : (f : Waiting → Waiting) (rows : List Waiting) → Keeps f → E
 once_map f [] keeps once = tt
 once_map f (x ∷ xs) keeps once = (rw (keeps x, entry_map f xs x.task.0 keeps, once.0) refl, once_map f xs keeps once.1)
 
--- a task's row with another reason
-turned_step : (test : Bool) (w : Waiting) (reason : On) → (if test then with_on w reason else w).task.0 ≡ w.task.0
-turned_step true w reason = refl
-turned_step false w reason = refl
+-- a task's row is changed
+abbrev pub changed : ℕ → (Waiting → Waiting) → Waiting → Waiting
+changed t f w = if w.task.0 == t then f w else w
 
-pub turned_keeps : (t : ℕ) (reason : On) → Keeps (turned t reason)
-turned_keeps t reason w = turned_step (w.task.0 == t) w reason
+changed_step : (test : Bool) (f : Waiting → Waiting) (w : Waiting) → (f w).task.0 ≡ w.task.0 → (if test then f w else w).task.0 ≡ w.task.0
+changed_step true f w same = same
+changed_step false f w same = refl
+
+pub changed_keeps : (t : ℕ) (f : Waiting → Waiting) → Keeps f → Keeps (changed t f)
+changed_keeps t f keeps w = changed_step (w.task.0 == t) f w (keeps w)
 
 pub woken_keeps : (test : On → Bool) → Keeps (woken test)
-woken_keeps test w = turned_step (test w.on) w on.Again
+woken_keeps test w = changed_step (test w.on) (λ x. with_on x on.Again) w refl
 
-unturned : (t : ℕ) (reason : On) (rows : List Waiting) → entry rows t ≡ None → map (turned t reason) rows ≡ rows
-unturned t reason [] none = refl
-unturned t reason (x ∷ xs) none =
+unchanged : (t : ℕ) (f : Waiting → Waiting) (rows : List Waiting) → entry rows t ≡ None → map (changed t f) rows ≡ rows
+unchanged t f [] none = refl
+unchanged t f (x ∷ xs) none =
     let apart = none_split (x.task.0 == t) x (entry xs t) none in
-    rw (apart.0) (ap (λ z. x ∷ z) (unturned t reason xs apart.1))
+    rw (apart.0) (ap (λ z. x ∷ z) (unchanged t f xs apart.1))
 
 absent_behind : (x : Waiting) (xs : List Waiting) (t : ℕ) → (x.task.0 == t) ≡ true → entry xs x.task.0 ≡ None → entry xs t ≡ None
 absent_behind x xs t here none = let same : x.task.0 ≡ t = grind (arith, nat_tests) in ap (entry xs) (sym same) ∙ none
 
-pub set_turned : (t at : ℕ) (rows : List Waiting) (d : Waiting) (reason : On) → EachOnce rows → row_place t rows ≡ Some at → d ≡ get_or rows at d → set rows at (with_on d reason) ≡ map (turned t reason) rows
-set_turned t at [] d reason once is read = absurd (none-some at is)
-set_turned t at (x ∷ xs) d reason once is read =
+pub set_changed : (t at : ℕ) (rows : List Waiting) (d : Waiting) (f : Waiting → Waiting) → EachOnce rows → row_place t rows ≡ Some at → d ≡ get_or rows at d → set rows at (f d) ≡ map (changed t f) rows
+set_changed t at [] d f once is read = absurd (none-some at is)
+set_changed t at (x ∷ xs) d f once is read =
     some_split (x.task.0 == t) 0 at (option_map suc (row_place t xs)) is
     (λ (yes : (x.task.0 == t) ≡ true) (same : 0 ≡ at).
     let here : d ≡ x = read ∙ ap (λ (i : ℕ). get_or (x ∷ xs) i d) (sym same) in
-    rw (← same, yes, here, unturned t reason xs (absent_behind x xs t yes once.0)) refl)
+    rw (← same, yes, here, unchanged t f xs (absent_behind x xs t yes once.0)) refl)
     (λ (no : (x.task.0 == t) ≡ false) (more : option_map suc (row_place t xs) ≡ Some at).
     let next = next_of (row_place t xs) at more in
     let there : d ≡ get_or xs next.at d = read ∙ ap (λ (i : ℕ). get_or (x ∷ xs) i d) next.next in
-    rw (next.next, no) (ap (λ z. x ∷ z) (set_turned t next.at xs d reason once.1 next.is there)))
+    rw (next.next, no) (ap (λ z. x ∷ z) (set_changed t next.at xs d f once.1 next.is there)))
+
+-- its row has another reason
+pub turned_keeps : (t : ℕ) (reason : On) → Keeps (turned t reason)
+turned_keeps t reason w = changed_keeps t (λ x. with_on x reason) (λ x. refl) w
+
+pub set_turned : (t at : ℕ) (rows : List Waiting) (d : Waiting) (reason : On) → EachOnce rows → row_place t rows ≡ Some at → d ≡ get_or rows at d → set rows at (with_on d reason) ≡ map (turned t reason) rows
+set_turned t at rows d reason once is read = set_changed t at rows d (λ x. with_on x reason) once is read
+
+unturned : (t : ℕ) (reason : On) (rows : List Waiting) → entry rows t ≡ None → map (turned t reason) rows ≡ rows
+unturned t reason rows none = unchanged t (λ x. with_on x reason) rows none
 
 pub counted_turned : (test : On → Bool) (t : ℕ) (reason : On) (rows : List Waiting) (was : Waiting) → EachOnce rows → entry rows t ≡ Some was → count_rows test (map (turned t reason) rows) + one (test was.on) ≡ count_rows test rows + one (test reason)
 counted_turned test t reason [] was once is = absurd (none-some was is)
@@ -167,6 +181,24 @@ counted_turned test t reason (x ∷ xs) was once is =
     some_split (x.task.0 == t) x was (entry xs t) is
     (λ (yes : (x.task.0 == t) ≡ true) (same : x ≡ was). rw (yes, unturned t reason xs (absent_behind x xs t yes once.0), ← same) (omega arith))
     (λ (no : (x.task.0 == t) ≡ false) (more : entry xs t ≡ Some was). rw no (omega (arith, counted_turned test t reason xs was once.1 more)))
+
+-- it is to do something else
+rewanted_step : (test : Bool) (what : Want) (w : Waiting) → (if test then with_want w what else w).on ≡ w.on
+rewanted_step true what w = refl
+rewanted_step false what w = refl
+
+counted_same : (test : On → Bool) (f : Waiting → Waiting) (rows : List Waiting) → ((w : Waiting) → (f w).on ≡ w.on) → count_rows test (map f rows) ≡ count_rows test rows
+counted_same test f [] keeps = refl
+counted_same test f (x ∷ xs) keeps = rw (keeps x, counted_same test f xs keeps) refl
+
+pub counted_rewanted : (test : On → Bool) (t : ℕ) (what : Want) (rows : List Waiting) → count_rows test (map (rewanted t what) rows) ≡ count_rows test rows
+counted_rewanted test t what rows = counted_same test (rewanted t what) rows (λ w. rewanted_step (w.task.0 == t) what w)
+
+pub rewanted_keeps : (t : ℕ) (what : Want) → Keeps (rewanted t what)
+rewanted_keeps t what w = changed_keeps t (λ x. with_want x what) (λ x. refl) w
+
+pub set_rewanted : (t at : ℕ) (rows : List Waiting) (d : Waiting) (what : Want) → EachOnce rows → row_place t rows ≡ Some at → d ≡ get_or rows at d → set rows at (with_want d what) ≡ map (rewanted t what) rows
+set_rewanted t at rows d what once is read = set_changed t at rows d (λ x. with_want x what) once is read
 
 -- the rows without a task's
 unlisted : (t : ℕ) (rows : List Waiting) → entry rows t ≡ None → rows_without t rows ≡ rows

@@ -12,13 +12,14 @@ use Rattle.vm_base.specs.declared.ids.TaskId.{TaskId}
 use Rattle.vm_waits.proofs.Lines.{length_others, listed_others, listed_push, once_others}
 use Rattle.vm_waits.proofs.Lines as line
 use Rattle.vm_waits.proofs.Places.{by_task_closed, by_task_inserted, by_task_removed, found_closed, found_inserted, found_removed, known}
-use Rattle.vm_waits.proofs.Rows.{Keeps, counted_push, counted_turned, counted_without, counted_woken, entry_map, entry_push, entry_spot, entry_task, entry_without, length_without, none_passes, once_map, once_push, once_without, oldest_none, oldest_some, row_at, spot_map, spot_none, spot_push, spot_without, turned_keeps, woken_keeps}
+use Rattle.vm_waits.proofs.Rows.{Keeps, changed, changed_keeps, counted_push, counted_rewanted, counted_turned, counted_without, counted_woken, entry_map, entry_push, entry_spot, entry_task, entry_without, length_without, none_passes, once_map, once_push, once_without, oldest_none, oldest_some, rewanted_keeps, row_at, spot_map, spot_none, spot_push, spot_without, woken_keeps}
 use Rattle.vm_waits.specs.Kept.{AreFound, AreQueued, closed, closer, noted_place, places_before, row_place}
-use Rattle.vm_waits.specs.Waits.{EachOnce, PutsEntry, Waked, count_rows, entry, first_in_queue, is_again, is_frame, is_listed, oldest_row, one, queue_without, queued, rows_without, turned, waits_for_frame, with_on, woken, woken_page, woken_ready}
+use Rattle.vm_waits.specs.Waits.{EachOnce, PutsEntry, Waked, count_rows, entry, first_in_queue, is_again, is_frame, is_listed, oldest_row, one, queue_without, queued, rewanted, rows_without, turned, waits_for_frame, with_on, with_want, woken, woken_page, woken_ready}
 use Rattle.vm_waits.specs.declared.place.Place.{Place}
 use Rattle.vm_waits.specs.declared.waiting.On.{On}
 use Rattle.vm_waits.specs.declared.waiting.On.TheVariants as on
 use Rattle.vm_waits.specs.declared.waiting.Waiting.{Waiting}
+use Rattle.vm_waits.specs.declared.waiting.Want.{Want}
 
 pub if_some : {A : Type 0} (o : Option A) (P : A → Type 0) → ((x : A) → o ≡ Some x → P x) → IfSome o P
 if_some None P holds = tt
@@ -84,30 +85,53 @@ found_mapped f rows places keeps kept = record {
   even = kept.even ∙ sym (length-map rows f);
 }
 
--- a task's row has another reason
-turned_here : (t : ℕ) (reason : On) (w : Waiting) → w.task.0 ≡ t → turned t reason w ≡ with_on w reason
-turned_here t reason w same = let here : (w.task.0 == t) ≡ true = grind (arith, nat_tests) in rw here refl
+-- a task's row is changed
+changed_here : (t : ℕ) (f : Waiting → Waiting) (w : Waiting) → w.task.0 ≡ t → changed t f w ≡ f w
+changed_here t f w same = let here : (w.task.0 == t) ≡ true = grind (arith, nat_tests) in rw here refl
 
-turned_apart : (t u : ℕ) (reason : On) (o : Option Waiting) → ((w : Waiting) → o ≡ Some w → w.task.0 ≡ u) → (t == u) ≡ false → option_map (turned t reason) o ≡ o
-turned_apart t u reason None named apart = refl
-turned_apart t u reason (Some w) named apart =
+changed_apart : (t u : ℕ) (f : Waiting → Waiting) (o : Option Waiting) → ((w : Waiting) → o ≡ Some w → w.task.0 ≡ u) → (t == u) ≡ false → option_map (changed t f) o ≡ o
+changed_apart t u f None named apart = refl
+changed_apart t u f (Some w) named apart =
     let is = named w refl in
     let no : (w.task.0 == t) ≡ false = grind (arith, nat_tests) in
     rw no refl
 
-entry_turned : (t : ℕ) (reason : On) (rows : List Waiting) (was : Waiting) (u : ℕ) → entry rows t ≡ Some was → entry (map (turned t reason) rows) u ≡ (if t == u then Some (with_on was reason) else entry rows u)
-entry_turned t reason rows was u is =
-    rw (entry_map (turned t reason) rows u (turned_keeps t reason))
+entry_changed : (t : ℕ) (f : Waiting → Waiting) (rows : List Waiting) (was : Waiting) (u : ℕ) → Keeps f → entry rows t ≡ Some was → entry (map (changed t f) rows) u ≡ (if t == u then Some (f was) else entry rows u)
+entry_changed t f rows was u keeps is =
+    rw (entry_map (changed t f) rows u (changed_keeps t f keeps))
     (⊎_elim
     (λ (here : (t == u) ≡ true).
     let same : t ≡ u = grind (arith, nat_tests) in
     let read : entry rows u ≡ Some was = ap (entry rows) (sym same) ∙ is in
-    rw (here, read) (ap Some (turned_here t reason was (entry_task rows t was is))))
-    (λ (apart : (t == u) ≡ false). rw apart (turned_apart t u reason (entry rows u) (entry_task rows u) apart))
+    rw (here, read) (ap Some (changed_here t f was (entry_task rows t was is))))
+    (λ (apart : (t == u) ≡ false). rw apart (changed_apart t u f (entry rows u) (entry_task rows u) apart))
     (cases_Bool (t == u)))
+
+-- its row has another reason
+entry_turned : (t : ℕ) (reason : On) (rows : List Waiting) (was : Waiting) (u : ℕ) → entry rows t ≡ Some was → entry (map (turned t reason) rows) u ≡ (if t == u then Some (with_on was reason) else entry rows u)
+entry_turned t reason rows was u is = entry_changed t (λ w. with_on w reason) rows was u (λ w. refl) is
 
 pub puts_turned : (t : ℕ) (reason : On) (rows : List Waiting) (was : Waiting) → entry rows t ≡ Some was → PutsEntry t (Some (with_on was reason)) rows (map (turned t reason) rows)
 puts_turned t reason rows was is = record { at = λ u. entry_turned t reason rows was u is }
+
+-- it is to do something else
+pub puts_rewanted : (t : ℕ) (what : Want) (rows : List Waiting) (was : Waiting) → entry rows t ≡ Some was → PutsEntry t (Some (with_want was what)) rows (map (rewanted t what) rows)
+puts_rewanted t what rows was is = record { at = λ u. entry_changed t (λ w. with_want w what) rows was u (λ w. refl) is }
+
+rewanted_step : (test : Bool) (what : Want) (w : Waiting) → is_frame (if test then with_want w what else w).on ≡ is_frame w.on
+rewanted_step true what w = refl
+rewanted_step false what w = refl
+
+waits_as_before : (t : ℕ) (what : Want) (o : Option Waiting) → waits_for_frame (option_map (rewanted t what) o) ≡ waits_for_frame o
+waits_as_before t what None = refl
+waits_as_before t what (Some w) = rewanted_step (w.task.0 == t) what w
+
+pub lined_rewanted : (t : ℕ) (what : Want) (rows : List Waiting) (queue : List TaskId) → AreQueued rows queue → AreQueued (map (rewanted t what) rows) queue
+lined_rewanted t what rows queue kept = record {
+  listed = λ u. kept.listed u ∙ sym (ap waits_for_frame (entry_map (rewanted t what) rows u (rewanted_keeps t what)) ∙ waits_as_before t what (entry rows u));
+  once = kept.once;
+  even = kept.even ∙ sym (counted_rewanted is_frame t what rows);
+}
 
 pub lined_off : (t : ℕ) (reason : On) (rows : List Waiting) (queue : List TaskId) (was : Waiting) → AreQueued rows queue → EachOnce rows → entry rows t ≡ Some was → is_frame reason ≡ false
     → AreQueued (map (turned t reason) rows) (queue_without t queue)

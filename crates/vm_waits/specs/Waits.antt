@@ -5,6 +5,7 @@ use Rattle.vm_base.specs.declared.ids.TaskId.{TaskId}
 use Rattle.vm_waits.specs.declared.waiting.On.{On}
 use Rattle.vm_waits.specs.declared.waiting.On.TheVariants as on
 use Rattle.vm_waits.specs.declared.waiting.Waiting.{Waiting}
+use Rattle.vm_waits.specs.declared.waiting.Want.{Want}
 
 -- the waiting accesses, the oldest first; the tasks that wait for a frame, the first of the queue first; how many
 -- further accesses begin without memory
@@ -106,11 +107,18 @@ rows_without t [] = []
 rows_without t (w ∷ ws) = if w.task.0 == t then rows_without t ws else w ∷ rows_without t ws
 
 abbrev pub with_on : Waiting → On → Waiting
-with_on w reason = record { task = w.task; want = w.want; on = reason }
+with_on w reason = record w { on = reason }
+
+abbrev pub with_want : Waiting → Want → Waiting
+with_want w what = record w { want = what }
 
 -- a task's row has another reason
 abbrev pub turned : ℕ → On → Waiting → Waiting
 turned t reason w = if w.task.0 == t then with_on w reason else w
+
+-- a task's access is to do something else
+abbrev pub rewanted : ℕ → Want → Waiting → Waiting
+rewanted t what w = if w.task.0 == t then with_want w what else w
 
 -- a row whose reason passes a test is to be run again
 abbrev pub woken : (On → Bool) → Waiting → Waiting

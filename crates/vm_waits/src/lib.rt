@@ -7,5 +7,5 @@ mod scan;
 mod waiting;
 mod waits;
 
-pub use waiting::{On, Waiting, Want};
+pub use waiting::{Destination, On, Waiting, Want};
 pub use waits::Waits;

@@ -1,12 +1,36 @@
 // A waiting access.
-use vm_base::{ObjectId, PageKey, TaskId};
+use vm_base::{ObjectId, PageKey, RegionId, TaskId};
 
-/// What an access is to do with the `size` bytes from an address on: 1, 2, 4 or 8 bytes, the lowest
-/// byte of a value first.
+/// What an access is to do.
 #[derive(Clone, Copy, Debug, PartialEq, Eq)]
 pub enum Want {
-    Load { address: u64, size: u32 },
-    Store { address: u64, size: u32, value: u64 },
+    /// It reads the `size` bytes from an address on: 1, 2, 4 or 8, the lowest byte of the value first.
+    Load {
+        address: u64,
+        size: u32,
+    },
+    /// It writes them.
+    Store {
+        address: u64,
+        size: u32,
+        value: u64,
+    },
+    /// A slow copy: so many pages from an address on go into the pages of an object; `next` is the one
+    /// that is copied next, from 0 on.
+    CopyTo {
+        address: u64,
+        pages: u32,
+        target: ObjectId,
+        next: u32,
+    },
+}
+
+/// Where the pages of a slow copy are to be mapped: the region that is over its object, and the
+/// address of its entry.
+#[derive(Clone, Copy, Debug, PartialEq, Eq)]
+pub struct Destination {
+    pub region: RegionId,
+    pub address: u64,
 }
 
 /// Why an access waits.
@@ -28,4 +52,6 @@ pub struct Waiting {
     pub task: TaskId,
     pub want: Want,
     pub on: On,
+    /// A slow copy alone has one.
+    pub destination: Option<Destination>,
 }

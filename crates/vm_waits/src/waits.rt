@@ -1,12 +1,12 @@
 // The waiting accesses of a host, and the queue for its frames.
 ghost use Rattle.std.specs.Prelude.{ℕ, ◌≡◌, ◌+◌, ◌<◌, ◌≤◌, ◌++◌, ◌∷◌, [], true, false, length, map, nat_lt, IfSome, IsOk, IsSome, IsSomeAnd, MatchOption, None, OnErr, OnOk, Some};
-ghost use Rattle.vm_waits.specs.Waits.{EachOnce, PutsEntry, Waked, count_again, count_rows, entry, first_in_queue, is_again, is_frame, is_listed, oldest_row, one_again, one_frame, queue_without, queued, rows_without, turned, waits_for_frame, with_on, woken, woken_page, woken_ready};
+ghost use Rattle.vm_waits.specs.Waits.{EachOnce, PutsEntry, Waked, count_again, count_rows, entry, first_in_queue, is_again, is_frame, is_listed, oldest_row, one_again, one_frame, queue_without, queued, rewanted, rows_without, turned, waits_for_frame, with_on, with_want, woken, woken_page, woken_ready};
 ghost use Rattle.vm_waits.specs.Kept.{AreQueued};
 ghost use Rattle.vm_waits.specs.declared.waiting.On.TheVariants.{Again, Frame};
 
 use crate::place::{Place, close_gap, find, known_place, place_of};
 use crate::scan::{oldest_again, oldest_on, take_off, wake_for_page, wake_for_ready};
-use crate::{On, Waiting, Want};
+use crate::{Destination, On, Waiting, Want};
 use std::alloc::Global;
 use std::marker::Model;
 use vm_base::{NoMemory, ObjectId, PageKey, TaskId};
@@ -76,12 +76,13 @@ impl Waits {
         Ok(())
     }
 
-    /// An access of a task begins: it stands behind all others, and is to be run.
-    pub fn begin(&mut self, task: TaskId, want: Want)
+    /// An access of a task begins: it stands behind all others, and is to be run. A slow copy has a
+    /// destination.
+    pub fn begin(&mut self, task: TaskId, want: Want, destination: Option<Destination>)
         requires absent { entry self.old.rows task.0 ≡ None }
         requires room { 0 < self.old.room }
-        ensures rows { self.new.rows ≡ self.old.rows ++ (record { task = task; want = want; on = Again }) ∷ [] }
-        ensures entry { PutsEntry task.0 (Some (record { task = task; want = want; on = Again })) self.old.rows self.new.rows }
+        ensures rows { self.new.rows ≡ self.old.rows ++ (record { task = task; want = want; on = Again; destination = destination }) ∷ [] }
+        ensures entry { PutsEntry task.0 (Some (record { task = task; want = want; on = Again; destination = destination })) self.old.rows self.new.rows }
         ensures again { count_again self.new.rows ≡ count_again self.old.rows + 1 }
         ensures queued { queued self.new.rows ≡ queued self.old.rows }
         ensures queue { self.new.queue ≡ self.old.queue }
@@ -93,6 +94,7 @@ impl Waits {
             task,
             want,
             on: On::Again,
+            destination,
         });
         let _ = self.places.insert(i, Place { task, at });
         self.room -= 1;
@@ -152,6 +154,21 @@ impl Waits {
         ensures line { AreQueued self.now.rows self.now.queue }
     {
         oldest_on(&self.rows, key)
+    }
+
+    /// What a task's access is to do becomes something else: a slow copy goes on by some pages.
+    pub fn set_want(&mut self, task: TaskId, want: Want)
+        requires { IsSome (entry self.old.rows task.0) }
+        ensures rows { self.new.rows ≡ map (rewanted task.0 want) self.old.rows }
+        ensures entry { IfSome (entry self.old.rows task.0) (λ was.
+            PutsEntry task.0 (Some (with_want was want)) self.old.rows self.new.rows) }
+        ensures again { count_again self.new.rows ≡ count_again self.old.rows }
+        ensures queued { queued self.new.rows ≡ queued self.old.rows }
+        ensures queue { self.new.queue ≡ self.old.queue }
+        ensures room { self.new.room ≡ self.old.room }
+    {
+        let at = known_place(&self.places, task);
+        self.rows[at].want = want;
     }
 
     /// A task's access waits for something else, but not for a frame; it leaves the queue if it was

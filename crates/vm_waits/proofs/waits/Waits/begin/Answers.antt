@@ -13,7 +13,7 @@ invariant_of-self c =
     let old = c.self.inside in
     let absent : entry old.rows.items c.args.task.0 ≡ None = rw (← c.self.view_is) at c.requires.absent in
     let room : 0 < old.room = rw (← c.self.view_is) at c.requires.room in
-    let w : Waiting = record { task = c.args.task; want = c.args.want; on = on.Again } in
+    let w : Waiting = record { task = c.args.task; want = c.args.want; on = on.Again; destination = c.args.destination } in
     let fits = c.self.invariant.2 in
     let rows : c.push.new.self.items ≡ old.rows.items ++ w ∷ [] = rw (c.push.ensures.succeeds (omega (arith, fits.rows, room, old.rows.ok.0))) at c.push.ensures.items in
     let at : c.len-at.result ≡ length old.rows.items = c.len-at.ensures ∙ old.rows.ok.0 in
@@ -37,7 +37,7 @@ returns-clause-entry c =
     let old = c.self.inside in
     let absent : entry old.rows.items c.args.task.0 ≡ None = rw (← c.self.view_is) at c.requires.absent in
     let room : 0 < old.room = rw (← c.self.view_is) at c.requires.room in
-    let w : Waiting = record { task = c.args.task; want = c.args.want; on = on.Again } in
+    let w : Waiting = record { task = c.args.task; want = c.args.want; on = on.Again; destination = c.args.destination } in
     let fits = c.self.invariant.2 in
     let rows : c.push.new.self.items ≡ old.rows.items ++ w ∷ [] = rw (c.push.ensures.succeeds (omega (arith, fits.rows, room, old.rows.ok.0))) at c.push.ensures.items in
     rw (rows, ← c.self.view_is) record { at = λ t. entry_push old.rows.items w t absent }
@@ -47,7 +47,7 @@ returns-clause-again c =
     let old = c.self.inside in
     let absent : entry old.rows.items c.args.task.0 ≡ None = rw (← c.self.view_is) at c.requires.absent in
     let room : 0 < old.room = rw (← c.self.view_is) at c.requires.room in
-    let w : Waiting = record { task = c.args.task; want = c.args.want; on = on.Again } in
+    let w : Waiting = record { task = c.args.task; want = c.args.want; on = on.Again; destination = c.args.destination } in
     let fits = c.self.invariant.2 in
     let rows : c.push.new.self.items ≡ old.rows.items ++ w ∷ [] = rw (c.push.ensures.succeeds (omega (arith, fits.rows, room, old.rows.ok.0))) at c.push.ensures.items in
     rw (rows, ← c.self.view_is) (counted_push is_again old.rows.items w)
@@ -57,7 +57,7 @@ returns-clause-queued c =
     let old = c.self.inside in
     let absent : entry old.rows.items c.args.task.0 ≡ None = rw (← c.self.view_is) at c.requires.absent in
     let room : 0 < old.room = rw (← c.self.view_is) at c.requires.room in
-    let w : Waiting = record { task = c.args.task; want = c.args.want; on = on.Again } in
+    let w : Waiting = record { task = c.args.task; want = c.args.want; on = on.Again; destination = c.args.destination } in
     let fits = c.self.invariant.2 in
     let rows : c.push.new.self.items ≡ old.rows.items ++ w ∷ [] = rw (c.push.ensures.succeeds (omega (arith, fits.rows, room, old.rows.ok.0))) at c.push.ensures.items in
     let more = counted_push is_frame old.rows.items w in
