@@ -1,5 +1,8 @@
 -- What is no event of a host leaves what its kernel stands for.
-use Rattle.vm_kernel.proofs.Common.{AllLicensed, AllRows, ApartElsewhere, BeganInOrder, Below, Bool, Command, Down, EachIn, EachOf, EntersNext, Entry, Event, HasCause, HasControls, HasFrames, HasLaundry, HasOrder, HasPages, HasQueue, HasRegions, HasTasks, HasUse, HasWaits, Header, Ids, IfSome, IsAbroad, IsAmong, IsCommon, IsHeldOn, IsInside, IsMine, IsNobodys, IsOfHost, IsRegionOf, IsShut, Knows, List, Matches, MomentsIn, None, Option, Outside, Parts, PromptAt, RegionRow, Rests, SameFacts, SameForHost, Some, Sound, Suffice, Up, Waiting, [], all_tasks, ap, apart_abroad, arith, backing_of, begun_at, count_by, entries_in, entries_of, entry, eqb_tells, false, frames_free, frames_held, frames_used, frames_wired, has_entry, has_region, holds, home_of, homes_stay, host_of, in_use, inl, inr, is_among, is_home, is_ready, is_some, is_used, last_control, live_control, lives_on, local, named, nat_lt, nat_tests, next_object, next_region, pages_abroad, place_of, refl, region_at, region_of, returns_out, reverse, rows_in, rows_map, slice_get, sound_next, stays, subst, suc, swept_now, sym, tasks, true, unwrap_or, use_of, use_same, used_of, vain_now, zero, ℕ, ◌++◌, ◌<◌, ◌==◌, ◌∙◌, ◌∷◌, ◌≡◌, ◌≤◌}
+use Rattle.vm_kernel.proofs.Common.{AllLicensed, AllRows, ApartElsewhere, BeganInOrder, Below, Bool, Command, Down, EachIn, EachOf, EntersNext, Entry, Event, HasCause, HasControls, HasFrames, HasLaundry, HasOrder, HasPages, HasQueue, HasRegions, HasTasks, HasUse, HasWaits, Header, Ids, IfSome, IsAbroad, IsAmong, IsCommon, IsHeldOn, IsInside, IsMine, IsNobodys, IsOfHost, IsRegionOf, IsShut, IsUsed, Knows, List, Matches, MomentsIn, None, Option, Outside, Parts, PromptAt, RegionRow, Rests, SameFacts, SameForHost, Some, Sound, Suffice, Up, Waiting, [], all_tasks, ap, apart_abroad, arith, backing_of, begun_at, copy_target, entries_in, entries_of, entry, eqb_tells, false, fills, frames_free, frames_held, frames_used, frames_wired, has_entry, has_region, holds, home_of, homes_stay, host_of, in_use, inl, inr, is_among, is_home, is_ready, is_some, is_used, last_control, live_control, lives_on, local, named, nat_lt, nat_tests, next_object, next_region, pages_abroad, place_of, refl, region_at, region_of, returns_out, reverse, rows_in, rows_map, slice_get, sound_next, stays, subst, suc, swept_now, sym, tasks, true, unwrap_or, use_of, use_same, used_of, vain_now, zero, ℕ, ◌++◌, ◌<◌, ◌==◌, ◌∙◌, ◌∷◌, ◌≡◌, ◌≤◌, ◌⊎◌}
+use Rattle.vm_kernel.proofs.Filled.{row_use}
+use Rattle.vm_kernel.proofs.Uses.{fills_here, paged_file, waits_some}
+use Rattle.vm_state.proofs.Filling.{used_told}
 use Rattle.vm_model.specs.declared.event.Event.TheVariants as event
 use Rattle.std.specs.Prelude.{◌+◌}
 use Rattle.vm_model.specs.Local.{is_on}
@@ -20,11 +23,9 @@ use Rattle.vm_kernel.proofs.Counts.{by_some}
 use Rattle.vm_kernel.proofs.Own.{lives_in, own_host}
 use Rattle.vm_kernel.proofs.Regions.{region_row}
 use Rattle.vm_kernel.proofs.Terminating.{declared_chain, entry_there, used_there}
-use Rattle.vm_kernel.proofs.Uses.{paged_file}
 use Rattle.vm_supply.specs.declared.woken.Woken.TheVariants as woken
 use Rattle.std.proofs.lemmas.Bool.{or_right}
 use Rattle.std.proofs.Math.Bool.{and-false}
-use Rattle.vm_state.specs.Places.{known_local}
 
 -- what a kernel says of all hosts
 
@@ -55,25 +56,32 @@ own_region header h k ids past rests r has temporary = by_row (region_at k.chain
     by_row : (x : Option RegionRow) → region_at k.chains r ≡ x → is_some x ≡ true → is_used header h r past ≡ true
     by_row None found has = absurd (let bad : false ≡ true = has in cc)
     by_row (Some row) found has =
-        let count = rests.matches.entries.counts r row found in
-        let some = rests.used r row found in
-        let less : 0 < count_by all_tasks r k.maps = omega (arith, count, some) in
-        let test : nat_lt 0 (count_by all_tasks r k.maps) ≡ true = grind (arith, nat_tests) in
-        used_of header h r past (rests.matches.settled.shut r) (rests.matches.uses.used r temporary ∙ test)
+        used_of header h r past (rests.matches.settled.shut r) ((rests.matches.uses.used r temporary).is (row_use r row rests.matches.entries found rests.used))
 
 held_on : (header : Header) (h : ℕ) (k : Parts) (ids : Ids) (past : List Event) → Rests header h k ids past → (r : ℕ) → named header ≤ r → is_used header h r past ≡ true → IsHeldOn header h r past
 held_on header h k ids past rests r temporary used =
     let has = rests.matches.tasks in
-    let test : nat_lt 0 (count_by all_tasks r k.maps) ≡ true = sym (rests.matches.uses.used r temporary) ∙ use_of header h r past used in
-    let some = by_some all_tasks r k.maps (grind (arith, nat_tests)) in
-    let here = with_entry r (entries_in some.0 k.maps) some.1 in
-    let lives : lives_on h some.0 past ≡ true = has.hosts some.0 ∙ here in
-    record {
-      task = some.0;
-      lives = lives;
-      made = among_of some.0 (tasks past) (rests.matches.uses.among some.0 (rows_in some.0 k.maps) (lives_in some.0 has lives));
-      holds = inl (ap (has_entry r) (has.rows some.0 here) ∙ some.1);
-    }
+    elim ((rests.matches.uses.used r temporary).why (use_of header h r past used)) [
+      | inl count ↦
+          let some = by_some all_tasks r k.maps count in
+          let here = with_entry r (entries_in some.0 k.maps) some.1 in
+          on_task some.0 here (inl (ap (has_entry r) (has.rows some.0 here) ∙ some.1))
+      | inr filled ↦
+          let fills_now = fills_here {past = past} rests.waits rests.used.copies in
+          let here = fills_now.lives filled.task (waits_some r (entry k.waits.rows filled.task) filled.fills) in
+          on_task filled.task here (inr (fills_now.is filled.task r here ∙ filled.fills))
+    ]
+  where
+    on_task : (task : ℕ) → is_some (entries_in task k.maps) ≡ true → (has_entry r (entries_of header.size task past) ≡ true) ⊎ (fills r (waiting task past) (copy_target task past) ≡ true) → IsHeldOn header h r past
+    on_task task here holds_it =
+        let has = rests.matches.tasks in
+        let lives : lives_on h task past ≡ true = has.hosts task ∙ here in
+        record {
+          task = task;
+          lives = lives;
+          made = among_of task (tasks past) (rests.matches.uses.among task (rows_in task k.maps) (lives_in task has lives));
+          holds = holds_it;
+        }
 
 -- the chain of a region of the host is of objects that its tables know, or of a declared one, and these were made
 chain_made : (header : Header) (h : ℕ) (k : Parts) (ids : Ids) (past : List Event) → Rests header h k ids past → (r n u : ℕ) → IsRegionOf header h r past → Below (λ o. backing_of header o past) n (region_of header r past).top u → u < next_object header past
@@ -83,7 +91,7 @@ chain_made header h k ids past rests r n u own below = elim (kind_cases header r
       let more = named_objects header past in
       omega (arith, same, declared, more)
   | inr temporary ↦
-      let row = used_there header h k ids [] past r rests.matches temporary (use_of header h r past (own temporary)) in
+      let row = used_there header h k ids [] past r rests.matches rests.used.copies temporary (use_of header h r past (own temporary)) in
       let known = chain_known rests.matches.regions r row.0 row.1 n u below in
       small_object rests.matches.regions u known.row known.known
 ]
@@ -159,11 +167,11 @@ module _ (header : Header) (h : ℕ) (k : Parts) (ids next : Ids) (past new : Li
   pages_same : HasPages k.memory.frames k.memory.resident k.memory.objects (λ o p. known_local header o p (local header.size h (place_of o p) new))
   pages_same = record { shown = λ o p. ap (known_local header o p) (same.pages.local (place_of o p)) ∙ rests.matches.pages.shown o p }
 
-  uses_same : ApartElsewhere header h new → ((r : ℕ) → home_of r past ≡ Some h → home_of r new ≡ Some h) → HasUse header k.maps (λ r. in_use header h r new) (tasks new) (λ task r. holds header.size task r new) (next_region header new)
+  uses_same : ApartElsewhere header h new → ((r : ℕ) → home_of r past ≡ Some h → home_of r new ≡ Some h) → HasUse header k.maps k.waits.rows (λ r. in_use header h r new) (tasks new) (λ task r. holds header.size task r new) (next_region header new)
   uses_same apart home =
       let has = rests.matches.uses in
       record {
-        used = λ r temporary. use_same header h r past new same temporary (rests.matches.settled.shut r) (common.settled.shut r) ∙ has.used r temporary;
+        used = λ r temporary. subst (λ (b : Bool). IsUsed k.maps k.waits.rows r b) (sym (use_same header h r past new same temporary (rests.matches.settled.shut r) (common.settled.shut r))) (has.used r temporary);
         files = λ r file some.
             let task = by_some all_tasks r k.maps some in
             let row = region_row k.chains r (entry_there header.size r k.chains (rows_in task.0 k.maps) (rests.matches.entries.inside task.0) task.1) in
@@ -192,6 +200,7 @@ module _ (header : Header) (h : ℕ) (k : Parts) (ids next : Ids) (past new : Li
         is = λ t here. (same.task t (living t here)).waiting ∙ has.is t here;
         allowed = has.allowed;
         sized = has.sized;
+        numbers = has.numbers;
         reasons = has.reasons;
         aims = has.aims;
         askers = has.askers;
@@ -244,7 +253,7 @@ module _ (header : Header) (h : ℕ) (k : Parts) (ids next : Ids) (past new : Li
           laundry = laundry_same;
           frames = frames_same;
         };
-    used = rests.used;
+    used = used_told rests.used (λ t w found. let it = same.task t (living t (ap is_some (rests.waits.allowed t w found).lives)) in (it.next, it.target));
     referred = rests.referred;
     waits = waits_same;
     order = order_same;
@@ -264,7 +273,7 @@ waits_here header h k ids past rests task lives =
     let here = sym (rests.matches.tasks.hosts task) ∙ (ap (is_on h) lives ∙ own_host h) in
     sym (ap is_some (rests.waits.is task here) ∙ as_some (entry k.waits.rows task))
   where
-    as_some : (x : Option Waiting) → is_some (waiting_in x) ≡ is_some x
+    as_some : (x : Option Waiting) → is_some (waiting_in k.maps.size x) ≡ is_some x
     as_some None = refl
     as_some (Some w) = refl
 

@@ -1,5 +1,6 @@
 -- What a page leaves of the kernel that comes for a waiting access, or by which one ends.
-use Rattle.vm_kernel.proofs.Common.{Access, AllReferred, Bool, Brings, Changes, Event, FrameNo, HasPages, HasWaiters, Header, HostParts, Ids, List, Local, Matches, None, ObjectTable, On, Option, PageKey, PageRow, Parts, Queues, Raises, Some, Stores, WaitTable, Waiting, Woken, Works, Zeroes, [], absent_at, ap, arith, begun_at, clean_row, entry, false, fit_touched, frames_held, frames_wired, host_id, host_of, inl, inr, is_again, is_frame, little_endian_bytes, local, local_after, local_of_row, page_in, place_of, refl, replicate, returns_out, reverse, row_at, rows_in, slice_get, some_is, subst, sym, true, unlocked, waiting, with_bytes, ℕ, ◌+◌, ◌||◌, ◌∙◌, ◌∷◌, ◌≡◌}
+use Rattle.vm_kernel.proofs.Common.{Access, AllReferred, Bool, Brings, Changes, Event, FrameNo, HasPages, HasWaiters, Header, HostParts, Ids, List, Local, Matches, None, ObjectTable, On, Option, PageKey, PageRow, Parts, Queues, Raises, Some, Stores, WaitTable, Waiting, Woken, Works, Zeroes, [], absent_at, ap, arith, begun_at, clean_row, copy_target, entry, false, fit_touched, frames_held, frames_wired, host_id, host_of, inl, inr, is_again, is_frame, little_endian_bytes, local, local_after, local_of_row, next_page, page_in, place_of, refl, replicate, returns_out, reverse, row_at, rows_in, slice_get, some_is, subst, sym, true, unlocked, waiting, with_bytes, ℕ, ◌+◌, ◌||◌, ◌∙◌, ◌∷◌, ◌≡◌}
+use Rattle.vm_state.proofs.Filling.{IsUnfilled, away_put, fills_over, number_fills, used_away, used_over, used_page, uses_refilled}
 use Rattle.vm_abroad.proofs.Home.{object_stays}
 use Rattle.vm_fault.specs.Faults.{KeepsPlan, References, WritesPage}
 use Rattle.vm_fault.specs.Walks.{keeps_out}
@@ -79,18 +80,18 @@ matches_zeroed header h k ids past key frame memory m c plan =
       uses = m.uses;
       controls = rw plan.objects (controls_stay (λ o home. object_stays o h (event.Zeroed (host_id h) key.object key.page) past home) m.controls);
       homeless = record { regions = m.homeless.regions; objects = m.homeless.objects; stay = m.homeless.stay; files = m.homeless.files; whole = m.homeless.whole; bare = m.homeless.bare; fills = m.homeless.fills };
-      settled = record { returned = refl; shut = λ region. refl };
+      settled = record { none_owed = refl; shut = λ region. refl };
       replied = replied_behind tt m.replied;
       laundry = laundry_changed key frame _ _ _ _ _ k.memory memory k.laundry (returns_out h past) m.laundry c;
       frames = rw (own_host h) (frames_changed (slice_get (reverse header.frames.items) h) key frame _ _ _ _ _ k.memory memory (frames_held header.size h past) (frames_held header.size h past + 1) (frames_wired h past) m.frames c (λ held. let more = c.claims in omega arith));
     }
 
-pub works_zeroed : (header : Header) (h : ℕ) (past : List Event) (k : Parts) (ids : Ids) (key : PageKey) (frame : FrameNo) (memory : HostParts) → Works header h k ids woken.Nobody past → IsReferred k.memory.objects key.object.0
+pub works_zeroed : (header : Header) (h : ℕ) (past : List Event) (k : Parts) (ids : Ids) (key : PageKey) (frame : FrameNo) (memory : HostParts) → Works header h k ids woken.Nobody past → IsUnfilled k.chains key.object.0 → IsReferred k.memory.objects key.object.0
     → Brings key frame k.memory memory → KeepsPlan k.memory memory → Works header h (record k { memory = memory }) ids woken.Nobody (event.Zeroed (host_id h) key.object key.page ∷ past)
-works_zeroed header h past k ids key frame memory works is c plan =
+works_zeroed header h past k ids key frame memory works apart is c plan =
     record {
       matches = matches_zeroed header h k ids past key frame memory works.matches c plan;
-      used = works.used;
+      used = used_page key.object.0 key.page.0 _ k.memory.resident memory.resident works.used apart c.row;
       referred = page_referred key frame _ _ _ _ _ k memory c plan is (λ row same. inl (ap (λ (z : PageRow). z.lock) (sym (some_is _ row same)))) works.referred;
       waits = page_waits key frame _ _ _ _ _ k memory (is_woken woken.Nobody) (λ u. waiting u past) c plan (none_unawaited None refl) (here_unawaited _ _ refl refl refl) works.waits;
       order = works.order;
@@ -129,19 +130,19 @@ matches_raised header h k ids past low top row frame memory m found here c plan 
       uses = m.uses;
       controls = rw plan.objects (controls_stay (λ o home. object_stays o h (event.Raised (host_id h) low.object low.page top.object top.page) past home) m.controls);
       homeless = record { regions = m.homeless.regions; objects = m.homeless.objects; stay = m.homeless.stay; files = m.homeless.files; whole = m.homeless.whole; bare = m.homeless.bare; fills = m.homeless.fills };
-      settled = record { returned = refl; shut = λ region. refl };
+      settled = record { none_owed = refl; shut = λ region. refl };
       replied = replied_behind tt m.replied;
       laundry = laundry_changed top frame _ _ _ _ _ k.memory memory k.laundry (returns_out h past) m.laundry c;
       frames = rw (own_host h) (frames_changed (slice_get (reverse header.frames.items) h) top frame _ _ _ _ _ k.memory memory (frames_held header.size h past) (frames_held header.size h past + 1) (frames_wired h past) m.frames c (λ held. let more = c.claims in omega arith));
     }
 
-pub works_raised : (header : Header) (h : ℕ) (past : List Event) (k : Parts) (ids : Ids) (low top : PageKey) (row : PageRow) (frame : FrameNo) (memory : HostParts) → Works header h k ids woken.Nobody past → IsReferred k.memory.objects top.object.0
+pub works_raised : (header : Header) (h : ℕ) (past : List Event) (k : Parts) (ids : Ids) (low top : PageKey) (row : PageRow) (frame : FrameNo) (memory : HostParts) → Works header h k ids woken.Nobody past → IsUnfilled k.chains top.object.0 → IsReferred k.memory.objects top.object.0
     → row_at k.memory.resident low.object.0 low.page.0 ≡ Some row → row.here ≡ true → RaisesPage top frame (page_in k.memory.frames row.frame.0) k.memory memory → KeepsPlan k.memory memory
     → Works header h (record k { memory = memory }) ids woken.Nobody (event.Raised (host_id h) low.object low.page top.object top.page ∷ past)
-works_raised header h past k ids low top row frame memory works is found here c plan =
+works_raised header h past k ids low top row frame memory works apart is found here c plan =
     record {
       matches = matches_raised header h k ids past low top row frame memory works.matches found here c plan;
-      used = works.used;
+      used = used_page top.object.0 top.page.0 _ k.memory.resident memory.resident works.used apart c.row;
       referred = page_referred top frame _ _ _ _ _ k memory c plan is (λ row same. inl (ap (λ (z : PageRow). z.lock) (sym (some_is _ row same)))) works.referred;
       waits = page_waits top frame _ _ _ _ _ k memory (is_woken woken.Nobody) (λ u. waiting u past) c plan (none_unawaited None refl) (here_unawaited _ _ refl refl refl) works.waits;
       order = works.order;
@@ -158,7 +159,7 @@ works_touched header h past k ids who frame memory touched works = subst (λ (z 
     with_queues : Works header h (record k { memory = record k.memory { queues = memory.queues } }) ids who past
     with_queues =
         record {
-          matches = matches_with memory.queues k.memory.buffers k.waits (fit_touched k.memory memory.queues m.fits.parts touched.keeps touched.frames) refl m;
+          matches = matches_with memory.queues k.memory.buffers k.waits (λ t r. refl) (fit_touched k.memory memory.queues m.fits.parts touched.keeps touched.frames) refl m;
           used = works.used;
           referred = works.referred;
           waits = works.waits;
@@ -167,12 +168,18 @@ works_touched header h past k ids who frame memory touched works = subst (λ (z 
 
 -- an access ends
 
+-- a load or a store fills nothing
+fills_none : (header : Header) (h : ℕ) (past : List Event) (k : Parts) (ids : Ids) (w : Waiting) → Works header h k ids woken.Nobody past → entry k.waits.rows w.task.0 ≡ Some w → w.destination ≡ None
+fills_none header h past k ids w works is =
+    number_fills header k.maps k.chains k.memory.resident w.task.0 w.want w.destination (next_page w.task.0 past) (copy_target w.task.0 past) (works.waits.numbers w.task.0 w is) (works.used.copies.each w.task.0 w is)
+
 -- with a load
 pub works_loaded : (header : Header) (h : ℕ) (past : List Event) (k : Parts) (ids : Ids) (w : Waiting) (key : PageKey) (value : ℕ) (waits2 : WaitTable) → Works header h k ids woken.Nobody past → entry k.waits.rows w.task.0 ≡ Some w → runs_now w.on ≡ true
     → PutsInOrder w.task.0 None k.waits.rows waits2.rows → Works header h (record k { waits = waits2 }) ids woken.Nobody (event.Loaded w.task key.object key.page value ∷ past)
 works_loaded header h past k ids w key value waits2 works is now put =
     let m = works.matches in
     let e : Event = event.Loaded w.task key.object key.page value in
+    let none_filled = fills_none header h past k ids w works is in
     let there = (works.waits.allowed w.task.0 w is).lives in
     record {
       matches = record {
@@ -190,15 +197,15 @@ works_loaded header h past k ids w key value waits2 works is now put =
         files = m.files;
         entries = m.entries;
         pages = m.pages;
-        uses = uses_still header k.maps _ _ _ _ _ m.uses (λ t r none. holds_waits header.size w.task.0 t r k.maps (rows_in w.task.0 k.maps) past None there none);
+        uses = uses_refilled k.waits.rows waits2.rows (fills_over w.task.0 w k.waits.rows waits2.rows is none_filled put.entry) (uses_still header k.maps _ _ _ _ _ m.uses (λ t r none. holds_waits header.size w.task.0 t r k.maps (rows_in w.task.0 k.maps) past None there none));
         controls = controls_stay (λ o home. object_stays o h e past home) m.controls;
         homeless = record { regions = m.homeless.regions; objects = m.homeless.objects; stay = m.homeless.stay; files = m.homeless.files; whole = m.homeless.whole; bare = m.homeless.bare; fills = m.homeless.fills };
-        settled = record { returned = refl; shut = λ region. refl };
+        settled = record { none_owed = refl; shut = λ region. refl };
         replied = replied_behind tt m.replied;
         laundry = m.laundry;
         frames = m.frames;
       };
-      used = works.used;
+      used = used_over w.task.0 w k.waits.rows waits2.rows works.used is none_filled put.entry;
       referred = works.referred;
       waits = waiters_over k.maps k.chains k.memory.resident k.memory.objects k.waits.rows waits2.rows (λ u. waiting u past) (λ u. waiting u (e ∷ past)) w.task.0 w works.waits is (asks_none_now k w.on now) put.entry (λ u. refl);
       order = put.order.keeps (λ u. begun_at u past) 0 works.order;
@@ -215,6 +222,7 @@ works_stored header h past k ids w key frame at size value row memory waits2 wor
     let o = key.object.0 in
     let p = key.page.0 in
     let e : Event = event.Stored w.task key.object key.page at size value in
+    let none_filled = fills_none header h past k ids w works is in
     let there = (works.waits.allowed w.task.0 w is).lives in
     let lives : host_of w.task.0 past ≡ Some h = lives_here m.tasks there in
     let bytes = little_endian_bytes size value in
@@ -248,15 +256,15 @@ works_stored header h past k ids w key frame at size value row memory waits2 wor
         files = rw plan.objects m.files;
         entries = m.entries;
         pages = rw plan.objects pages3;
-        uses = uses_still header k.maps _ _ _ _ _ m.uses (λ t r none. holds_waits header.size w.task.0 t r k.maps (rows_in w.task.0 k.maps) past None there none);
+        uses = uses_refilled k.waits.rows waits2.rows (fills_over w.task.0 w k.waits.rows waits2.rows is none_filled put.entry) (uses_still header k.maps _ _ _ _ _ m.uses (λ t r none. holds_waits header.size w.task.0 t r k.maps (rows_in w.task.0 k.maps) past None there none));
         controls = rw plan.objects (controls_stay (λ o home. object_stays o h e past home) m.controls);
         homeless = record { regions = m.homeless.regions; objects = m.homeless.objects; stay = m.homeless.stay; files = m.homeless.files; whole = m.homeless.whole; bare = m.homeless.bare; fills = m.homeless.fills };
-        settled = record { returned = refl; shut = λ region. refl };
+        settled = record { none_owed = refl; shut = λ region. refl };
         replied = replied_behind tt m.replied;
         laundry = laundry_changed key was.frame _ _ _ _ _ k.memory memory k.laundry (returns_out h past) m.laundry c;
         frames = frames_changed (slice_get (reverse header.frames.items) h) key was.frame _ _ _ _ _ k.memory memory (frames_held header.size h past) (frames_held header.size h past) (frames_wired h past) m.frames c (λ held. let same = c.claims in omega arith);
       };
-      used = works.used;
+      used = used_over w.task.0 w k.waits.rows waits2.rows (used_away k.memory.resident memory.resident works.used (away_put o p (Some row2) was k.memory.resident memory.resident c.found c.row)) is none_filled put.entry;
       referred = referred2;
       waits = waiters_over k.maps k.chains memory.resident memory.objects k.waits.rows waits2.rows (λ u. waiting u past) (λ u. waiting u (e ∷ past)) w.task.0 w waits3 is (asks_none_now (record k { memory = memory }) w.on now) put.entry (λ u. refl);
       order = put.order.keeps (λ u. begun_at u past) 0 works.order;

@@ -1,5 +1,7 @@
 -- What a request for a page leaves of the kernel, and an access that waits for something else.
 use Rattle.vm_kernel.proofs.Common.{Asks, AsksPage, Bool, Event, FrameNo, HasWaiters, Header, HostParts, Ids, List, Matches, ObjectRow, ObjectTable, On, PageKey, PageRow, Parts, Reason, Some, Up, WaitTable, Waiting, Works, [], ap, arith, begun_at, entry, false, frames_held, frames_wired, host_id, inl, is_control, is_ready_state, live_control, local, local_after, object_at, place_of, ready_in, refl, returns_out, reverse, slice_get, some_is, subst, sym, true, waiting, with_on, ℕ, ◌&&◌, ◌+◌, ◌==◌, ◌∙◌, ◌∷◌, ◌≡◌}
+use Rattle.vm_kernel.proofs.Filled.{place_unfilled}
+use Rattle.vm_state.proofs.Filling.{fills_turned, used_page, used_turned}
 use Rattle.vm_abroad.proofs.Home.{object_stays}
 use Rattle.vm_fault.specs.Faults.{KeepsPlan}
 use Rattle.vm_model.specs.declared.event.Event.TheVariants as event
@@ -63,7 +65,7 @@ matches_asked header h k ids past key control access frame memory m live c plan 
       uses = m.uses;
       controls = rw plan.objects (controls_stay (λ o home. object_stays o h (requesting h key control access) past home) m.controls);
       homeless = record { regions = m.homeless.regions; objects = m.homeless.objects; stay = m.homeless.stay; files = m.homeless.files; whole = m.homeless.whole; bare = m.homeless.bare; fills = m.homeless.fills };
-      settled = record { returned = refl; shut = λ region. refl };
+      settled = record { none_owed = refl; shut = λ region. refl };
       replied = replied_behind tt m.replied;
       laundry = laundry_changed key frame _ _ _ _ _ k.memory memory k.laundry (returns_out h past) m.laundry c;
       frames = rw (own_host h) (frames_changed (slice_get (reverse header.frames.items) h) key frame _ _ _ _ _ k.memory memory (frames_held header.size h past) (frames_held header.size h past + 1) (frames_wired h past) m.frames c (λ held. let more = c.claims in omega arith));
@@ -77,8 +79,9 @@ pub works_asked : (header : Header) (h : ℕ) (past : List Event) (k : Parts) (i
 works_asked header h past k ids w key object access frame memory waits2 works is now referred place known ready live c plan put =
     let m = matches_asked header h k ids past key object.control access frame memory works.matches live c plan in
     record {
-      matches = matches_with memory.queues memory.buffers waits2 m.fits.parts refl m;
-      used = works.used;
+      matches = matches_with memory.queues memory.buffers waits2 (fills_turned w.task.0 w (on.Page key) k.waits.rows waits2.rows is put.entry) m.fits.parts refl m;
+      used = used_turned w.task.0 w (on.Page key) k.waits.rows waits2.rows
+          (used_page key.object.0 key.page.0 _ k.memory.resident memory.resident works.used (place_unfilled header.size w.task.0 w.want key k.maps k.chains [] works.matches.entries place) c.row) is put.entry;
       referred = page_referred key frame _ _ _ _ _ k memory c plan referred (λ row same. inl (ap (λ (z : PageRow). z.lock) (sym (some_is _ row same)))) works.referred;
       waits = subst (λ (z : ObjectTable). HasWaiters k.maps k.chains memory.resident z waits2.rows (is_woken woken.Nobody) (λ u. waiting u past)) (sym plan.objects)
           (waiters_asked k.maps k.chains k.memory.resident memory.resident k.memory.objects k.waits.rows waits2.rows (λ u. waiting u past) w.task.0 w key _ works.waits is (asks_none_now k w.on now) place (none_unawaited _ c.found) c.row
@@ -91,8 +94,8 @@ pub works_turned : (header : Header) (h : ℕ) (past : List Event) (k : Parts) (
     → Reason k.maps k.chains k.memory.resident k.memory.objects w.task.0 w.want reason → PutsInOrder w.task.0 (Some (with_on w reason)) k.waits.rows waits2.rows → Works header h (record k { waits = waits2 }) ids woken.Nobody past
 works_turned header h past k ids w reason waits2 works is now holds put =
     record {
-      matches = matches_with k.memory.queues k.memory.buffers waits2 works.matches.fits.parts refl works.matches;
-      used = works.used;
+      matches = matches_with k.memory.queues k.memory.buffers waits2 (fills_turned w.task.0 w reason k.waits.rows waits2.rows is put.entry) works.matches.fits.parts refl works.matches;
+      used = used_turned w.task.0 w reason k.waits.rows waits2.rows works.used is put.entry;
       referred = works.referred;
       waits = waiters_turned k.maps k.chains k.memory.resident k.memory.objects k.waits.rows waits2.rows (λ u. waiting u past) w.task.0 w reason works.waits is (asks_none_now k w.on now) put.entry holds;
       order = put.order.keeps (λ u. begun_at u past) 0 works.order;

@@ -1,7 +1,9 @@
 -- An access is run: what holds after each thing that it may come to.
-use Rattle.vm_kernel.proofs.Common.{Bool, Command, Event, Header, HostId, HostParts, Ids, IfSome, IsAt, JoinsQueue, LegalEvents, List, Matches, None, ObjectId, Option, Outside, PageKey, PageRow, Parts, RegionRow, Some, Up, WaitTable, Waiting, Want, Wants, WantsFrame, Works, [], access_in, address_in, ap, append_assoc, claimed, clean_row, count_again, entry, entry_at, false, free, host_id, if◌then◌else◌, inl, inr, named, one_again, one_frame, page_at, page_of, queued, refl, region_at, row_put, rows_in, some_is, subst, suc, sym, true, unlocked, with_on, zero, ℕ, ◌%◌, ◌&&◌, ◌++◌, ◌+◌, ◌-◌, ◌∙◌, ◌∷◌, ◌≡◌, ◌≤◌, ◌⊎◌}
+use Rattle.vm_kernel.proofs.Common.{Bool, Command, Event, Header, HostId, HostParts, Ids, IfSome, IsAt, IsOfNumber, JoinsQueue, LegalEvents, List, Matches, None, ObjectId, Option, Outside, PageKey, PageRow, Parts, RegionRow, Some, Up, WaitTable, Waiting, Want, Wants, WantsFrame, Works, [], access_in, address_in, ap, append_assoc, claimed, clean_row, count_again, entry, entry_at, false, free, host_id, if◌then◌else◌, inl, inr, named, one_again, one_frame, page_at, page_of, queued, refl, region_at, row_put, rows_in, some_is, subst, suc, sym, true, unlocked, with_on, zero, ℕ, ◌%◌, ◌&&◌, ◌++◌, ◌+◌, ◌-◌, ◌∙◌, ◌∷◌, ◌≡◌, ◌≤◌, ◌⊎◌}
+use Rattle.vm_kernel.proofs.Filled.{at_unfilled, entry_some}
+use Rattle.vm_state.proofs.Places.{on_its_region}
 use Rattle.vm_base.specs.declared.entry.Entry.{Entry}
-use Rattle.vm_fault.specs.Faults.{AfterZeros, AsksUnlock, AtOnce, Ended, FaultState, Faulted, Hits, Needs, NothingChanges, Nowhere, Prepares, Raised, RequestsPage, ToAsk, ToRaise}
+use Rattle.vm_fault.specs.Faults.{AfterZeros, AsksUnlock, AtOnce, Copied, Ended, FaultState, Faulted, Hits, Needs, NothingChanges, Nowhere, Prepares, Raised, RequestsPage, ToAsk, ToCopy, ToRaise}
 use Rattle.vm_fault.specs.Walks.{Finds, PassesOver, Sinks, StopsAsked, WalksTo, is_storing, keeps_out, top_place, wanted_number, writes_at}
 use Rattle.vm_fault.specs.declared.step.FaultStep.{FaultStep}
 use Rattle.vm_fault.specs.declared.step.FaultStep.TheVariants as step
@@ -10,6 +12,7 @@ use Rattle.vm_kernel.proofs.Asking.{works_asked, works_joined, works_turned}
 use Rattle.vm_kernel.proofs.Follows.{comes_at, loaded_follows, raised_follows, request_follows, shadowed_follows, stored_follows, zeroed_follows}
 use Rattle.vm_kernel.proofs.Growing.{goes_both, goes_none, goes_one, suffices}
 use Rattle.vm_kernel.proofs.Leading.{Leads, it_waits, leads_of, top_at}
+use Rattle.vm_kernel.proofs.Numbers.{no_copy}
 use Rattle.vm_kernel.proofs.Ordering.{PutsInOrder}
 use Rattle.vm_kernel.proofs.Own.{named_host, own_host}
 use Rattle.vm_kernel.proofs.Shadows.{works_shadowed}
@@ -66,6 +69,7 @@ pub record IsStore (what : Want) : Type 0 where
 
 pub store_of : (what : Want) → is_storing what ≡ true → IsStore what
 store_of (want.Load address size) stores = absurd (let bad : false ≡ true = stores in cc)
+store_of (want.CopyTo address pages target next) stores = absurd (let bad : false ≡ true = stores in cc)
 store_of (want.Store address size value) stores = record { address = address; size = size; value = value; is = refl }
 
 -- it ends with a page that is here
@@ -106,12 +110,13 @@ hit_store header h outside doing past k ids w top events row address size number
     })
 
 hit : (header : Header) (h : ℕ) (outside : Outside) (doing : Command) (past : List Event) (k : Parts) (ids : Ids) (w : Waiting) (top : PageKey) (events : List Event) (steps : ℕ) (key : PageKey) (row : PageRow) (value : ℕ) (e : Event) (m2 : HostParts) (waits2 : WaitTable)
-    → Tries header h (events ++ past) k ids w top → Finds k.memory k.chains steps top key row → (is_storing w.want ≡ true → steps ≡ 0) → keeps_out row.lock (writes_at w.want steps) ≡ false → Hits w.task w.want key row.frame (address_in w.want % header.size) value e k.memory m2
+    → Tries header h (events ++ past) k ids w top → Finds k.memory k.chains steps top key row → (is_storing w.want ≡ true → steps ≡ 0) → keeps_out row.lock (writes_at w.want steps) ≡ false → Hits w.task w.want key row.frame (address_in k.maps.size w.want % header.size) value e k.memory m2
     → PutsInOrder w.task.0 None k.waits.rows waits2.rows → Reaches header h outside doing past events (record k { memory = m2; waits = waits2 }) ids (e ∷ events)
 hit header h outside doing past k ids w top events steps key row value e m2 waits2 t finds none out hits put =
     by w.want refl hits
   where
-    by : (what : Want) → w.want ≡ what → Hits w.task what key row.frame (address_in what % header.size) value e k.memory m2 → Reaches header h outside doing past events (record k { memory = m2; waits = waits2 }) ids (e ∷ events)
+    by : (what : Want) → w.want ≡ what → Hits w.task what key row.frame (address_in k.maps.size what % header.size) value e k.memory m2 → Reaches header h outside doing past events (record k { memory = m2; waits = waits2 }) ids (e ∷ events)
+    by (want.CopyTo address pages target next) is hits2 = absurd hits2
     by (want.Load address size) is hits2 = hit_load header h outside doing past k ids w top events steps key row address size value e m2 waits2 t is finds (subst (λ (z : Want). keeps_out row.lock (writes_at z steps) ≡ false) is out) hits2 put
     by (want.Store address size number) is hits2 =
         let there : Finds k.memory k.chains 0 top key row = subst (λ (z : ℕ). Finds k.memory k.chains z top key row) (none (ap is_storing is)) finds in
@@ -151,7 +156,7 @@ top_temporary header h past k ids w top t sinks = elim (over.none) [
 
 -- it ends with its page, after a copy or zeros came, or at once
 ended : (header : Header) (h : ℕ) (outside : Outside) (doing : Command) (past : List Event) (k : Parts) (ids : Ids) (w : Waiting) (top : PageKey) (events : List Event) (value : ℕ) (m2 : HostParts) (after : List Event) (waits2 : WaitTable)
-    → Tries header h (events ++ past) k ids w top → Ended (host_id h) w.task w.want top (address_in w.want % header.size) value k.memory m2 k.chains events after
+    → Tries header h (events ++ past) k ids w top → Ended (host_id h) w.task w.want top (address_in k.maps.size w.want % header.size) value k.memory m2 k.chains events after
     → PutsInOrder w.task.0 None k.waits.rows waits2.rows → Reaches header h outside doing past events (record k { memory = m2; waits = waits2 }) ids after
 ended header h outside doing past k ids w top events value m2 after waits2 t (AtOnce steps key row finds none out e hits told) put =
     subst (λ (z : List Event). Reaches header h outside doing past events (record k { memory = m2; waits = waits2 }) ids z) (sym told) (hit header h outside doing past k ids w top events steps key row value e m2 waits2 t finds none out hits put)
@@ -161,7 +166,7 @@ ended header h outside doing past k ids w top events value m2 after waits2 t (Ra
     let to = leads_there header h moment k ids w top t in
     let s = shown_at t.works.matches in
     let store = store_of w.want stores in
-    let works1 = works_raised header h moment k ids key top row frame copied t.works to.referred finds.found finds.here raises keeps in
+    let works1 = works_raised header h moment k ids key top row frame copied t.works (at_unfilled header.size w.task.0 w.want top k.maps k.chains [] t.works.matches.entries t.at) to.referred finds.found finds.here raises keeps in
     let t1 = tries_on header h moment (raised ∷ moment) k ids w top copied t works1 in
     let one = goes_one header h outside doing past events raised t.works.matches.settled
     (raised_follows header h outside doing moment k w.task.0 w.want top t.at store.address store.size store.value steps key row to s store.is (t.clear stores) finds out
@@ -179,7 +184,7 @@ ended header h outside doing past k ids w top events value m2 after waits2 t (Af
     let zeros : Event = event.Zeroed (host_id h) top.object top.page in
     let to = leads_there header h moment k ids w top t in
     let s = shown_at t.works.matches in
-    let works1 = works_zeroed header h moment k ids top frame brought t.works to.referred brings keeps in
+    let works1 = works_zeroed header h moment k ids top frame brought t.works (at_unfilled header.size w.task.0 w.want top k.maps k.chains [] t.works.matches.entries t.at) to.referred brings keeps in
     let t1 = tries_on header h moment (zeros ∷ moment) k ids w top brought t works1 in
     let one = goes_one header h outside doing past events zeros t.works.matches.settled
     (zeroed_follows header h outside doing moment k w.task.0 w.want top t.at (top_temporary header h moment k ids w top t sinks) to s t.clear sinks (suffices header h brought.frames (zeros ∷ moment) works1.matches.frames)) in
@@ -188,6 +193,8 @@ ended header h outside doing past k ids w top events value m2 after waits2 t (Af
     let two = hit header h outside doing past (record k { memory = brought }) ids w top (zeros ∷ events) 0 top row2 value e m2 waits2 t1 there (λ is. refl) (plain_open row2.lock (writes_at w.want 0) refl) hits put in
     subst (λ (z : List Event). Reaches header h outside doing past events (record k { memory = m2; waits = waits2 }) ids z) (sym told)
     (record { works = two.works; goes = goes_both header h outside doing past events (zeros ∷ events) (e ∷ zeros ∷ events) one two.goes })
+ended header h outside doing past k ids w top events value m2 after waits2 t (Copied address pages next target is steps key row finds out is_none copies) put =
+    absurd (subst IsOfNumber is (t.works.waits.numbers w.task.0 w t.is))
 
 -- a place to which its walk leads is one of its places
 abbrev place_of_walk : (k : Parts) (w : Waiting) (top key : PageKey) (steps : ℕ) → IsAt k.maps k.chains w.task.0 w.want top → WalksTo k.memory k.chains steps top key → IsPlaceOf k.maps k.chains w.task.0 w.want key
@@ -248,7 +255,7 @@ not_both true b is one = is
 not_both false b is one = absurd (let bad : false ≡ true = one in cc)
 
 -- the row of the region of an access
-its_mark : (k : Parts) (chains : ChainTable) (w : Waiting) (top : PageKey) (row2 : RegionRow) (found_entry : Entry) (at : IsAt k.maps chains w.task.0 w.want top) → entry_at (address_in w.want) (rows_in w.task.0 k.maps) ≡ Some found_entry
+its_mark : (k : Parts) (chains : ChainTable) (w : Waiting) (top : PageKey) (row2 : RegionRow) (found_entry : Entry) (at : IsAt k.maps chains w.task.0 w.want top) → entry_at (address_in k.maps.size w.want) (rows_in w.task.0 k.maps) ≡ Some found_entry
     → region_at chains found_entry.region.0 ≡ Some row2 → row2.marked ≡ false → at.row.marked ≡ false
 its_mark k chains w top row2 found_entry at found region clear =
     let same : at.entry ≡ found_entry = some_is at.entry found_entry (sym at.found ∙ found) in
@@ -276,10 +283,10 @@ prepared header h outside doing past k ids w may answer events new works is now 
     by true test made =
         let both = and_parts (is_storing w.want) f.row.marked test in
         let store = store_of w.want both.0 in
-        let before : PageKey = top_place f.row (page_at k.maps.size (address_in w.want) f.entry) in
+        let before : PageKey = top_place f.row (page_at k.maps.size (address_in k.maps.size w.want) f.entry) in
         let at : IsAt k.maps k.chains w.task.0 w.want before = record { entry = f.entry; found = f.found; row = f.row; region = f.region; is = refl } in
         let shadow : Event = event.Shadowed f.entry.region made.object f.row.top in
-        let works1 = works_shadowed header h moment k ids f.entry.region f.row (state_of k ids events) f.mid works refl refl refl f.region both.1 made in
+        let works1 = works_shadowed header h moment k ids f.entry.region f.row (state_of k ids events) f.mid works refl refl refl f.region (entry_some header.size f.entry.region.0 w.task.0 k.maps k.chains [] f.row works.matches.entries f.region (on_its_region (address_in k.maps.size w.want) (rows_in w.task.0 k.maps) f.entry f.found)) both.1 made in
         let to = leads_of header h k ids moment woken.Nobody w.task.0 w before works.matches works.waits is at in
         let follows = shadowed_follows header h outside doing moment k ids w.task w.want before at made.object store.address store.size store.value works.matches to store.is both.1 made.next
         (suffices header h f.mid.parts.frames (shadow ∷ moment) works1.matches.frames) in
@@ -330,7 +337,7 @@ pub done_reaches : (header : Header) (h : ℕ) (outside : Outside) (doing : Comm
     → PutsInOrder w.task.0 None k.waits.rows waits2.rows → Reaches header h outside doing past events (record (with_state k new) { waits = waits2 }) new.ids new.events
 done_reaches header h outside doing past k ids w may value events new waits2 works is now f put =
     let p = prepared header h outside doing past k ids w may (step.Done value) events new works is now f in
-    let address = address_in w.want in
+    let address = address_in k.maps.size w.want in
     let named = subst (λ (z : HostId). Ended z w.task w.want f.top (address % k.memory.buffers.size) value f.mid.parts new.parts f.mid.chains f.mid.events new.events) (named_host k.host h works.matches.host) f.comes in
     let sized = subst (λ (z : ℕ). Ended (host_id h) w.task w.want f.top (address % z) value f.mid.parts new.parts f.mid.chains f.mid.events new.events) (works.matches.fits.buffers ∙ works.matches.size) named in
     settle header h outside doing past k events f.mid new waits2 p.goes (ended header h outside doing past (with_state k f.mid) f.mid.ids w f.top f.mid.events value new.parts new.events waits2 p.tries sized put) f.chains f.ids
@@ -412,36 +419,35 @@ still_reaches header h outside doing past k ids w may source events new works is
 -- the access wants a frame
 
 -- why
-frame_why : (header : Header) (h : ℕ) (past : List Event) (k : Parts) (ids : Ids) (w : Waiting) (top : PageKey) {source : Option PageKey} → (t : Tries header h past k ids w top) → Needs w.want top k.memory k.chains source
-    → WantsFrame header h w.task.0 (access_in w.want) t.at.entry.region.0 (page_of header w.task.0 (access_in w.want) past t.at.entry) past
-frame_why header h past k ids w top t (Nowhere sinks) =
-    let to = leads_there header h past k ids w top t in
+frame_why : (header : Header) (h : ℕ) (past : List Event) (k : Parts) (ids : Ids) (w : Waiting) (top : PageKey) {source : Option PageKey} → (t : Tries header h past k ids w top) → (to : Leads header h past k w.task.0 w.want top t.at) → Needs w.want top k.memory k.chains source
+    → WantsFrame header h w.task.0 (access_in k.maps.size to.destination w.want) t.at.entry.region.0 (page_of header w.task.0 (access_in k.maps.size to.destination w.want) past t.at.entry) past
+frame_why header h past k ids w top t to (Nowhere sinks) =
     legal.Nowhere top.object.0 top.page.0 sinks.steps (top_at header h past k w.task.0 w.want top t.at to) (sinks_of (shown_at t.works.matches) top to.referred sinks)
-frame_why header h past k ids w top t (ToAsk steps key object comes ready) =
-    let to = leads_there header h past k ids w top t in
+frame_why header h past k ids w top t to (ToCopy steps key row finds copying out) = absurd (no_copy w.want to.number copying)
+frame_why header h past k ids w top t to (ToAsk steps key object comes ready) =
     let s = shown_at t.works.matches in
     let may = may_ask s steps top key object comes ready in
     legal.Elsewhere key.object.0 key.page.0 (comes_at header h past k w.task.0 w.want top t.at to s steps key comes.walks) may.away may.unasked may.may_have may.ready
-frame_why header h past k ids w top t (ToRaise steps key row finds stores out) =
-    let to = leads_there header h past k ids w top t in
+frame_why header h past k ids w top t to (ToRaise steps key row finds stores out) =
     let s = shown_at t.works.matches in
     legal.Raises top.object.0 top.page.0 steps key.object.0 key.page.0 (top_at header h past k w.task.0 w.want top t.at to) (walks_of s (suc steps) top key finds.walks) (shows_row s key.object.0 key.page.0 row finds.found finds.here).here
-    (storing_is w.want ∙ stores)
+    (storing_is k.maps.size to.destination w.want ∙ stores)
 
 -- and what it is to copy
 frame_source : (header : Header) (h : ℕ) (past : List Event) (k : Parts) (ids : Ids) (w : Waiting) (top : PageKey) {source : Option PageKey} → Tries header h past k ids w top → Needs w.want top k.memory k.chains source → IsToCopy header h k source past
 frame_source header h past k ids w top t (Nowhere sinks) = tt
+frame_source header h past k ids w top t (ToCopy steps key row finds copying out) = absurd (no_copy w.want (t.works.waits.numbers w.task.0 w t.is) copying)
 frame_source header h past k ids w top t (ToAsk steps key object comes ready) = tt
 frame_source header h past k ids w top t (ToRaise steps key row finds stores out) =
     let to = leads_there header h past k ids w top t in
     let s = shown_at t.works.matches in (
       record {
         task = w.task.0;
-        access = access_in w.want;
+        access = access_in k.maps.size to.destination w.want;
         waits = it_waits header h past k w.task.0 w.want top t.at to;
         on_host = refl;
         comes = comes_at header h past k w.task.0 w.want top t.at to s (suc steps) key finds.walks;
-        wants = frame_why header h past k ids w top t (ToRaise steps key row finds stores out);
+        wants = frame_why header h past k ids w top t to (ToRaise steps key row finds stores out);
       },
       (row, finds.found, finds.here),
     )
@@ -459,7 +465,7 @@ queues_of header h outside doing past k ids w may source events new waits2 works
     let same = f.comes.2 in
     let to = leads_there header h moment mid f.mid.ids w f.top t in
     let wants : (wants : Wants header h moment) × (wants.task ≡ w.task.0) =
-    (record { task = w.task.0; access = access_in w.want; waits = it_waits header h moment mid w.task.0 w.want f.top t.at to; on_host = refl; frame = frame_why header h moment mid f.mid.ids w f.top t f.comes.0 }, refl) in
+    (record { task = w.task.0; access = access_in k.maps.size to.destination w.want; waits = it_waits header h moment mid w.task.0 w.want f.top t.at to; on_host = refl; frame = frame_why header h moment mid f.mid.ids w f.top t to f.comes.0 }, refl) in
     let later = subst (λ (z : List Event). (wants : Wants header h (z ++ past)) × (wants.task ≡ w.task.0)) (sym same.told) wants in
     let copies = frame_source header h moment mid f.mid.ids w f.top t f.comes.0 in
     let here = subst (λ (z : HostParts). IsToCopy header h (record mid { memory = z }) source moment) (sym same.parts) copies in

@@ -1,7 +1,10 @@
 -- A load or store begins: its task waits, and the access is to be run.
-use Rattle.vm_kernel.proofs.Common.{Access, Asker, BeganInOrder, Bool, ChainTable, Code, Command, EndsNext, Entry, Event, FindsPage, Grows, HasWaiters, Header, Ids, IsAllowed, IsDone, IsLined, IsNextAccess, IsSizedWant, LegalEvents, List, Mapped, Matches, None, ObjectTable, Option, Outside, Parts, PutsEntry, Ran, Reason, ResidentTable, Rests, RunsFirst, Some, Starts, TaskId, WaitTable, Waiting, Want, Works, [], access_in, access_refusal, acting, acts_on, address_in, allows, ap, arith, begun_at, code_where, count_again, entries_in, entries_of, entry, entry_at, eqb_tells, false, host_of, if◌then◌else◌, inl, inr, is_none, is_some, is_woken, length, lives_on, need_in, none_again, not, puts_cases, puts_elsewhere, refl, refusal, rows_in, subst, sym, true, waiting, waiting_in, ℕ, ◌%◌, ◌++◌, ◌+◌, ◌<◌, ◌==◌, ◌∙◌, ◌∷◌, ◌≡◌}
+use Rattle.vm_kernel.proofs.Common.{Access, AllUsed, Asker, BeganInOrder, Bool, ChainTable, Code, Command, EndsNext, Entry, Event, FindsPage, Grows, HasWaiters, Header, Ids, IsAllowed, IsDone, IsLined, IsNextAccess, IsOfNumber, IsSizedWant, LegalEvents, List, Mapped, Matches, None, ObjectTable, Option, Outside, Parts, PutsEntry, Ran, Reason, ResidentTable, Rests, RunsFirst, Some, Starts, TaskId, WaitTable, Waiting, Want, Works, [], access_in, access_refusal, acting, acts_on, address_in, allows, ap, arith, begun_at, code_where, copy_target, count_again, entries_in, entries_of, entry, entry_at, eqb_tells, false, fills_in, host_of, if◌then◌else◌, inl, inr, is_none, is_some, is_woken, length, lives_on, need_in, next_page, none_again, not, puts_cases, puts_elsewhere, refl, refusal, rows_in, some_is, subst, sym, true, waiting, waiting_in, ℕ, ◌%◌, ◌++◌, ◌+◌, ◌<◌, ◌==◌, ◌∙◌, ◌∷◌, ◌≡◌}
+use Rattle.vm_state.proofs.Filling.{SameFills, copies_put, fills_put, regions_filled, uses_refilled}
+use Rattle.vm_state.specs.Filling.{FitsCopy}
 use Rattle.vm_base.specs.declared.code.Code.TheVariants as code
 use Rattle.vm_base.specs.declared.ids.Access.{Access as Need}
+use Rattle.vm_base.specs.declared.ids.Access.TheVariants as need
 use Rattle.vm_model.specs.declared.event.Event.TheVariants as event
 use Rattle.vm_model.specs.declared.command.Command.TheVariants as command
 use Rattle.vm_supply.specs.declared.woken.Woken.TheVariants as woken
@@ -68,42 +71,56 @@ fine_of header h k ids past task address n need m here fine =
           };
     }
 
--- the command that asks for an access, and the event of its beginning
+-- a load or a store
 
-abbrev pub asks : TaskId → Want → Command
-asks task (want.Load address size) = command.Load task address size
-asks task (want.Store address size value) = command.Store task address size value
+pub data Number : Type 0 where
+  Loads : (address size : ℕ) → Number
+  Stores : (address size value : ℕ) → Number
 
-abbrev pub begun : TaskId → Want → Event
-begun task (want.Load address size) = event.BegunLoad task address size
-begun task (want.Store address size value) = event.BegunStore task address size value
+abbrev pub want_of : Number → Want
+want_of (Loads address size) = want.Load address size
+want_of (Stores address size value) = want.Store address size value
+
+of_number : (what : Number) → IsOfNumber (want_of what)
+of_number (Loads address size) = tt
+of_number (Stores address size value) = tt
+
+-- the command that asks for it, and the event of its beginning
+
+abbrev pub asks : TaskId → Number → Command
+asks task (Loads address size) = command.Load task address size
+asks task (Stores address size value) = command.Store task address size value
+
+abbrev pub begun : TaskId → Number → Event
+begun task (Loads address size) = event.BegunLoad task address size
+begun task (Stores address size value) = event.BegunStore task address size value
 
 -- the row of an access that is to be run
-abbrev pub begun_row : TaskId → Want → Waiting
-begun_row task what = record { task = task; want = what; on = on.Again }
+abbrev pub begun_row : TaskId → Number → Waiting
+begun_row task what = record { task = task; want = want_of what; on = on.Again; destination = None }
 
 -- what is known of an access that begins
-pub record CanBegin (k : Parts) (past : List Event) (task : ℕ) (what : Want) : Type 0 where
+pub record CanBegin (k : Parts) (past : List Event) (task : ℕ) (what : Number) : Type 0 where
   pub idle : is_some (waiting task past) ≡ false
-  pub allowed : IsAllowed k.maps task (address_in what) (need_in what)
-  pub sized : IsSizedWant what
+  pub allowed : IsAllowed k.maps task (address_in k.maps.size (want_of what)) (need_in (want_of what))
+  pub sized : IsSizedWant k.maps.size (want_of what)
 
-pub can_begin : (header : Header) (h : ℕ) (task : TaskId) (what : Want) (past : List Event) (k : Parts) (ids : Ids) (before : List Event) → Starts header h (asks task what) past k ids before → CanBegin k past task.0 what
-can_begin header h task (want.Load address size) past k ids before s =
-    let fine = fine_of header h k ids past task.0 address size (need_in (want.Load address size)) s.rests.matches s.acts s.accepted in
+pub can_begin : (header : Header) (h : ℕ) (task : TaskId) (what : Number) (past : List Event) (k : Parts) (ids : Ids) (before : List Event) → Starts header h (asks task what) past k ids before → CanBegin k past task.0 what
+can_begin header h task (Loads address size) past k ids before s =
+    let fine = fine_of header h k ids past task.0 address size need.Load s.rests.matches s.acts s.accepted in
     record { idle = fine.idle; allowed = fine.allowed; sized = (s.range.size, fine.even) }
-can_begin header h task (want.Store address size value) past k ids before s =
-    let fine = fine_of header h k ids past task.0 address size (need_in (want.Store address size value)) s.rests.matches s.acts s.accepted in
+can_begin header h task (Stores address size value) past k ids before s =
+    let fine = fine_of header h k ids past task.0 address size need.Store s.rests.matches s.acts s.accepted in
     record { idle = fine.idle; allowed = fine.allowed; sized = (s.range.0.size, fine.even, s.range.1) }
 
-pub absent_row : (header : Header) (h : ℕ) (task : TaskId) (what : Want) (past : List Event) (k : Parts) (ids : Ids) (before : List Event) → Starts header h (asks task what) past k ids before → entry k.waits.rows task.0 ≡ None
-absent_row header h task what past k ids before s = idle_of (entry k.waits.rows task.0) (waiting task.0 past) (s.rests.waits.is task.0 (ap is_some (can_begin header h task what past k ids before s).allowed.lives)) (can_begin header h task what past k ids before s).idle
+pub absent_row : (header : Header) (h : ℕ) (task : TaskId) (what : Number) (past : List Event) (k : Parts) (ids : Ids) (before : List Event) → Starts header h (asks task what) past k ids before → entry k.waits.rows task.0 ≡ None
+absent_row header h task what past k ids before s = idle_of k.maps.size (entry k.waits.rows task.0) (waiting task.0 past) (s.rests.waits.is task.0 (ap is_some (can_begin header h task what past k ids before s).allowed.lives)) (can_begin header h task what past k ids before s).idle
 
 -- the history in which an access has begun
-begun_matches : (header : Header) (h : ℕ) (k : Parts) (ids : Ids) (past : List Event) (waits : WaitTable) (task : TaskId) (what : Want) (rows : List Entry) → Matches header h k ids [] past → entries_in task.0 k.maps ≡ Some rows
+begun_matches : (header : Header) (h : ℕ) (k : Parts) (ids : Ids) (past : List Event) (waits : WaitTable) (task : TaskId) (what : Number) (rows : List Entry) → SameFills k.waits.rows waits.rows → Matches header h k ids [] past → entries_in task.0 k.maps ≡ Some rows
     → Matches header h (record k { waits = waits }) ids [] (begun task what ∷ past)
-begun_matches header h k ids past waits task (want.Load address size) rows m lives =
-    let leaves : Leaves header past (begun task (want.Load address size) ∷ past) = record { regions_made = refl; objects_made = refl; region = λ r. refl; backing = λ o. refl; home = λ r. refl; made_for = λ o. refl; used = λ g r. refl; target = λ task. refl } in
+begun_matches header h k ids past waits task (Loads address size) rows same m lives =
+    let leaves : Leaves header past (begun task (Loads address size) ∷ past) = record { regions_made = refl; objects_made = refl; region = λ r. refl; backing = λ o. refl; home = λ r. refl; made_for = λ o. refl; used = λ g r. refl; target = λ task. refl } in
     record {
       ranged = m.ranged;
       declared = m.declared;
@@ -117,18 +134,18 @@ begun_matches header h k ids past waits task (want.Load address size) rows m liv
       regions = regions_after leaves m.regions;
       entries = m.entries;
       pages = m.pages;
-      uses = uses_still header k.maps _ _ _ _ _ m.uses (λ t r none. holds_waits header.size task.0 t r k.maps rows past _ lives none);
+      uses = uses_refilled k.waits.rows waits.rows same (uses_still header k.maps _ _ _ _ _ m.uses (λ t r none. holds_waits header.size task.0 t r k.maps rows past _ lives none));
       controls = controls_after leaves m.controls;
       homeless = homeless_after leaves m.homeless;
       homes = m.homes;
       files = m.files;
-      settled = record { returned = refl; shut = λ region. refl };
+      settled = record { none_owed = refl; shut = λ region. refl };
       replied = replied_behind tt m.replied;
       laundry = m.laundry;
       frames = m.frames;
     }
-begun_matches header h k ids past waits task (want.Store address size value) rows m lives =
-    let leaves : Leaves header past (begun task (want.Store address size value) ∷ past) = record { regions_made = refl; objects_made = refl; region = λ r. refl; backing = λ o. refl; home = λ r. refl; made_for = λ o. refl; used = λ g r. refl; target = λ task. refl } in
+begun_matches header h k ids past waits task (Stores address size value) rows same m lives =
+    let leaves : Leaves header past (begun task (Stores address size value) ∷ past) = record { regions_made = refl; objects_made = refl; region = λ r. refl; backing = λ o. refl; home = λ r. refl; made_for = λ o. refl; used = λ g r. refl; target = λ task. refl } in
     record {
       ranged = m.ranged;
       declared = m.declared;
@@ -142,49 +159,52 @@ begun_matches header h k ids past waits task (want.Store address size value) row
       regions = regions_after leaves m.regions;
       entries = m.entries;
       pages = m.pages;
-      uses = uses_still header k.maps _ _ _ _ _ m.uses (λ t r none. holds_waits header.size task.0 t r k.maps rows past _ lives none);
+      uses = uses_refilled k.waits.rows waits.rows same (uses_still header k.maps _ _ _ _ _ m.uses (λ t r none. holds_waits header.size task.0 t r k.maps rows past _ lives none));
       controls = controls_after leaves m.controls;
       homeless = homeless_after leaves m.homeless;
       homes = m.homes;
       files = m.files;
-      settled = record { returned = refl; shut = λ region. refl };
+      settled = record { none_owed = refl; shut = λ region. refl };
       replied = replied_behind tt m.replied;
       laundry = m.laundry;
       frames = m.frames;
     }
 
-begun_waiting : (task : TaskId) (what : Want) (past : List Event) (t : ℕ) → waiting t (begun task what ∷ past) ≡ (if task.0 == t then Some (access_in what) else waiting t past)
-begun_waiting task (want.Load address size) past t = refl
-begun_waiting task (want.Store address size value) past t = refl
+begun_waiting : (pages : ℕ) (task : TaskId) (what : Number) (past : List Event) (t : ℕ) → waiting t (begun task what ∷ past) ≡ (if task.0 == t then Some (access_in pages 0 (want_of what)) else waiting t past)
+begun_waiting pages task (Loads address size) past t = refl
+begun_waiting pages task (Stores address size value) past t = refl
 
-begun_when : (task : TaskId) (what : Want) (past : List Event) (t : ℕ) → begun_at t (begun task what ∷ past) ≡ (if task.0 == t then length past else begun_at t past)
-begun_when task (want.Load address size) past t = refl
-begun_when task (want.Store address size value) past t = refl
+begun_when : (task : TaskId) (what : Number) (past : List Event) (t : ℕ) → begun_at t (begun task what ∷ past) ≡ (if task.0 == t then length past else begun_at t past)
+begun_when task (Loads address size) past t = refl
+begun_when task (Stores address size value) past t = refl
 
 lined_below : (t : ℕ) (past : List Event) → IsLined past → begun_at t past < length past
 lined_below t past is = subst (λ (z : List Event). begun_at t z < length z) (sym is.is) (begun_below t (event.Line is.line) is.before)
 
-begun_grows : (header : Header) (h : ℕ) (outside : Outside) (k : Parts) (ids : Ids) (past : List Event) (task : TaskId) (what : Want) → Matches header h k ids [] past → refusal header past (asks task what) ≡ None → acts_on h (asks task what) past ≡ true → Grows header h outside (asks task what) past (begun task what ∷ [])
-begun_grows header h outside k ids past task (want.Load address size) m fine here =
+begun_grows : (header : Header) (h : ℕ) (outside : Outside) (k : Parts) (ids : Ids) (past : List Event) (task : TaskId) (what : Number) → Matches header h k ids [] past → refusal header past (asks task what) ≡ None → acts_on h (asks task what) past ≡ true → Grows header h outside (asks task what) past (begun task what ∷ [])
+begun_grows header h outside k ids past task (Loads address size) m fine here =
     grows_one header h outside (command.Load task address size) past (event.BegunLoad task address size) refl
     (record { settled = m.settled; cause = acts task.0 past _ fine; own_bytes = tt; frames = suffices header h k.memory.frames past m.frames; inner = tt; said = tt; own = own_task h task.0 past here; creates = tt })
-begun_grows header h outside k ids past task (want.Store address size value) m fine here =
+begun_grows header h outside k ids past task (Stores address size value) m fine here =
     grows_one header h outside (command.Store task address size value) past (event.BegunStore task address size value) refl
     (record { settled = m.settled; cause = acts task.0 past _ fine; own_bytes = tt; frames = suffices header h k.memory.frames past m.frames; inner = tt; said = tt; own = own_task h task.0 past here; creates = tt })
 
 -- a task that didn't wait waits with an access that is to be run
-pub waits_begun : (maps : Mapped) (chains : ChainTable) (resident : ResidentTable) (objects : ObjectTable) (rows new : List Waiting) (task : TaskId) (what : Want) (was : ℕ → Option Access) (now : ℕ → Option Access)
-    → HasWaiters maps chains resident objects rows (is_woken woken.Nobody) was → PutsEntry task.0 (Some (begun_row task what)) rows new → entry rows task.0 ≡ None → IsAllowed maps task.0 (address_in what) (need_in what) → IsSizedWant what
-    → ((t : ℕ) → now t ≡ (if task.0 == t then Some (access_in what) else was t)) → HasWaiters maps chains resident objects new (is_woken woken.Nobody) now
+pub waits_begun : (maps : Mapped) (chains : ChainTable) (resident : ResidentTable) (objects : ObjectTable) (rows new : List Waiting) (task : TaskId) (what : Number) (was : ℕ → Option Access) (now : ℕ → Option Access)
+    → HasWaiters maps chains resident objects rows (is_woken woken.Nobody) was → PutsEntry task.0 (Some (begun_row task what)) rows new → entry rows task.0 ≡ None → IsAllowed maps task.0 (address_in maps.size (want_of what)) (need_in (want_of what)) → IsSizedWant maps.size (want_of what)
+    → ((t : ℕ) → now t ≡ (if task.0 == t then Some (access_in maps.size 0 (want_of what)) else was t)) → HasWaiters maps chains resident objects new (is_woken woken.Nobody) now
 waits_begun maps chains resident objects rows new task what was now has puts none allowed sized is =
     record {
-      is = λ t here. is t ∙ (both (task.0 == t) t here ∙ ap waiting_in (sym (puts.at t)));
+      is = λ t here. is t ∙ (both (task.0 == t) t here ∙ ap (waiting_in maps.size) (sym (puts.at t)));
       allowed = λ t w found. puts_cases task.0 t (Some (begun_row task what)) rows new w puts found
-          (λ same row. subst (λ (z : Waiting). IsAllowed maps t (address_in z.want) (need_in z.want)) (some_is (begun_row task what) w row) (subst (λ (z : ℕ). IsAllowed maps z (address_in what) (need_in what)) same allowed))
+          (λ same row. subst (λ (z : Waiting). IsAllowed maps t (address_in maps.size z.want) (need_in z.want)) (some_is (begun_row task what) w row) (subst (λ (z : ℕ). IsAllowed maps z (address_in maps.size (want_of what)) (need_in (want_of what))) same allowed))
           (λ apart old. has.allowed t w old);
       sized = λ t w found. puts_cases task.0 t (Some (begun_row task what)) rows new w puts found
-          (λ same row. subst (λ (z : Waiting). IsSizedWant z.want) (some_is (begun_row task what) w row) sized)
+          (λ same row. subst (λ (z : Waiting). IsSizedWant maps.size z.want) (some_is (begun_row task what) w row) sized)
           (λ apart old. has.sized t w old);
+      numbers = λ t w found. puts_cases task.0 t (Some (begun_row task what)) rows new w puts found
+          (λ same row. subst (λ (z : Waiting). IsOfNumber z.want) (some_is (begun_row task what) w row) (of_number what))
+          (λ apart old. has.numbers t w old);
       reasons = λ t w found unwoken. puts_cases task.0 t (Some (begun_row task what)) rows new w puts found
           (λ same row. subst (λ (z : Waiting). Reason maps chains resident objects t z.want z.on) (some_is (begun_row task what) w row) tt)
           (λ apart old. has.reasons t w old unwoken);
@@ -198,7 +218,7 @@ waits_begun maps chains resident objects rows new task what was now has puts non
     some_is : (x y : Waiting) → Some x ≡ Some y → x ≡ y
     some_is x y e = cc
 
-    both : (b : Bool) (t : ℕ) → is_some (entries_in t maps) ≡ true → (if b then Some (access_in what) else was t) ≡ waiting_in (if b then Some (begun_row task what) else entry rows t)
+    both : (b : Bool) (t : ℕ) → is_some (entries_in t maps) ≡ true → (if b then Some (access_in maps.size 0 (want_of what)) else was t) ≡ waiting_in maps.size (if b then Some (begun_row task what) else entry rows t)
     both true t here = refl
     both false t here = has.is t here
 
@@ -211,30 +231,48 @@ waits_begun maps chains resident objects rows new task what was now has puts non
           waits = asker.waits;
         }
 
-begun_log : (task : TaskId) (what : Want) (before log : List Event) → before ≡ [] → log ≡ begun task what ∷ before → log ≡ begun task what ∷ []
+-- a load or a store that begins fills nothing
+begun_fills : (rows new : List Waiting) (task : TaskId) (what : Number) → PutsEntry task.0 (Some (begun_row task what)) rows new → entry rows task.0 ≡ None → SameFills rows new
+begun_fills rows new task what puts none = fills_put task.0 (Some (begun_row task what)) rows new puts (λ r. sym (ap (fills_in r) none))
+
+used_begun : (header : Header) (maps : Mapped) (cs : ChainTable) (rs : ResidentTable) (past : List Event) (rows new : List Waiting) (task : TaskId) (what : Number) → AllUsed header maps cs rs rows (λ t. next_page t past) (λ t. copy_target t past) → PutsEntry task.0 (Some (begun_row task what)) rows new → entry rows task.0 ≡ None
+    → AllUsed header maps cs rs new (λ t. next_page t (begun task what ∷ past)) (λ t. copy_target t (begun task what ∷ past))
+used_begun header maps cs rs past rows new task (Loads address size) used puts none =
+    record {
+      regions = regions_filled cs rows new (begun_fills rows new task (Loads address size) puts none) used.regions;
+      copies = copies_put task.0 (Some (begun_row task (Loads address size))) rows new used.copies puts (λ r. sym (ap (fills_in r) none)) (λ w is. subst (λ (z : Waiting). FitsCopy header maps cs rs task.0 z.want z.destination (next_page task.0 past) (copy_target task.0 past)) (some_is (begun_row task (Loads address size)) w is) refl);
+    }
+used_begun header maps cs rs past rows new task (Stores address size value) used puts none =
+    record {
+      regions = regions_filled cs rows new (begun_fills rows new task (Stores address size value) puts none) used.regions;
+      copies = copies_put task.0 (Some (begun_row task (Stores address size value))) rows new used.copies puts (λ r. sym (ap (fills_in r) none)) (λ w is. subst (λ (z : Waiting). FitsCopy header maps cs rs task.0 z.want z.destination (next_page task.0 past) (copy_target task.0 past)) (some_is (begun_row task (Stores address size value)) w is) refl);
+    }
+
+begun_log : (task : TaskId) (what : Number) (before log : List Event) → before ≡ [] → log ≡ begun task what ∷ before → log ≡ begun task what ∷ []
 begun_log task what before log none told = told ∙ ap (λ (z : List Event). begun task what ∷ z) none
 
-pub begun_works : (header : Header) (h : ℕ) (doing : Command) (task : TaskId) (what : Want) (past : List Event) (k : Parts) (ids : Ids) (before log : List Event) (reserved waits : WaitTable) → doing ≡ asks task what → Starts header h doing past k ids before
+pub begun_works : (header : Header) (h : ℕ) (doing : Command) (task : TaskId) (what : Number) (past : List Event) (k : Parts) (ids : Ids) (before log : List Event) (reserved waits : WaitTable) → doing ≡ asks task what → Starts header h doing past k ids before
     → log ≡ begun task what ∷ before → reserved.rows ≡ k.waits.rows → PutsEntry task.0 (Some (begun_row task what)) reserved.rows waits.rows
     → waits.rows ≡ reserved.rows ++ begun_row task what ∷ [] → Works header h (record k { waits = waits }) ids woken.Nobody (log ++ past)
 begun_works header h doing task what past k ids before log reserved waits is starts told same puts pushed =
     let s : Starts header h (asks task what) past k ids before = subst (λ (z : Command). Starts header h z past k ids before) is starts in
     let can = can_begin header h task what past k ids before s in
     let puts_here : PutsEntry task.0 (Some (begun_row task what)) k.waits.rows waits.rows = subst (λ (z : List Waiting). PutsEntry task.0 (Some (begun_row task what)) z waits.rows) same puts in
+    let absent = absent_row header h task what past k ids before s in
     let order : BeganInOrder (λ t. begun_at t (begun task what ∷ past)) 0 waits.rows =
     subst (λ (z : List Waiting). BeganInOrder (λ t. begun_at t (begun task what ∷ past)) 0 z) (sym (pushed ∙ ap (λ z. z ++ begun_row task what ∷ []) same))
     (begun_order (λ t. begun_at t past) (λ t. begun_at t (begun task what ∷ past)) (begun_row task what) (length past) 0 k.waits.rows (absent_row header h task what past k ids before s) (begun_when task what past) (λ t. lined_below t past s.begins) (omega arith) s.rests.order) in
     subst (λ (z : List Event). Works header h (record k { waits = waits }) ids woken.Nobody (z ++ past)) (sym (begun_log task what before log s.nothing told))
     (record {
-      matches = begun_matches header h k ids past waits task what (rows_in task.0 k.maps) s.rests.matches can.allowed.lives;
-      used = s.rests.used;
+      matches = begun_matches header h k ids past waits task what (rows_in task.0 k.maps) (begun_fills k.waits.rows waits.rows task what puts_here absent) s.rests.matches can.allowed.lives;
+      used = used_begun header k.maps k.chains k.memory.resident past k.waits.rows waits.rows task what s.rests.used puts_here absent;
       referred = s.rests.referred;
       order = order;
-      waits = waits_begun k.maps k.chains k.memory.resident k.memory.objects k.waits.rows waits.rows task what (λ t. waiting t past) (λ t. waiting t (begun task what ∷ past)) s.rests.waits puts_here (absent_row header h task what past k ids before s) can.allowed can.sized (begun_waiting task what past);
+      waits = waits_begun k.maps k.chains k.memory.resident k.memory.objects k.waits.rows waits.rows task what (λ t. waiting t past) (λ t. waiting t (begun task what ∷ past)) s.rests.waits puts_here (absent_row header h task what past k ids before s) can.allowed can.sized (begun_waiting k.maps.size task what past);
     })
 
 -- it is the only one that is to be run
-pub begun_next : (task : TaskId) (what : Want) (rows new : List Waiting) → count_again rows ≡ 0 → count_again new ≡ count_again rows + 1 → PutsEntry task.0 (Some (begun_row task what)) rows new → IsNextAccess task.0 new
+pub begun_next : (task : TaskId) (what : Number) (rows new : List Waiting) → count_again rows ≡ 0 → count_again new ≡ count_again rows + 1 → PutsEntry task.0 (Some (begun_row task what)) rows new → IsNextAccess task.0 new
 begun_next task what rows new idle one puts =
     record {
       some = λ none. omega arith;
@@ -243,12 +281,12 @@ begun_next task what rows new idle one puts =
           (λ apart old. absurd (let bad : false ≡ true = sym (none_again rows t w idle old) ∙ on_again in cc));
     }
 
-begun_done : (header : Header) (task : TaskId) (what : Want) (past events : List Event) → (FindsPage header task.0 (begun task what ∷ past) → EndsNext task.0 (begun task what ∷ []) events) → IsDone header (asks task what) events past
-begun_done header task (want.Load address size) past events ends = ends
-begun_done header task (want.Store address size value) past events ends = ends
+begun_done : (header : Header) (task : TaskId) (what : Number) (past events : List Event) → (FindsPage header task.0 (begun task what ∷ past) → EndsNext task.0 (begun task what ∷ []) events) → IsDone header (asks task what) events past
+begun_done header task (Loads address size) past events ends = ends
+begun_done header task (Stores address size value) past events ends = ends
 
 -- the access was run, and all that were to be
-pub begun_ran : (header : Header) (h : ℕ) (outside : Outside) (doing : Command) (task : TaskId) (what : Want) (past : List Event) (k new : Parts) (ids ids2 : Ids) (before log after : List Event) (rows : List Waiting) → doing ≡ asks task what
+pub begun_ran : (header : Header) (h : ℕ) (outside : Outside) (doing : Command) (task : TaskId) (what : Number) (past : List Event) (k new : Parts) (ids ids2 : Ids) (before log after : List Event) (rows : List Waiting) → doing ≡ asks task what
     → Starts header h doing past k ids before → log ≡ begun task what ∷ before → IsNextAccess task.0 rows → Rests header h new ids2 (after ++ past) → LegalEvents header h outside doing past log after → RunsFirst header rows past log after
     → Ran header h outside doing past new ids2 after
 begun_ran header h outside doing task what past k new ids ids2 before log after rows is starts told next rests goes runs =

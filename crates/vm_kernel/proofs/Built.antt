@@ -45,6 +45,11 @@ none_else (command.Protect task address bytes prot) changes allocate deallocate 
 none_else (command.Inherit task address bytes kind) changes allocate deallocate protect inherit = inherit task address bytes kind refl
 none_else other changes allocate deallocate protect inherit = let bad : false ≡ true = changes in cc
 
+pub task_of : (header : Header) (h : ℕ) (doing : Command) (past : List Event) (k : Parts) (ids : Ids) (events : List Event) (task : TaskId) (host : HostId) → Starts header h doing past k ids events → doing ≡ command.Task task host → doing ≡ command.Task task (host_id h)
+task_of header h doing past k ids events task host s is =
+    let acts : (host.0 == h) ≡ true = subst (λ (z : Command). acts_on h z past ≡ true) is s.acts in
+    is ∙ ap (λ z. command.Task task z) (host_same host h acts)
+
 pub pageout_of : (header : Header) (h : ℕ) (doing : Command) (past : List Event) (k : Parts) (ids : Ids) (events : List Event) (host : HostId) (count : ℕ) → Starts header h doing past k ids events → doing ≡ command.Pageout host count → doing ≡ command.Pageout (host_id h) count
 pageout_of header h doing past k ids events host count s is =
     let acts : (host.0 == h) ≡ true = subst (λ (z : Command). acts_on h z past ≡ true) is s.acts in

@@ -1,5 +1,7 @@
 -- Commands that change a task's entries, from their beginning to their end.
-use Rattle.vm_kernel.proofs.Common.{Access, AllReferred, AllRows, AllUsed, ChainTable, ChangesOnly, Code, Entry, Event, HasEntries, HasHomes, HasKinds, HasPages, HasRegions, HasUse, HasWaiters, Header, Ids, Inherit, IsInside, List, Lowered, MapChange, Mapped, None, Option, Outside, Parts, Prot, Raised, Ran, RegionRow, Rests, Some, Starts, TaskId, Waiting, [], acting, all_tasks, ap, arith, backing_of, code_where, copy_target, count_by, count_on, entries_in, entries_in_row, entries_of, entry, eqb_tells, false, fills, has_entry, has_region, holds, home_of, host_of, if◌then◌else◌, in_use, inheritance, inherited, inl, inr, is_copied, is_none, is_range, is_some, is_woken, length, local, marked_regions, meets_declared, most_entries, named, next_object, next_region, place_of, protected, protection, refl, refusal, region_at, region_entries, region_of, rows_in, rows_map, subst, suc, sym, tasks, true, unwrap_or, waiting, waiting_in, zero, ℕ, ◌&&◌, ◌*◌, ◌+◌, ◌-◌, ◌<◌, ◌==◌, ◌||◌, ◌∙◌, ◌∷◌, ◌≡◌, ◌≤◌}
+use Rattle.vm_kernel.proofs.Common.{Access, AllReferred, AllRows, AllUsed, ChainTable, ChangesOnly, Code, Entry, Event, HasEntries, HasHomes, HasKinds, HasPages, HasRegions, HasUse, HasWaiters, Header, Ids, Inherit, IsInside, List, Lowered, MapChange, Mapped, None, Option, Outside, Parts, Prot, Raised, Ran, RegionRow, Rests, Some, Starts, TaskId, Waiting, [], acting, all_tasks, ap, arith, backing_of, code_where, copy_target, count_by, count_on, entries_in, entries_in_row, entries_of, entry, eqb_tells, false, fills, has_entry, has_region, holds, home_of, host_of, if◌then◌else◌, in_use, inheritance, inherited, inl, inr, is_copied, is_none, is_range, is_some, is_woken, length, local, marked_regions, meets_declared, most_entries, named, next_object, next_page, next_region, place_of, protected, protection, refl, refusal, region_at, region_entries, region_of, rows_in, rows_map, subst, suc, sym, tasks, true, unwrap_or, waiting, waiting_in, zero, ℕ, ◌&&◌, ◌*◌, ◌+◌, ◌-◌, ◌<◌, ◌==◌, ◌||◌, ◌∙◌, ◌∷◌, ◌≡◌, ◌≤◌}
+use Rattle.vm_kernel.proofs.Filled.{recount_filled, same_waiting}
+use Rattle.vm_state.proofs.Filling.{copies_kept, rows_unmade}
 use Rattle.vm_state.specs.Places.{known_local}
 use Rattle.std.proofs.Common.{not}
 use Rattle.std.proofs.lemmas.Bool.{or_parts}
@@ -63,12 +65,19 @@ acts task past later accepted = go (waiting task past) (passed (is_some (waiting
     go None is = refl
     go (Some access) bad = absurd (let no : true ≡ false = bad in cc)
 
-no_row : (x : Option Waiting) → waiting_in x ≡ None → x ≡ None
-no_row None is = refl
-no_row (Some w) bad = absurd (let no : waiting_in (Some w) ≡ None = bad in cc)
+no_row : (size : ℕ) (x : Option Waiting) → waiting_in size x ≡ None → x ≡ None
+no_row size None is = refl
+no_row size (Some w) bad = absurd (let no : waiting_in size (Some w) ≡ None = bad in cc)
 
 pub not_there : (header : Header) (h : ℕ) (past : List Event) (k : Parts) (ids : Ids) (task : ℕ) (rows : List Entry) → Rests header h k ids past → entries_in task k.maps ≡ Some rows → waiting task past ≡ None → entry k.waits.rows task ≡ None
-not_there header h past k ids task rows rests lives none = no_row (entry k.waits.rows task) (sym (rests.waits.is task (ap is_some lives)) ∙ none)
+not_there header h past k ids task rows rests lives none = no_row k.maps.size (entry k.waits.rows task) (sym (rests.waits.is task (ap is_some lives)) ∙ none)
+
+none_among : (r : ℕ) (rows made : List Entry) → AllRows (λ row. has_entry row.region.0 rows ≡ true) made → count_on r rows ≡ 0 → count_on r made ≡ 0
+none_among r rows made own none = by (count_on r made) refl
+  where
+    by : (n : ℕ) → count_on r made ≡ n → n ≡ 0
+    by zero is = refl
+    by (suc n) is = let some = on_among r rows made own (omega arith) in absurd (omega (arith, some, none))
 
 -- regions count what was made, and what was lost, in place of what there was
 
@@ -78,7 +87,7 @@ pub record Changed (header : Header) (h : ℕ) (past : List Event) (k : Parts) (
   pub kinds : HasKinds header k.memory.objects chains
   pub homes : HasHomes header h chains (λ r. home_of r past)
   pub pages : HasPages k.memory.frames k.memory.resident k.memory.objects (λ o p. known_local header o p (local header.size h (place_of o p) past))
-  pub used : AllUsed chains
+  pub used : AllUsed header maps chains k.memory.resident k.waits.rows (λ t. next_page t past) (λ t. copy_target t past)
   pub referred : AllReferred chains k.memory.objects k.memory.resident
   pub waits : HasWaiters maps chains k.memory.resident k.memory.objects k.waits.rows (is_woken woken.Nobody) (λ t. waiting t past)
 
@@ -95,11 +104,24 @@ changed_by header h past k ids maps chains task rows lost count rests idle chang
       kinds = kinds_recounted header count k.memory.objects k.chains chains is m.kinds;
       homes = recount_homes count header h k.chains chains (λ r. home_of r past) is m.homes;
       pages = m.pages;
-      used = recount_used count k.chains chains is (λ r there some. let sum = sums r there in let kept = cuts.kept r in omega arith) rests.used;
+      used = record {
+        regions = recount_used count k.chains chains is (λ r there some. let sum = sums r there in let kept = cuts.kept r in omega arith) k.waits.rows rests.used.regions;
+        copies = copies_kept k.maps maps k.chains chains k.memory.resident k.memory.resident rests.used.copies (same_waiting k.maps maps task rows k.waits.rows changes (not_there header h past k ids task old rests lives idle))
+            (recount_filled count k.chains chains is (λ r there none. none_counted r there none)) (rows_unmade k.chains k.memory.resident);
+      };
       referred = recount_referred count k.chains chains k.memory.objects k.memory.resident is rests.referred;
       waits = waits_changed k.maps maps k.chains chains k.memory.resident k.memory.objects k.waits.rows (is_woken woken.Nobody) (λ t. waiting t past) task rows rests.waits changes (not_there header h past k ids task old rests lives idle) (tops_recounted count k.chains chains is)
           (told_changed k.maps maps k.waits.rows (λ t. waiting t past) task old rows rests.waits.is changes lives);
     }
+  where
+    -- a region without entries has none of the new ones
+    none_counted : (r : ℕ) → has_region k.chains r ≡ true → region_entries k.chains r ≡ 0 → count r ≡ 0
+    none_counted r there none =
+        let had : count_on r (rows_in task k.maps) ≤ region_entries k.chains r = counted header.size task k.maps k.chains [] rests.matches.entries lives r there in
+        let sum = sums r there in
+        let made_none = none_among r (rows_in task k.maps) (unwrap_or rows []) cuts.own (omega (arith, had, none)) in
+        let lost_none = none_among r (rows_in task k.maps) lost cuts.gone (omega (arith, had, none)) in
+        omega (arith, sum, had, none, made_none, lost_none)
 
 -- a region is in use as long as before where no entry on it is new, and after where none goes
 
@@ -119,7 +141,7 @@ uses_fewer size task r maps new cs rows has changes lives own some = by_count (c
 
 pub uses_kept : (header : Header) (h : ℕ) (past : List Event) (k : Parts) (ids : Ids) (maps : Mapped) (task : ℕ) (two : List Entry) → Rests header h k ids past → ChangesOnly k.maps maps task (Some two) → entries_in task k.maps ≡ Some (rows_in task k.maps)
     → Cuts header.size k.chains (rows_in task k.maps) two [] → (own : ℕ → List Entry)
-    → HasUse header maps (λ r. in_use header h r past) (tasks past) (λ t r. has_entry r (if task == t then own t else entries_of header.size t past) || fills r (waiting t past) (copy_target t past)) (next_region header past)
+    → HasUse header maps k.waits.rows (λ r. in_use header h r past) (tasks past) (λ t r. has_entry r (if task == t then own t else entries_of header.size t past) || fills r (waiting t past) (copy_target t past)) (next_region header past)
 uses_kept header h past k ids maps task two rests changes lives cuts own =
     let m = rests.matches in
     uses_same header k.maps maps (λ r. in_use header h r past) (tasks past) (λ t r. holds header.size t r past) _ (next_region header past) task two m.uses changes lives
@@ -193,7 +215,7 @@ ran_protect header h outside task address bytes prot past events k ids maps mid 
             homeless = homeless_after leaves m.homeless;
             homes = c.homes;
             files = m.files;
-            settled = record { returned = refl; shut = λ region. refl };
+            settled = record { none_owed = refl; shut = λ region. refl };
             replied = replied_behind tt m.replied;
             laundry = m.laundry;
             frames = m.frames;
@@ -262,7 +284,7 @@ ran_inherit header h outside task address bytes inherit past events k ids maps m
             homeless = homeless_after leaves m.homeless;
             homes = c.homes;
             files = m.files;
-            settled = record { returned = refl; shut = λ region. refl };
+            settled = record { none_owed = refl; shut = λ region. refl };
             replied = replied_behind tt m.replied;
             laundry = m.laundry;
             frames = m.frames;

@@ -1,20 +1,19 @@
 -- What running an access once claims.
-use Rattle.std.specs.Prelude.{◌≡◌, ◌≢◌, ◌⊎◌, ◌==◌, ◌&&◌, if◌then◌else◌, ℕ, zero, suc, Bool, true, false, List, [], ◌∷◌, ◌++◌, Option, Some, None}
+use Rattle.std.specs.Prelude.{◌≡◌, ◌≢◌, ◌⊎◌, ◌&&◌, ℕ, Bool, true, false, List, [], ◌∷◌, ◌++◌, Option, Some, None}
 use Rattle.std.proofs.Common.{◌∙◌, ap, arith, inl, inr, refl, subst, sym}
-use Rattle.std.proofs.lemmas.Bool.Decides.{eqb_tells, nat_tests}
+use Rattle.std.proofs.lemmas.Bool.Decides.{eqb_tells}
 use Rattle.vm_base.specs.declared.ids.FrameNo.{FrameNo}
 use Rattle.vm_base.specs.declared.ids.HostId.{HostId}
 use Rattle.vm_base.specs.declared.ids.ObjectId.{ObjectId}
 use Rattle.vm_base.specs.declared.ids.PageKey.{PageKey}
 use Rattle.vm_base.specs.declared.ids.RegionId.{RegionId}
 use Rattle.vm_base.specs.declared.ids.TaskId.{TaskId}
-use Rattle.vm_fault.specs.Faults.{AfterZeros, AtOnce, Ended, Faulted, FaultState, Hits, Prepares, Raised, References}
+use Rattle.vm_fault.specs.Faults.{AfterZeros, AtOnce, Copied, Ended, Faulted, FaultState, Hits, Prepares, Raised, References}
 use Rattle.vm_fault.specs.Walks.{is_storing, wanted_number}
 use Rattle.vm_fault.specs.declared.step.FaultStep.{FaultStep}
 use Rattle.vm_fault.specs.declared.step.FaultStep.TheVariants as step
 use Rattle.vm_frames.specs.Frames.{free}
 use Rattle.vm_legal.specs.Follows.{IsEnd}
-use Rattle.vm_legal.specs.Licences.{desired_access}
 use Rattle.vm_maps.specs.Maps.{Mapped}
 use Rattle.vm_model.specs.Waiting.{Access}
 use Rattle.vm_model.specs.declared.event.Event.{Event}
@@ -28,10 +27,11 @@ use Rattle.vm_resident.specs.Resident.{ResidentTable, row_at}
 use Rattle.vm_shadow.specs.Chains.{ChainTable}
 use Rattle.vm_shadow.specs.declared.region_row.RegionRow.{RegionRow}
 use Rattle.vm_state.proofs.Waiting.{awaited_row}
-use Rattle.vm_state.specs.Waiters.{HasWaiters, Reason, access_in, is_woken}
+use Rattle.vm_state.specs.Waiters.{HasWaiters, Reason, is_woken}
 use Rattle.vm_supply.specs.declared.woken.Woken.TheVariants as woken
 use Rattle.vm_waits.proofs.Entries.{puts_here}
 use Rattle.vm_waits.specs.Waits.{PutsEntry, WaitTable, entry, is_again, is_frame, queue_without, with_on}
+use Rattle.vm_waits.specs.Wants.{IsOfNumber}
 use Rattle.vm_waits.specs.declared.waiting.On.{On}
 use Rattle.vm_waits.specs.declared.waiting.On.TheVariants as on
 use Rattle.vm_waits.specs.declared.waiting.Waiting.{Waiting}
@@ -76,6 +76,7 @@ record RanBy (rows : List Waiting) (task : TaskId) (may : Bool) (before after : 
 
 end_of : (task : TaskId) (what : Want) (key : PageKey) (frame : FrameNo) (at value : ℕ) (e : Event) (old new : HostParts) → Hits task what key frame at value e old new → IsEnd task.0 e
 end_of task (want.Load address n) key frame at value e old new hits = subst (λ (z : Event). IsEnd task.0 z) (sym hits.2) refl
+end_of task (want.CopyTo address pages target next) key frame at value e old new hits = absurd hits
 end_of task (want.Store address n number) key frame at value e old new hits = subst (λ (z : Event). IsEnd task.0 z) (sym hits.2) refl
 
 refers_free : (frame : FrameNo) (old new : HostParts) → References frame old new → free new.frames ≡ free old.frames
@@ -83,15 +84,17 @@ refers_free frame old new refers = ap (λ (z : HostParts). free z.frames) refers
 
 hits_free : (task : TaskId) (what : Want) (key : PageKey) (frame : FrameNo) (at value : ℕ) (e : Event) (old new : HostParts) → Hits task what key frame at value e old new → free new.frames ≡ free old.frames
 hits_free task (want.Load address n) key frame at value e old new hits = refers_free frame old new hits.1
+hits_free task (want.CopyTo address pages target next) key frame at value e old new hits = absurd hits
 hits_free task (want.Store address n number) key frame at value e old new hits =
     let touched : free new.frames ≡ free hits.1.0.frames = refers_free frame hits.1.0 new hits.1.2 in
     let left = hits.1.1.page.left in
     let wrote : free hits.1.0.frames ≡ free old.frames = omega (arith, left) in
     touched ∙ wrote
 
-ended_by : (rows : List Waiting) (host : HostId) (task : TaskId) (what : Want) (may : Bool) (top : PageKey) (at value : ℕ) (s mid new : FaultState) → Front s mid → Ended host task what top at value mid.parts new.parts mid.chains mid.events new.events
+ended_by : (rows : List Waiting) (host : HostId) (task : TaskId) (what : Want) (may : Bool) (top : PageKey) (at value : ℕ) (s mid new : FaultState) → IsOfNumber what → Front s mid → Ended host task what top at value mid.parts new.parts mid.chains mid.events new.events
     → (may ≡ false → free new.parts.frames ≡ free s.parts.frames) → RanBy rows task may s.events new.events
-ended_by rows host task what may top at value s mid new f (AtOnce steps key row finds stores opens e hits told) kept =
+ended_by rows host task what may top at value s mid new number f (Copied address pages next target is steps key row finds out is_none copies) kept = absurd (subst IsOfNumber is number)
+ended_by rows host task what may top at value s mid new number f (AtOnce steps key row finds stores opens e hits told) kept =
     record {
       more = e ∷ f.front;
       told = told ∙ ap (λ z. e ∷ z) f.told;
@@ -99,7 +102,7 @@ ended_by rows host task what may top at value s mid new f (AtOnce steps key row 
       did = Found f.front f.is e (end_of task what key row.frame at value e mid.parts new.parts hits);
       none = λ bar. refl;
     }
-ended_by rows host task what may top at value s mid new f (Raised steps key row finds stores opens frame copied hit raises plan e hits refers told) kept =
+ended_by rows host task what may top at value s mid new number f (Raised steps key row finds stores opens frame copied hit raises plan e hits refers told) kept =
     let raised = event.Raised host key.object key.page top.object top.page in
     record {
       more = e ∷ raised ∷ f.front;
@@ -114,7 +117,7 @@ ended_by rows host task what may top at value s mid new f (Raised steps key row 
           let was : free mid.parts.frames ≡ free s.parts.frames = ap free f.frames in
           absurd (omega (arith, even, less, same, last, was));
     }
-ended_by rows host task what may top at value s mid new f (AfterZeros sinks frame brought brings plan e hits told) kept =
+ended_by rows host task what may top at value s mid new number f (AfterZeros sinks frame brought brings plan e hits told) kept =
     let zeroed = event.Zeroed host top.object top.page in
     record {
       more = e ∷ zeroed ∷ f.front;
@@ -148,10 +151,10 @@ pub front_in : {maps : Mapped} {host : HostId} {task : TaskId} {what : Want} {ma
 front_in {what = what} {s = s} f = front_of (is_storing what && f.row.marked) f.entry.region f.row s f.mid f.prepares
 
 -- an access has ended
-pub once_done : (w : Waiting) (may : Bool) (value : ℕ) (maps : Mapped) (host : HostId) (s new : FaultState) (waits waits2 : WaitTable) → Faulted maps host w.task w.want may (step.Done value) s new → (may ≡ false → free new.parts.frames ≡ free s.parts.frames)
+pub once_done : (w : Waiting) (may : Bool) (value : ℕ) (maps : Mapped) (host : HostId) (s new : FaultState) (waits waits2 : WaitTable) → IsOfNumber w.want → Faulted maps host w.task w.want may (step.Done value) s new → (may ≡ false → free new.parts.frames ≡ free s.parts.frames)
     → PutsEntry w.task.0 None waits.rows waits2.rows → waits2.queue ≡ queue_without w.task.0 waits.queue → RunsOnce w may false waits waits2 s.events new.events
-once_done w may value maps host s new waits waits2 f kept put queue =
-    let r = ended_by waits2.rows host w.task w.want may f.top _ value s f.mid new (front_in f) f.comes kept in
+once_done w may value maps host s new waits waits2 number f kept put queue =
+    let r = ended_by waits2.rows host w.task w.want may f.top _ value s f.mid new number (front_in f) f.comes kept in
     record {
       more = r.more;
       told = r.told;
@@ -209,16 +212,6 @@ unasked maps chains resident objects rows waiting_at key t v has absent found wa
     let reason : Reason maps chains resident objects t v.want (on.Page key) = subst (λ (z : On). Reason maps chains resident objects t v.want z) waits (has.reasons t v found refl) in
     awaited_row resident v.want key.object.0 key.page.0 reason.1 (λ row there is. let bad : None ≡ Some row = sym absent ∙ there in absurd (cc))
 
--- the access that a request names, as the history has it
-number_same : (what : Want) (steps : ℕ) → desired_access (access_in what) steps ≡ wanted_number what steps
-number_same (want.Load address n) zero = refl
-number_same (want.Load address n) (suc steps) = refl
-number_same (want.Store address n value) zero = refl
-number_same (want.Store address n value) (suc steps) = ap (λ (b : Bool). if b then 3 else 1) (sym (below steps))
-  where
-    below : (n : ℕ) → (suc n == 0) ≡ false
-    below n = grind (arith, nat_tests)
-
 -- an access waits for a word of a pager
 pub once_turned : (w : Waiting) (may : Bool) (answer : FaultStep) (reason : On) (maps : Mapped) (host : HostId) (s new : FaultState) (objects : ObjectTable) (waits waits2 : WaitTable) (waiting_at : ℕ → Option Access) → WaitsOn answer reason
     → HasWaiters maps s.chains s.parts.resident objects waits.rows (is_woken woken.Nobody) waiting_at → Faulted maps host w.task w.want may answer s new → (may ≡ false → free new.parts.frames ≡ free s.parts.frames)
@@ -252,10 +245,10 @@ once_turned w may (step.Ask key) reason maps host s new objects waits waits2 wai
     let absent : row_at s.parts.resident key.object.0 key.page.0 ≡ None = ap (λ z. row_at z key.object.0 key.page.0) (sym first.rows) ∙ asked.comes.absent in
     let rest = puts_rest w.task (Some (with_on w reason)) waits.rows waits2.rows put in
     let row : entry waits2.rows w.task.0 ≡ Some (with_on w reason) = puts_here w.task.0 (Some (with_on w reason)) waits.rows waits2.rows put in
-    let e = λ (n : ℕ). event.Sent (Up host key.object) (message.Request asked.object.control key.page n) in
+    let e : Event = event.Sent (Up host key.object) (message.Request asked.object.control key.page (wanted_number w.want asked.steps)) in
     record {
-      more = e (desired_access (access_in w.want) asked.steps) ∷ first.front;
-      told = asked.told ∙ ap (λ (z : List Event). e (wanted_number w.want asked.steps) ∷ z) first.told ∙ ap (λ n. e n ∷ (first.front ++ s.events)) (sym (number_same w.want asked.steps));
+      more = e ∷ first.front;
+      told = asked.told ∙ ap (λ (z : List Event). e ∷ z) first.told;
       claims = true;
       did = ForAsked first.front first.is host key asked.object.control asked.steps (with_on w reason) row why
           (λ t v apart is. unasked maps s.chains s.parts.resident objects waits.rows waiting_at key t v has absent (sym (rest t apart) ∙ is));

@@ -47,7 +47,7 @@ pub use Rattle.vm_legal.specs.Debts.{IsPaid, WaitsAt}
 pub use Rattle.vm_legal.specs.Follows.{EndsNext, IsConsequence, IsDone, IsEnd, head}
 pub use Rattle.vm_legal.specs.Frames.{Suffice, frames_free, frames_held, frames_used, frames_wired, returns_out}
 pub use Rattle.vm_legal.specs.Homes.{EntersNext, begins_here, is_home, is_used, starts_copy}
-pub use Rattle.vm_legal.specs.Licences.{AllLicensed, Caused, Created, Creates, Enters, Fails, GivesBack, HasCause, Licensed, ReturnCause, ReturnsOn, Unreached, created, desired_access}
+pub use Rattle.vm_legal.specs.Licences.{AllLicensed, Caused, Created, Creates, Enters, Fails, GivesBack, HasCause, Licensed, ReturnCause, ReturnsOn, Unreached, desired_access, owed}
 pub use Rattle.vm_legal.specs.Living.{lives_on, tasks}
 pub use Rattle.vm_legal.specs.Outside.{Outside}
 pub use Rattle.vm_legal.specs.Prompt.{AReady, AnAnswer, Awaits, HostIsFull, IsExhausted, IsSwept, NoneInVain, PromptAt, WaitsForPager}
@@ -112,7 +112,7 @@ pub use Rattle.vm_waits.proofs.Lines.{same_others}
 pub use Rattle.vm_waits.proofs.Tables.{page_frame}
 pub use Rattle.vm_waits.specs.Kept.{AreQueued, EachListedOnce}
 pub use Rattle.vm_waits.specs.Waits.{PutsEntry, WaitTable, count_again, entry, first_in_queue, is_again, is_frame, is_listed, oldest_row, one_again, one_frame, queue_without, queued, rows_without, turned, waits_for_frame, with_on, woken_page, woken_ready}
-pub use Rattle.vm_waits.specs.Wants.{IsSizedWant, address_in, need_in, want_size}
+pub use Rattle.vm_waits.specs.Wants.{IsOfNumber, IsSizedWant, address_in, need_in, want_size}
 pub use Rattle.vm_waits.specs.declared.waiting.On.{On}
 pub use Rattle.vm_waits.specs.declared.waiting.Waiting.{Waiting}
 pub use Rattle.vm_waits.specs.declared.waiting.Want.{Want}
@@ -124,9 +124,10 @@ pub use Rattle.vm_state.specs.Counts.{count_by, count_on}
 unfoldable pub use Rattle.vm_state.specs.Counts.{all_tasks}
 pub use Rattle.vm_kernel.specs.Fits.{ArePlain, IsPlainRow, PartsFit}
 pub use Rattle.vm_kernel.specs.Forking.{CanCopy, CanShare, EntersCopy, Shares, entry_on, got}
-pub use Rattle.vm_state.specs.Stands.{AllEntriesInside, AllUsed, AreShared, EachApart, HasControls, HasEntries, HasFrames, HasHomes, HasKinds, HasLaundry, HasPages, HasRegions, HasTasks, HasUse, IsDeclared, IsInside, IsOfKind, IsShared, IsTemporary, IsWashed, is_among}
+pub use Rattle.vm_state.specs.Filling.{AllUsed, HasCopies, IsFilledIn, IsInUse, IsUsed, fills_in}
+pub use Rattle.vm_state.specs.Stands.{AllEntriesInside, AreShared, EachApart, HasControls, HasEntries, HasFrames, HasHomes, HasKinds, HasLaundry, HasPages, HasRegions, HasTasks, HasUse, IsDeclared, IsInside, IsOfKind, IsShared, IsTemporary, IsWashed, is_among}
 pub use Rattle.vm_state.specs.References.{AllReferred, AllReferredBut}
-pub use Rattle.vm_kernel.specs.Matches.{HasOrder, HasWaits, IsRanged, IsSettled, Matches, Rests, Works, first_ids, host_id}
+pub use Rattle.vm_kernel.specs.Matches.{HasOrder, HasSlow, HasWaits, IsRanged, IsSettled, Matches, Rests, UsesAll, Works, first_ids, host_id}
 pub use Rattle.vm_state.specs.Pagers.{has_pager, is_ready_state, last_in, live_in, ready_in}
 pub use Rattle.vm_state.specs.Places.{entries_in_row, has_region, local_of_row, lock_number, pages_in, place_of, region_entries, region_pages, with_entries}
 pub use Rattle.vm_kernel.specs.Plays.{AnswerBrings, DepartsFrom, Does, IsVictim, Marks, Paging, Plays, PlaysAnswer, Still, Then, frame_here, paging, places_with_frame}
@@ -135,6 +136,6 @@ pub use Rattle.vm_kernel.specs.Serving.{Attempts, FreesOrReturns, HasQueue, IsHe
 pub use Rattle.vm_kernel.specs.Sweeping.{EndsObject, EndsRegion, Lowered, PutsEntries, Raised, Sweeps}
 pub use Rattle.vm_kernel.specs.Taking.{EachGone, EndsAll, EndsEach, EndsNobody, FailsNow, HasAsker, HasEnded, HasFailed, IsAbsencePaid, IsAnswered, IsErrorPaid}
 pub use Rattle.vm_kernel.specs.Turns.{ClaimsInTurn, Did, ForAsked, ForZeros, Found, Goes, IsBrought, Joins, KeepsOthers, LeavesInTurn, Nothing, QueueAfter, QueueIsStill, Restarted, Restarts, RunsNobody, RunsNone, RunsNoneYet, RunsOnce, Start}
-pub use Rattle.vm_state.specs.Waiters.{Asker, BeganInOrder, HasWaiters, IsAsked, IsPagerTold, IsPlaceOf, LeadsTo, Reason, access_in, is_woken, waiting_in}
+pub use Rattle.vm_state.specs.Waiters.{Asker, BeganInOrder, HasWaiters, IsAsked, IsPagerTold, IsPlaceOf, LeadsTo, Reason, access_in, copies_to, is_woken, waiting_in}
 pub use Rattle.vm_fault.specs.Walks.{IsAt, IsUnder}
 pub use Rattle.vm_kernel.specs.declared.parts.Parts.{Parts}

@@ -1,5 +1,10 @@
 -- A task gets an entry on a symmetric copy of a region.
-use Rattle.vm_kernel.proofs.Common.{Access, AllReferred, AllRows, AllUsed, ArePlain, Backing, Bool, ChainTable, ChangesOnly, Command, Enters, Entry, Event, Fit, HasEntries, HasKinds, HasRegions, HasWaiters, Header, HostParts, Ids, Inside, IsAllowed, IsInside, List, Mapped, None, ObjectRow, ObjectTable, Option, Outside, Parts, Place, PutsEntries, PutsObject, Ran, Region, RegionRow, ResidentTable, Rests, SameMarks, Some, Starts, TaskId, Waiting, [], all_tasks, allows, ap, arith, code_where, count_again, count_by, count_on, entered, entering, entries_in, entries_of, entry, entry_at, eqb_tells, false, fit_objects, found_row, got, has_entry, head, holds, home_entered, home_of, home_stays, homes_next, host_of, if◌then◌else◌, in_use, inl, inr, is_none, is_on, is_range, is_ready, is_some, is_woken, last_control, length, length_entered, live_control, lives_on, local_of_row, marked_regions, meets_range, most_entries, named, nat_le, nat_tests, next_object, next_region, object_at, one_case, page_at, page_below, pages_in, pages_of_row, place_at, refl, region_at, region_entries, region_of, region_pages, row_at, rows_entered, rows_in, rows_map, same_pages, some_is, subst, suc, sym, tasks, true, waiting, waiting_in, whole_entry, zero, ℕ, ◌%◌, ◌&&◌, ◌++◌, ◌+◌, ◌-◌, ◌/◌, ◌<◌, ◌==◌, ◌^◌, ◌||◌, ◌∙◌, ◌∷◌, ◌≡◌, ◌≤◌, ◌⊎◌}
+use Rattle.vm_kernel.proofs.Common.{Access, AllReferred, AllRows, ArePlain, Backing, Bool, ChainTable, ChangesOnly, Command, Enters, Entry, Event, Fit, HasEntries, HasKinds, HasRegions, HasSlow, HasWaiters, HasWaits, Header, HostParts, Ids, Inside, IsAllowed, IsFilledIn, IsInside, IsUsed, List, Mapped, None, ObjectRow, ObjectTable, Option, Outside, Parts, Place, PutsEntries, PutsObject, Ran, Region, RegionRow, ResidentTable, Rests, SameMarks, Some, Starts, TaskId, Waiting, [], all_tasks, allows, ap, arith, code_where, count_again, count_by, count_on, entered, entering, entries_in, entries_of, entry, entry_at, eqb_tells, false, fit_objects, found_row, got, has_entry, head, holds, home_entered, home_of, home_stays, homes_next, host_of, if◌then◌else◌, in_use, inl, inr, is_none, is_on, is_range, is_ready, is_some, is_woken, last_control, length, length_entered, live_control, lives_on, local_of_row, marked_regions, meets_range, most_entries, named, nat_le, nat_tests, next_object, next_region, object_at, one_case, page_at, page_below, pages_in, pages_of_row, place_at, refl, region_at, region_entries, region_of, region_pages, row_at, rows_entered, rows_in, rows_map, same_pages, some_is, subst, suc, sym, tasks, true, waiting, waiting_in, whole_entry, zero, ℕ, ◌%◌, ◌&&◌, ◌++◌, ◌+◌, ◌-◌, ◌/◌, ◌<◌, ◌==◌, ◌^◌, ◌||◌, ◌∙◌, ◌∷◌, ◌≡◌, ◌≤◌, ◌⊎◌}
+use Rattle.vm_kernel.proofs.Filled.{entry_some, filled_temporary, free_unfilled, row_use, same_waiting}
+use Rattle.vm_kernel.proofs.Uses.{fills_here, holds_rows, paged_temporary, unfilled, uses_entered}
+use Rattle.vm_state.proofs.Places.{keeps_copied, on_its_region}
+use Rattle.vm_state.proofs.Filling.{KeepsFilled, copies_kept, rows_unmade, top_unfilled}
+use Rattle.vm_state.specs.Filling.{filled_row}
 use Rattle.std.proofs.Common.{nat_lt, not}
 use Rattle.std.specs.Prelude.{IsSome}
 use Rattle.vm_base.specs.declared.code.Code.TheVariants as code
@@ -17,11 +22,10 @@ use Rattle.vm_state.proofs.Copying.{regions_copied}
 use Rattle.vm_state.proofs.Counting.{elsewhere}
 use Rattle.vm_state.proofs.Files.{files_entered, files_put, no_file}
 use Rattle.vm_state.proofs.Marks.{marked_copied}
-use Rattle.vm_state.proofs.Places.{keeps_copied}
 use Rattle.vm_state.proofs.Referred.{referred_copied, referred_recounted}
 use Rattle.vm_state.proofs.Waited.{KeepsPlaces, waits_changed, told_changed}
 use Rattle.vm_state.specs.Places.{with_entries}
-use Rattle.vm_state.specs.References.{is_backing, is_over, tally}
+use Rattle.vm_state.specs.References.{is_backing, is_live_in, is_over, tally}
 use Rattle.vm_kernel.specs.Forking.{CanCopy, EntersCopy, entry_on}
 use Rattle.vm_abroad.proofs.Home.{named_regions, object_stays}
 use Rattle.vm_legal.specs.Accesses.{At}
@@ -43,13 +47,11 @@ use Rattle.vm_kernel.proofs.Recounts.{recounts_put}
 use Rattle.vm_kernel.proofs.Regions.{apart_there, none_leads, region_row}
 use Rattle.vm_kernel.proofs.Tasks.{Keeps, entries_changed, inside_kept, tasks_entered}
 use Rattle.vm_kernel.proofs.Sharing.{shared_entered, temporary_shared}
-use Rattle.vm_kernel.proofs.Uses.{holds_rows, paged_temporary, unfilled, uses_entered}
 use Rattle.vm_kernel.proofs.After.{controls_stay, regions_behind}
 use Rattle.vm_kernel.proofs.Rewrites.{lives_below}
 use Rattle.vm_kernel.proofs.Strands.{controls_referred}
 use Rattle.vm_kernel.proofs.Replied.{replied_behind}
 use Rattle.std.proofs.lemmas.Bool.{and_parts, not-false, or_parts}
-use Rattle.vm_state.specs.References.{is_live_in}
 
 -- regions that count other entries
 
@@ -138,13 +140,35 @@ places_copy : (source copy offset pages : ℕ) (region : RegionRow) (old mid new
 places_copy source copy offset pages region old mid new c =
     keeps_both old mid new (keeps_copied old mid source copy offset pages region c.free c.there c.copies) (keeps_recounted mid new (same_put copy 1 mid new c.counts))
 
-used_copy : (source copy offset pages : ℕ) (region : RegionRow) (old mid new : ChainTable) → CopiesOnce source copy offset pages region old mid new → AllUsed old → AllUsed new
-used_copy source copy offset pages region old mid new c used r row found = by (row_now source copy offset pages region old mid new c r row found)
+used_copy : (source copy offset pages : ℕ) (region : RegionRow) (old mid new : ChainTable) → CopiesOnce source copy offset pages region old mid new → (list : List Waiting) → 0 < region.entries → ((r : ℕ) (row : RegionRow) → region_at old r ≡ Some row → (0 < row.entries) ⊎ IsFilledIn list r)
+    → (r : ℕ) (row : RegionRow) → region_at new r ≡ Some row → (0 < row.entries) ⊎ IsFilledIn list r
+used_copy source copy offset pages region old mid new c list some used r row found = by (row_now source copy offset pages region old mid new c r row found)
   where
-    by : RowNow source copy offset pages region old r row → 0 < row.entries
-    by (OfCopy same is) = let one = ap (λ z. z.entries) is in omega (arith, one)
-    by (OfSource same is) = let count = ap (λ z. z.entries) is in let some = used source region c.there in omega (arith, count, some)
+    by : RowNow source copy offset pages region old r row → (0 < row.entries) ⊎ IsFilledIn list r
+    by (OfCopy same is) = let one = ap (λ z. z.entries) is in inl (omega (arith, one))
+    by (OfSource same is) = let count = ap (λ z. z.entries) is in inl (omega (arith, count, some))
     by (OfOther apart was) = used r row was
+
+-- a region with entries is copied, over its object
+filled_copy : (source copy offset pages : ℕ) (region : RegionRow) (old mid new : ChainTable) → CopiesOnce source copy offset pages region old mid new → 0 < region.entries → KeepsFilled old new
+filled_copy source copy offset pages region old mid new c some r object count was alone =
+    let over = top_unfilled old source region c.there some r object count was alone in (
+      elim (other_now source copy offset pages region old mid new c r (λ same. let bad : None ≡ Some (filled_row object count) = sym c.free ∙ (ap (region_at old) same ∙ was) in cc)) [
+        | inl this ↦
+            let none : region.entries ≡ 0 = ap (λ z. z.entries) (some_is region (filled_row object count) (sym c.there ∙ (ap (region_at old) this.0 ∙ was))) in
+            absurd (omega (arith, some, none))
+        | inr other ↦ other.1 ∙ was
+      ],
+      record {
+        tops = λ q row found top. by_row over q row top (row_now source copy offset pages region old mid new c q row found);
+        unders = λ s row found under. alone.unders s row (sym (ap (λ f. f s) c.counts.shadows ∙ ap (λ f. f s) c.copies.shadows) ∙ found) under;
+      },
+    )
+  where
+    by_row : (region.top.0 ≡ object.0 → ⊥) → (q : ℕ) (row : RegionRow) → row.top.0 ≡ object.0 → RowNow source copy offset pages region old q row → q ≡ r
+    by_row over q row top (OfCopy same is) = absurd (over (sym (ap (λ z. z.top.0) is) ∙ top))
+    by_row over q row top (OfSource same is) = absurd (over (sym (ap (λ z. z.top.0) is) ∙ top))
+    by_row over q row top (OfOther apart found) = alone.tops q row found top
 
 -- an entry that holds an address
 pub entry_within : (address : ℕ) (rows : List Entry) (row : Entry) → entry_at address rows ≡ Some row → (row.address ≤ address) × (address < row.address + row.bytes)
@@ -217,6 +241,7 @@ pub record MayCopy (header : Header) (task : ℕ) (source : RegionId) (offset : 
   pub pages : row.bytes / header.size < 2 ^ 32
   pub region : RegionRow
   pub there : region_at k.chains source.0 ≡ Some region
+  pub counted : 0 < region.entries
   pub temporary : named header ≤ source.0
   pub inside : offset + row.bytes / header.size ≤ region.pages
   pub regions : next_region header past + 1 ≤ most_regions
@@ -298,17 +323,16 @@ copy_pages header copy source offset pages past = elim (eqb_tells copy.0 copy.0)
 pub file_of : (header : Header) (r : ℕ) → r < named header → cause.is_paged header r ≡ true → is_file header r ≡ true
 file_of header r declared paged = let test : nat_lt r (named header) ≡ true = grind (arith, nat_tests) in sym (ap (λ b. not b || is_file header r) test) ∙ paged
 
-some_use : (n : ℕ) → 0 < n → nat_lt 0 n ≡ true
-some_use n some = grind (arith, nat_tests)
-
 -- a region that is there is in use, if it is temporary or a file's
 pub used_there : (header : Header) (h : ℕ) (k : Parts) (ids : Ids) (past : List Event) (r : ℕ) (row : RegionRow) → Rests header h k ids past → region_at k.chains r ≡ Some row → cause.is_paged header r ≡ true → in_use header h r past ≡ true
 used_there header h k ids past r row rests there paged =
     let m = rests.matches in
-    let some : 0 < count_by all_tasks r k.maps = let counts = m.entries.counts r row there in let used = rests.used r row there in omega (arith, counts, used) in
     elim (kind_cases header r) [
-      | inl declared ↦ m.uses.files r (file_of header r declared paged) some
-      | inr temporary ↦ m.uses.used r temporary ∙ some_use (count_by all_tasks r k.maps) some
+      | inl declared ↦ elim (row_use r row m.entries there rests.used) [
+        | inl some ↦ m.uses.files r (file_of header r declared paged) some
+        | inr filled ↦ let least = filled_temporary r rests.used.copies m.homeless filled in absurd (omega (arith, declared, least))
+      ]
+      | inr temporary ↦ (m.uses.used r temporary).is (row_use r row m.entries there rests.used)
     ]
 
 -- the entry on the copy has its cause
@@ -317,6 +341,8 @@ pub copy_enters : (header : Header) (h : ℕ) (task : TaskId) (copy source : Reg
 copy_enters header h task copy source offset row past k ids rests may number =
     let m = rests.matches in
     let used : in_use header h copy.0 (copied copy source offset (row.bytes / header.size) ∷ past) ≡ true = copy_use header h copy source offset (row.bytes / header.size) past ∙ used_there header h k ids past source.0 may.region rests may.there (paged_temporary header source.0 may.temporary) in
+    let waits_copied : HasWaits k woken.Nobody (copied copy source offset (row.bytes / header.size) ∷ past) = rests.waits in
+    let copies_copied : HasSlow header k (copied copy source offset (row.bytes / header.size) ∷ past) = rests.used.copies in
     record {
       idle = may.idle;
       host = h;
@@ -326,7 +352,7 @@ copy_enters header h task copy source offset row past k ids rests may number =
       made = omega (arith, number);
       used = λ temporary. used;
       file = λ is. used;
-      unfilled = unfilled header.size copy.0 (tasks past) k.maps k.waits.rows (copied copy source offset (row.bytes / header.size) ∷ past) (record { is = rests.waits.is }) (λ t none. m.uses.apart t copy.0 none (inr (omega (arith, number))));
+      unfilled = unfilled header.size copy.0 (tasks past) k.maps k.waits.rows (copied copy source offset (row.bytes / header.size) ∷ past) (fills_here {past = copied copy source offset (row.bytes / header.size) ∷ past} waits_copied copies_copied) (free_unfilled copy.0 rests.used.copies (m.regions.unmade copy.0 (omega (arith, number)))) (λ t none. m.uses.apart t copy.0 none (inr (omega (arith, number))));
     }
 
 -- the copy has its cause
@@ -335,9 +361,9 @@ copy_cause header copy source offset pages past temporary from number =
     record { next = number; temporary = temporary; task = from.task; address = from.address; at = from.at; source_is = from.source_is; inside = from.inside }
 
 -- who doesn't wait in the history has no row
-pub no_row : (x : Option Waiting) (w : Option Access) → w ≡ waiting_in x → w ≡ None → x ≡ None
-no_row None w is none = refl
-no_row (Some row) w is none = absurd (let bad : waiting_in (Some row) ≡ None = sym is ∙ none in cc)
+pub no_row : (size : ℕ) (x : Option Waiting) (w : Option Access) → w ≡ waiting_in size x → w ≡ None → x ≡ None
+no_row size None w is none = refl
+no_row size (Some row) w is none = absurd (let bad : waiting_in size (Some row) ≡ None = sym is ∙ none in cc)
 
 -- the next region in use elsewhere, or not made, was so before the copy
 use_before : (header : Header) (h : ℕ) (copy source : RegionId) (offset pages : ℕ) (past : List Event) (r : ℕ) → copy.0 ≡ next_region header past
@@ -397,11 +423,12 @@ rests_copied header h outside doing task source offset row past k k2 ids ids2 be
     let marks : ids2.marks ≡ marked_regions header (now ∷ past) =
     ap (λ z. z.marks) s.ids ∙ (ap (λ z. z + (if s.region.marked then 1 else 2)) m.regions.marks ∙ (ap (λ (b : Bool). marked_regions header past + (if b then 1 else 2)) (sym mark) ∙ sym marked)) in
     let few : next_object header past + marked_regions header (now ∷ past) ≤ most_objects = subst (λ (z : ℕ). next_object header past + z ≤ most_objects) (sym marked) may.objects in
+    let counted : 0 < s.region.entries = subst (λ (z : RegionRow). 0 < z.entries) same may.counted in
     let within : offset + pages ≤ s.region.pages = subst (λ (z : RegionRow). offset + pages ≤ z.pages) same may.inside in
     let frames_are : k2.memory.frames ≡ k.memory.frames = ap (λ (z : HostParts). z.frames) s.memory in
     let rows_are : k2.memory.resident ≡ k.memory.resident = ap (λ (z : HostParts). z.resident) s.memory in
     let waits_at = λ (t : ℕ). waiting t past in
-    let none = no_row (entry k.waits.rows task.0) (waiting task.0 past) (rests.waits.is task.0 (ap is_some lives)) may.idle in
+    let none = no_row k.maps.size (entry k.waits.rows task.0) (waiting task.0 past) (rests.waits.is task.0 (ap is_some lives)) may.idle in
     let now_waits : HasWaiters k2.maps k2.chains k.memory.resident k2.memory.objects k.waits.rows (is_woken woken.Nobody) waits_at =
     waits_referred k2.maps k2.chains k.memory.resident k.memory.objects k2.memory.objects k.waits.rows (is_woken woken.Nobody) waits_at top (s.known.references + 1) s.known
     (waits_changed k.maps k2.maps k.chains k2.chains k.memory.resident k.memory.objects k.waits.rows (is_woken woken.Nobody) waits_at task.0 (Some (entered new (rows_in task.0 k.maps))) rests.waits s.maps none
@@ -438,21 +465,25 @@ rests_copied header h outside doing task source offset row past k k2 ids ids2 be
             homes = λ r found_row paged found. by_row number r found_row paged (row_now source.0 s.copy.0 offset pages s.region k.chains s.mid k2.chains once r found_row found);
             entries = entries_copy size k.maps k2.maps source.0 offset s.region k.chains s.mid k2.chains task.0 s.copy row m.entries once s.maps below free;
             pages = record { shown = λ o p. rw (frames_are, rows_are) (m.pages.shown o p ∙ ap (local_of_row k.memory.frames (row_at k.memory.resident o p)) (sym (s.absent.at o p))) };
-            uses = uses_entered header k.maps k2.maps (λ r. in_use header h r (now ∷ past)) (tasks past) (λ t r. holds header.size t r (e ∷ now ∷ past)) (next_region header past + 1) task.0 new (lives_on h task.0 (now ∷ past))
-                (λ r temporary apart. others_use header h s.copy source offset pages past r apart ∙ m.uses.used r temporary)
+            uses = rw s.waits (uses_entered header k.maps k2.maps (λ r. in_use header h r (now ∷ past)) (tasks past) (λ t r. holds header.size t r (e ∷ now ∷ past)) (next_region header past + 1) task.0 new (lives_on h task.0 (now ∷ past))
+                (λ r temporary apart. subst (λ (b : Bool). IsUsed k.maps k.waits.rows r b) (sym (others_use header h s.copy source offset pages past r apart)) (m.uses.used r temporary))
                 (λ r file apart some. others_use header h s.copy source offset pages past r apart ∙ m.uses.files r file some)
                 (λ paged. copy_use header h s.copy source offset pages past ∙ used_there header h k ids past source.0 s.region rests s.there (paged_temporary header source.0 may.temporary)) m.uses.among s.maps lives below
                 (m.tasks.hosts task.0 ∙ ap is_some lives)
-                (λ t r away why. holds_rows header.size task.0 t r k.maps (rows_in task.0 k.maps) _ (now ∷ past) lives away ∙ m.uses.apart t r away (use_before header h s.copy source offset pages past r number why));
+                (λ t r away why. holds_rows header.size task.0 t r k.maps (rows_in task.0 k.maps) _ (now ∷ past) lives away ∙ m.uses.apart t r away (use_before header h s.copy source offset pages past r number why)));
             controls = controls_stay (λ o home. object_stays o h e (now ∷ past) (object_stays o h now past home))
                 (controls_referred top (s.known.references + 1) s.known k.memory.objects k2.memory.objects (λ o. last_control h o past) (λ o. live_control h o past) (λ o. is_ready h o past) s.object s.refers m.controls);
             homeless = homes_next header outside e (now ∷ past) (doing, enters) (homes_next header outside now past (doing, copy_cause header s.copy source offset pages past may.temporary may.from number) m.homeless);
-            settled = record { returned = refl; shut = λ region. refl };
+            settled = record { none_owed = refl; shut = λ region. refl };
             replied = replied_behind tt (replied_behind tt m.replied);
             laundry = rw (frames_are, rows_are, s.laundry) m.laundry;
             frames = rw frames_are m.frames;
           };
-      used = used_copy source.0 s.copy.0 offset pages s.region k.chains s.mid k2.chains once rests.used;
+      used = rw (rows_are, s.waits) (record {
+        regions = used_copy source.0 s.copy.0 offset pages s.region k.chains s.mid k2.chains once k.waits.rows counted rests.used.regions;
+        copies = copies_kept k.maps k2.maps k.chains k2.chains k.memory.resident k.memory.resident rests.used.copies (same_waiting k.maps k2.maps task.0 (Some (entered new (rows_in task.0 k.maps))) k.waits.rows s.maps none)
+            (filled_copy source.0 s.copy.0 offset pages s.region k.chains s.mid k2.chains once counted) (rows_unmade k.chains k.memory.resident);
+      });
       referred = subst (λ (z : ResidentTable). AllReferred k2.chains k2.memory.objects z) (sym rows_are) referred;
       waits = rw (rows_are, s.waits) now_waits;
       order = rw s.waits rests.order;
@@ -475,7 +506,7 @@ rests_copied header h outside doing task source offset row past k k2 ids ids2 be
 pub heads_more : (header : Header) (h : ℕ) (outside : Outside) (doing : Command) (past events : List Event) (e : Event) → Heads header h outside doing past events → IsOne header h outside doing (events ++ past) e → Heads header h outside doing past (e ∷ events)
 heads_more header h outside doing past events e heads is =
     record {
-      licensed = (licensed header outside doing e (events ++ past) is.settled.returned is.cause, heads.licensed);
+      licensed = (licensed header outside doing e (events ++ past) is.settled.none_owed is.cause, heads.licensed);
       own_bytes = (is.own_bytes, heads.own_bytes);
       frames = (is.frames, heads.frames);
       inner = (is.inner, heads.inner);
@@ -503,7 +534,7 @@ heads_copied header h outside doing task copy source offset row past events k id
       creates = tt;
     }))
     (record {
-      settled = record { returned = refl; shut = λ region. refl };
+      settled = record { none_owed = refl; shut = λ region. refl };
       cause = copy_enters header h task copy source offset row (events ++ past) k ids rests may number;
       own_bytes = tt;
       frames = fine;
@@ -638,6 +669,7 @@ may_place header h task address bytes target to past k ids events s =
             pages = let most : bytes / size ≤ most_pages = grind (arith, nat_tests) in omega (arith, most);
             region = region.0;
             there = region.1;
+            counted = entry_some size entry.region.0 task.0 k.maps k.chains [] region.0 m.entries region.1 (on_its_region address (rows_in task.0 k.maps) entry found);
             temporary = grind (arith, nat_tests);
             inside = subst (λ (z : ℕ). page_at z address entry + bytes / size ≤ region.0.pages) (sym m.tasks.sized) (omega (arith, within, inside, pages));
             regions = grind (arith, nat_tests);

@@ -1,5 +1,5 @@
 -- The region of a declared object is made, and the object's pager is told of it: what that leaves of each table.
-use Rattle.vm_kernel.proofs.Common.{AllReferred, AllUsed, Bool, ChainTable, ChangesOnly, Entry, Event, Fit, HasControls, HasEntries, HasKinds, HasRegions, HasWaiters, HaveHomes, Header, HostParts, Ids, IfSome, IsInside, List, Mapped, None, ObjectId, ObjectRow, ObjectTable, On, Option, Parts, PutsObject, PutsRegion, RegionRow, ResidentTable, SameMarks, Some, Waiting, Without, [], all_tasks, ap, arith, backing_of, count_by, entered, eqb_tells, false, fit_within, has_entry, has_pager, if◌then◌else◌, inl, inr, is_ready_state, is_some, last_in, length, length_entered, live_in, most_entries, named, object_at, page_below, pages_in, pages_of_row, ready_in, refl, region_at, region_of, region_pages, rows_entered, rows_in, rows_map, shadow_at, some_is, subst, sym, true, ℕ, ◌%◌, ◌+◌, ◌-◌, ◌/◌, ◌<◌, ◌==◌, ◌^◌, ◌∙◌, ◌≡◌, ◌≤◌, ◌⊎◌}
+use Rattle.vm_kernel.proofs.Common.{AllReferred, IsFilledIn, Bool, ChainTable, ChangesOnly, Entry, Event, Fit, HasControls, HasEntries, HasKinds, HasRegions, HasWaiters, HaveHomes, Header, HostParts, Ids, IfSome, IsInside, List, Mapped, None, ObjectId, ObjectRow, ObjectTable, On, Option, Parts, PutsObject, PutsRegion, RegionRow, ResidentTable, SameMarks, Some, Waiting, Without, [], all_tasks, ap, arith, backing_of, count_by, entered, eqb_tells, false, fit_within, has_entry, has_pager, if◌then◌else◌, inl, inr, is_ready_state, is_some, last_in, length, length_entered, live_in, most_entries, named, object_at, page_below, pages_in, pages_of_row, ready_in, refl, region_at, region_of, region_pages, rows_entered, rows_in, rows_map, shadow_at, some_is, subst, sym, true, ℕ, ◌%◌, ◌+◌, ◌-◌, ◌/◌, ◌<◌, ◌==◌, ◌^◌, ◌∙◌, ◌≡◌, ◌≤◌, ◌⊎◌}
 use Rattle.std.specs.Prelude.{IsSome}
 use Rattle.vm_legal.specs.Outside.{kind_of}
 use Rattle.vm_model.specs.Named.{declared_pages}
@@ -198,9 +198,10 @@ keeps_declared o pages cs cs2 none put =
       ];
     }
 
-pub used_declared : (o : ObjectId) (pages : ℕ) (cs cs2 : ChainTable) → PutsRegion o.0 (Some (own_region o pages)) cs cs2 → AllUsed cs → AllUsed cs2
-used_declared o pages cs cs2 put used r row found = elim (region_cases o.0 (Some (own_region o pages)) cs cs2 put r) [
-  | inl same ↦ let count : 1 ≡ row.entries = ap (λ z. z.entries) (some_is (own_region o pages) row (sym same.1 ∙ found)) in omega arith
+pub used_declared : (o : ObjectId) (pages : ℕ) (cs cs2 : ChainTable) (list : List Waiting) → PutsRegion o.0 (Some (own_region o pages)) cs cs2 → ((r : ℕ) (row : RegionRow) → region_at cs r ≡ Some row → (0 < row.entries) ⊎ IsFilledIn list r)
+    → (r : ℕ) (row : RegionRow) → region_at cs2 r ≡ Some row → (0 < row.entries) ⊎ IsFilledIn list r
+used_declared o pages cs cs2 list put used r row found = elim (region_cases o.0 (Some (own_region o pages)) cs cs2 put r) [
+  | inl same ↦ let count : 1 ≡ row.entries = ap (λ z. z.entries) (some_is (own_region o pages) row (sym same.1 ∙ found)) in inl (omega arith)
   | inr apart ↦ used r row (sym apart.1 ∙ found)
 ]
 

@@ -14,7 +14,7 @@ use Rattle.vm_kernel.proofs.Heads.{grows_one}
 use Rattle.vm_kernel.proofs.Recounts.{Recounts, entries_are, entries_most, lowered_recounts, raised_recounts, recounts_as, recounts_same, recounts_twice}
 use Rattle.vm_kernel.proofs.Rewrites.{recount_known, tasks_changed}
 use Rattle.vm_kernel.proofs.Sharing.{kinds_recounted, shared_changed}
-use Rattle.vm_kernel.proofs.Uses.{uses_cut, ApartFrom, elsewhere, holds_rows}
+use Rattle.vm_kernel.proofs.Uses.{fills_here, uses_cut, ApartFrom, elsewhere, holds_rows}
 use Rattle.vm_kernel.proofs.Mine.{own_task}
 use Rattle.vm_kernel.proofs.Replied.{replied_behind}
 
@@ -46,6 +46,7 @@ waits_ended maps cs rs os rows who waiting_at task has none =
       ];
       allowed = has.allowed;
       sized = has.sized;
+      numbers = has.numbers;
       reasons = has.reasons;
       aims = has.aims;
       askers = has.askers;
@@ -53,7 +54,7 @@ waits_ended maps cs rs os rows who waiting_at task has none =
     }
 
 -- a task that has ended holds nothing, and others hold what they held
-apart_ended : (header : Header) (size : ℕ) (maps new : Mapped) (used_at : ℕ → Bool) (made : List ℕ) (n : ℕ) (task : TaskId) (past : List Event) → HasUse header maps used_at made (λ t r. holds size t r past) n → ChangesOnly maps new task.0 None
+apart_ended : {list : List Waiting} (header : Header) (size : ℕ) (maps new : Mapped) (used_at : ℕ → Bool) (made : List ℕ) (n : ℕ) (task : TaskId) (past : List Event) → HasUse header maps list used_at made (λ t r. holds size t r past) n → ChangesOnly maps new task.0 None
     → ApartFrom new used_at (λ t r. holds size t r (event.TaskEnded task ∷ past)) n
 apart_ended header size maps new used_at made n task past has changes t r none why = elim (eqb_tells task.0 t) [
   | inl same ↦ rw same.0 refl
@@ -90,14 +91,14 @@ sweeps_exit header h outside task past events k ids maps gone s value changes =
           regions = regions_moved header past (event.TaskEnded task ∷ past) refl refl (λ r. refl) (λ o. refl) c.regions;
           entries = c.entries;
           pages = m.pages;
-          uses = uses_cut header k.maps maps (λ r. in_use header h r past) _ (next_region header past) (event.TaskEnded task ∷ past) task.0 None m.uses changes live.1 (λ r some. uses_fewer header.size task.0 r k.maps maps k.chains None m.entries changes live.1 cuts.own some)
-              (record { rows = shown_tasks.rows; waiting = k.waits.rows; waits = record { is = shown_waits.is } }) c.entries.most
+          uses = uses_cut header k.maps maps k.waits.rows (λ r. in_use header h r past) _ (next_region header past) (event.TaskEnded task ∷ past) task.0 None m.uses changes live.1 (λ r some. uses_fewer header.size task.0 r k.maps maps k.chains None m.entries changes live.1 cuts.own some)
+              (record { rows = shown_tasks.rows; filled = fills_here {past = event.TaskEnded task ∷ past} shown_waits c.used.copies }) c.entries.most
               (apart_ended header header.size k.maps maps (λ r. in_use header h r past) _ (next_region header past) task past m.uses changes);
           controls = controls_stay (λ o is. object_stays o h (event.TaskEnded task) past is) m.controls;
           homeless = homes_next header outside (event.TaskEnded task) past (command.Exit task, idle) m.homeless;
           homes = c.homes;
           files = m.files;
-          settled = record { returned = refl; shut = λ region. refl };
+          settled = record { none_owed = refl; shut = λ region. refl };
           replied = replied_behind tt m.replied;
           laundry = m.laundry;
           frames = m.frames;
@@ -172,8 +173,8 @@ sweeps_removed header h outside task address bytes past events k ids maps mid hi
           regions = regions_moved header past (event.Removed task address bytes ∷ past) refl refl (λ r. refl) (λ o. refl) c.regions;
           entries = c.entries;
           pages = m.pages;
-          uses = uses_cut header k.maps maps (λ r. in_use header h r past) _ (next_region header past) (event.Removed task address bytes ∷ past) task.0 (Some two) m.uses cut_to live.1 (λ r some. uses_fewer header.size task.0 r k.maps maps k.chains (Some two) m.entries cut_to live.1 cuts.own some)
-              (record { rows = shown_tasks.rows; waiting = k.waits.rows; waits = record { is = c.waits.is } }) c.entries.most
+          uses = uses_cut header k.maps maps k.waits.rows (λ r. in_use header h r past) _ (next_region header past) (event.Removed task address bytes ∷ past) task.0 (Some two) m.uses cut_to live.1 (λ r some. uses_fewer header.size task.0 r k.maps maps k.chains (Some two) m.entries cut_to live.1 cuts.own some)
+              (record { rows = shown_tasks.rows; filled = fills_here {past = event.Removed task address bytes ∷ past} c.waits c.used.copies }) c.entries.most
               (λ t r none why.
               let other = elsewhere maps task.0 t two now none in
               let was = sym (changes.others t (λ e. other (sym e))) ∙ none in
@@ -182,7 +183,7 @@ sweeps_removed header h outside task address bytes past events k ids maps mid hi
           homeless = homes_next header outside (event.Removed task address bytes) past (command.Deallocate task address bytes, idle) m.homeless;
           homes = c.homes;
           files = m.files;
-          settled = record { returned = refl; shut = λ region. refl };
+          settled = record { none_owed = refl; shut = λ region. refl };
           replied = replied_behind tt m.replied;
           laundry = m.laundry;
           frames = m.frames;

@@ -1,5 +1,7 @@
 -- Entries that have gone leave the counts.
-use Rattle.vm_kernel.proofs.Common.{AllUsed, ChainTable, Command, EndsRegion, Entry, Event, HasEntries, Header, Ids, IsInStep, List, Mapped, Outside, Parts, PutsEntries, RegionRow, Some, Sweeps, ap, arith, backing_of, count_on, drop, entries_in_row, eqb_tells, home_of, if◌then◌else◌, inl, inr, is_woken, marked_regions, next_object, next_region, refl, region_at, region_entries, region_of, rows_in, slice_get, subst, suc, sym, waiting, zero, ℕ, ◌++◌, ◌+◌, ◌-◌, ◌<◌, ◌==◌, ◌∙◌, ◌∷◌, ◌≡◌, ◌≢◌, ◌≤◌}
+use Rattle.vm_kernel.proofs.Common.{ChainTable, Command, EndsRegion, Entry, Event, HasEntries, HasSlow, Header, Ids, IsFilledIn, IsInStep, List, Mapped, Outside, Parts, PutsEntries, RegionRow, Some, Sweeps, Waiting, ap, arith, backing_of, count_on, drop, entries_in_row, eqb_tells, home_of, if◌then◌else◌, inl, inr, is_woken, marked_regions, next_object, next_region, refl, region_at, region_entries, region_of, rows_in, slice_get, subst, suc, sym, waiting, zero, ℕ, ◌++◌, ◌+◌, ◌-◌, ◌<◌, ◌==◌, ◌∙◌, ◌∷◌, ◌≡◌, ◌≢◌, ◌≤◌, ◌⊎◌}
+use Rattle.vm_kernel.proofs.Filled.{counted_unfilled, recount_filled}
+use Rattle.vm_state.proofs.Filling.{copies_kept, rows_unmade}
 use Rattle.vm_supply.specs.declared.woken.Woken.TheVariants as woken
 use Rattle.vm_kernel.proofs.Pages.{itself}
 use Rattle.vm_kernel.proofs.Recounts.{Recounts, entries_are, has_same, next_row, recounts_put, row_before}
@@ -16,7 +18,8 @@ count_less cs region r = if region == r then region_entries cs region - 1 else r
 pub some_left : (header : Header) (h : ℕ) (outside : Outside) (doing : Command) (past : List Event) (k : Parts) (ids : Ids) (entry : Entry) (rest : List Entry) (events : List Event) → Sweeps header h outside doing past k ids (entry ∷ rest) events → 1 ≤ region_entries k.chains entry.region.0
 some_left header h outside doing past k ids entry rest events s =
     let row = region_row k.chains entry.region.0 s.runs.matches.entries.known.0 in
-    let some = s.used entry.region.0 row.0 row.1 in
+    let counts = s.runs.matches.entries.counts entry.region.0 row.0 row.1 in
+    let one : count_on entry.region.0 (entry ∷ rest) ≡ 1 + count_on entry.region.0 rest = rw (itself entry.region.0) refl in
     let is = ap entries_in_row row.1 in
     omega arith
 
@@ -84,11 +87,23 @@ runs_less header h outside doing past k ids entry rest events chains s put =
     }
 
 -- other regions have as many entries
-others_less : (cs cs2 : ChainTable) (region : ℕ) → PutsEntries region (region_entries cs region - 1) cs cs2 → AllUsed cs → (r : ℕ) (row : RegionRow) → r ≢ region → region_at cs2 r ≡ Some row → 0 < row.entries
-others_less cs cs2 region put used r row apart found = elim (region_cases region _ cs cs2 put r) [
+others_less : (cs cs2 : ChainTable) (region : ℕ) → PutsEntries region (region_entries cs region - 1) cs cs2 → (list : List Waiting) → ((r : ℕ) (row : RegionRow) → region_at cs r ≡ Some row → (0 < row.entries) ⊎ IsFilledIn list r) → (r : ℕ) (row : RegionRow) → r ≢ region → region_at cs2 r ≡ Some row → (0 < row.entries) ⊎ IsFilledIn list r
+others_less cs cs2 region put list used r row apart found = elim (region_cases region _ cs cs2 put r) [
   | inl this ↦ absurd (apart (sym this.0))
   | inr other ↦ used r row (sym other.1 ∙ found)
 ]
+
+copies_less : (header : Header) (h : ℕ) (outside : Outside) (doing : Command) (past : List Event) (k : Parts) (ids : Ids) (entry : Entry) (rest : List Entry) (events : List Event) (chains : ChainTable) → Sweeps header h outside doing past k ids (entry ∷ rest) events
+    → PutsEntries entry.region.0 (region_entries k.chains entry.region.0 - 1) k.chains chains → HasSlow header (record k { chains = chains }) (events ++ past)
+copies_less header h outside doing past k ids entry rest events chains s put =
+    let some = some_left header h outside doing past k ids entry rest events s in
+    copies_kept k.maps k.maps k.chains chains k.memory.resident k.memory.resident s.used.copies (λ t w found. record { size = refl; entries = refl })
+    (recount_filled (count_less k.chains entry.region.0) k.chains chains (recounts_put entry.region.0 (region_entries k.chains entry.region.0 - 1) k.chains chains put)
+    (λ r there none. elim (eqb_tells entry.region.0 r) [
+      | inl same ↦ let that : region_entries k.chains entry.region.0 ≡ region_entries k.chains r = ap (region_entries k.chains) same.1 in absurd (omega (arith, some, that, none))
+      | inr apart ↦ ap (λ b. if b then region_entries k.chains entry.region.0 - 1 else region_entries k.chains r) apart.0 ∙ none
+    ]))
+    (rows_unmade k.chains k.memory.resident)
 
 -- the region has others
 pub sweeps_less : (header : Header) (h : ℕ) (outside : Outside) (doing : Command) (past : List Event) (k : Parts) (ids : Ids) (entry : Entry) (rest : List Entry) (events : List Event) (chains : ChainTable) → Sweeps header h outside doing past k ids (entry ∷ rest) events
@@ -96,15 +111,18 @@ pub sweeps_less : (header : Header) (h : ℕ) (outside : Outside) (doing : Comma
 sweeps_less header h outside doing past k ids entry rest events chains s put more =
     record {
       runs = runs_less header h outside doing past k ids entry rest events chains s.runs put;
-      used = λ r row found. elim (eqb_tells r entry.region.0) [
-        | inl same ↦
-            let b = row_before (count_less k.chains entry.region.0) k.chains chains (recounts_put entry.region.0 (region_entries k.chains entry.region.0 - 1) k.chains chains put) r row found in
-            let now = ap (λ z. z.entries) b.is in
-            let less : count_less k.chains entry.region.0 r ≡ region_entries k.chains entry.region.0 - 1 = subst (λ (z : ℕ). count_less k.chains entry.region.0 z ≡ region_entries k.chains entry.region.0 - 1) (sym same.1) (rw (itself entry.region.0) refl) in
-            let some = some_left header h outside doing past k ids entry rest events s in
-            by_count (region_entries k.chains entry.region.0) row.entries more some (omega arith)
-        | inr apart ↦ others_less k.chains chains entry.region.0 put s.used r row apart.1 found
-      ];
+      used = record {
+        regions = λ r row found. elim (eqb_tells r entry.region.0) [
+          | inl same ↦
+              let b = row_before (count_less k.chains entry.region.0) k.chains chains (recounts_put entry.region.0 (region_entries k.chains entry.region.0 - 1) k.chains chains put) r row found in
+              let now = ap (λ z. z.entries) b.is in
+              let less : count_less k.chains entry.region.0 r ≡ region_entries k.chains entry.region.0 - 1 = subst (λ (z : ℕ). count_less k.chains entry.region.0 z ≡ region_entries k.chains entry.region.0 - 1) (sym same.1) (rw (itself entry.region.0) refl) in
+              let some = some_left header h outside doing past k ids entry rest events s in
+              inl (by_count (region_entries k.chains entry.region.0) row.entries more some (omega arith))
+          | inr apart ↦ others_less k.chains chains entry.region.0 put k.waits.rows s.used.regions r row apart.1 found
+        ];
+        copies = copies_less header h outside doing past k ids entry rest events chains s put;
+      };
       referred = recount_referred (count_less k.chains entry.region.0) k.chains chains k.memory.objects k.memory.resident (recounts_put entry.region.0 (region_entries k.chains entry.region.0 - 1) k.chains chains put) s.referred;
     }
   where
@@ -126,7 +144,9 @@ ends_less header h outside doing past k ids entry rest events chains s put last 
       runs = runs_less header h outside doing past k ids entry rest events chains s.runs put;
       there = there;
       none = omega arith;
-      others = others_less k.chains chains entry.region.0 put s.used;
+      others = others_less k.chains chains entry.region.0 put k.waits.rows s.used.regions;
+      copies = copies_less header h outside doing past k ids entry rest events chains s put;
+      unfilled = let row = region_row k.chains entry.region.0 s.runs.matches.entries.known.0 in let is_row = ap entries_in_row row.1 in let some = some_left header h outside doing past k ids entry rest events s in counted_unfilled entry.region.0 row.0 s.used.copies row.1 (omega (arith, is_row, some));
       referred = recount_referred (count_less k.chains entry.region.0) k.chains chains k.memory.objects k.memory.resident (recounts_put entry.region.0 (region_entries k.chains entry.region.0 - 1) k.chains chains put) s.referred;
     }
 

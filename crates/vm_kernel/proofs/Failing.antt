@@ -1,5 +1,7 @@
 -- Those who wait for a page that its pager can't give are ended.
-use Rattle.vm_kernel.proofs.Common.{AllInner, Asked, Asker, BeganInOrder, Command, EndsEach, EndsNobody, Event, Fails, FailsNow, HasEnded, HasFailed, HasUse, Header, Ids, IfSome, IsAbsencePaid, IsAnswered, IsErrorPaid, LegalEvents, List, Mapped, Matches, None, On, Outside, PageKey, Parts, PutsEntry, Some, TaskId, WaitTable, Waiting, Woken, Works, [], absence_more, absence_taken, access_in, address_in, ap, append_assoc, begun_at, entries_in, entries_of, entry, entry_at, eqb_tells, error_more, error_taken, fails_access, fails_task, false, holds, homes_next, if◌then◌else◌, in_use, inl, inr, next_page, next_region, oldest_row, or_true, page_key, puts_cases, refl, rows_in, since, since_more, some_is, subst, sym, true, waiting, waiting_in, woken_page, ℕ, ◌++◌, ◌<◌, ◌==◌, ◌||◌, ◌∙◌, ◌∷◌, ◌≡◌, ◌⊎◌}
+use Rattle.vm_kernel.proofs.Common.{AllInner, Asked, Asker, BeganInOrder, Command, EndsEach, EndsNobody, Event, Fails, FailsNow, HasEnded, HasFailed, HasUse, HasWaits, Header, Ids, IfSome, IsAbsencePaid, IsAnswered, IsErrorPaid, IsFilledIn, LegalEvents, List, Mapped, Matches, None, On, Outside, PageKey, Parts, PutsEntry, Some, TaskId, WaitTable, Waiting, Woken, Works, [], absence_more, absence_taken, access_in, address_in, ap, append_assoc, begun_at, copies_to, copy_target, entries_in, entries_of, entry, entry_at, eqb_tells, error_more, error_taken, fails_access, fails_task, false, holds, homes_next, if◌then◌else◌, in_use, inl, inr, next_page, next_region, oldest_row, or_true, page_key, puts_cases, refl, rows_in, since, since_more, some_is, subst, sym, true, waiting, waiting_in, woken_page, ℕ, ◌++◌, ◌<◌, ◌==◌, ◌||◌, ◌∙◌, ◌∷◌, ◌≡◌, ◌⊎◌}
+use Rattle.vm_kernel.proofs.Uses.{FillsHere, fills_here, holds_waits, uses_none}
+use Rattle.vm_state.proofs.Filling.{fills_over, filled_before, number_fills, used_over}
 use Rattle.vm_legal.specs.Licences.{zeroes}
 use Rattle.std.proofs.Common.{is_some}
 use Rattle.vm_abroad.proofs.Home.{object_stays}
@@ -11,7 +13,6 @@ use Rattle.vm_kernel.proofs.After.{controls_stay, regions_moved}
 use Rattle.vm_kernel.proofs.Growing.{goes_more, suffices}
 use Rattle.vm_kernel.proofs.Ordering.{PutsInOrder, oldest_first}
 use Rattle.vm_kernel.proofs.Shown.{place_at, want_address}
-use Rattle.vm_kernel.proofs.Uses.{holds_waits, uses_none}
 use Rattle.vm_kernel.proofs.Own.{lives_here, rows_here}
 use Rattle.vm_state.proofs.Waited.{AreTold}
 use Rattle.vm_kernel.proofs.Mine.{own_lives}
@@ -50,21 +51,22 @@ fails_cause header h k ids past key w works fails found waits before =
     let place = works.waits.aims w.task.0 w key found waits in
     let at = place.at in
     let allowed = works.waits.allowed w.task.0 w found in
+    let number = works.waits.numbers w.task.0 w found in
     record {
-      access = access_in w.want;
+      access = access_in k.maps.size (copies_to w.destination) w.want;
       waits =
           record {
-            waits = works.waits.is w.task.0 (ap is_some allowed.lives) ∙ ap waiting_in found;
+            waits = works.waits.is w.task.0 (ap is_some allowed.lives) ∙ ap (waiting_in k.maps.size) found;
             at =
                 record {
                   host = h;
                   entry = at.entry;
                   lives = lives_here was.tasks allowed.lives;
-                  found = ap (λ z. entry_at z (entries_of header.size w.task.0 past)) (want_address header.size (next_page w.task.0 past) w.want) ∙ (ap (entry_at (address_in w.want)) (rows_here was.tasks allowed.lives) ∙ at.found);
+                  found = ap (λ z. entry_at z (entries_of header.size w.task.0 past)) (want_address k.maps.size header.size (next_page w.task.0 past) (copies_to w.destination) w.want number) ∙ (ap (entry_at (address_in k.maps.size w.want)) (rows_here was.tasks allowed.lives) ∙ at.found);
                 };
           };
       error = fails;
-      place = place_at was place;
+      place = place_at was (copies_to w.destination) number place;
       order = λ other ended. before other w.task.0 w ended found (ap (woken_page key) waits ∙ itself key);
     }
 
@@ -72,8 +74,8 @@ fails_cause header h k ids past key w works fails found waits before =
 waits_less : (maps : Mapped) (task : ℕ) (rows rows2 : List Waiting) (past : List Event) → AreTold maps rows (λ t. waiting t past) → PutsEntry task None rows rows2
     → AreTold maps rows2 (λ t. if task == t then None else waiting t past)
 waits_less maps task rows rows2 past is puts t here = elim (eqb_tells task t) [
-  | inl same ↦ rw same.0 (sym (ap waiting_in (puts.at t ∙ ap (λ b. if b then None else entry rows t) same.0)))
-  | inr apart ↦ rw apart.0 (is t here ∙ sym (ap waiting_in (puts.at t ∙ ap (λ b. if b then None else entry rows t) apart.0)))
+  | inl same ↦ rw same.0 (sym (ap (waiting_in maps.size) (puts.at t ∙ ap (λ b. if b then None else entry rows t) same.0)))
+  | inr apart ↦ rw apart.0 (is t here ∙ sym (ap (waiting_in maps.size) (puts.at t ∙ ap (λ b. if b then None else entry rows t) apart.0)))
 ]
 
 stood : (task t : ℕ) (rows rows2 : List Waiting) (w : Waiting) → PutsEntry task None rows rows2 → entry rows2 t ≡ Some w → entry rows t ≡ Some w
@@ -106,11 +108,11 @@ pub before_none : (key : PageKey) (rows : List Waiting) (past : List Event) → 
 before_none key rows past none u t w ended found passes = absurd (let bad : false ≡ true = sym (none u) ∙ ended in cc)
 
 uses_failed : (header : Header) (h : ℕ) (k : Parts) (ids : Ids) (past : List Event) (key : PageKey) (task : TaskId) (rows : List Waiting) → Works header h k ids (who.Fails key) past
-    → AreTold k.maps rows (λ t. waiting t (event.Failed task key.object key.page ∷ past)) → entries_in task.0 k.maps ≡ Some (rows_in task.0 k.maps)
-    → HasUse header k.maps (λ r. in_use header h r (event.Failed task key.object key.page ∷ past)) (made_tasks past) (λ t r. holds header.size t r (event.Failed task key.object key.page ∷ past)) (next_region header past)
-uses_failed header h k ids past key task rows works is lives =
-    uses_none header k.maps (λ r. in_use header h r past) (λ t r. holds header.size t r past) (next_region header past) (event.Failed task key.object key.page ∷ past) was.uses
-    (record { rows = λ t here. was.tasks.rows t here; waiting = rows; waits = record { is = is } }) was.entries.most (λ t r none. holds_waits header.size task.0 t r k.maps (rows_in task.0 k.maps) past None lives none)
+    → FillsHere k.maps rows (event.Failed task key.object key.page ∷ past) → ((r : ℕ) → IsFilledIn rows r → IsFilledIn k.waits.rows r) → entries_in task.0 k.maps ≡ Some (rows_in task.0 k.maps)
+    → HasUse header k.maps rows (λ r. in_use header h r (event.Failed task key.object key.page ∷ past)) (made_tasks past) (λ t r. holds header.size t r (event.Failed task key.object key.page ∷ past)) (next_region header past)
+uses_failed header h k ids past key task rows works filled back lives =
+    uses_none header k.maps k.waits.rows rows (λ r. in_use header h r past) (λ t r. holds header.size t r past) (next_region header past) (event.Failed task key.object key.page ∷ past) was.uses back
+    (record { rows = λ t here. was.tasks.rows t here; filled = filled }) was.entries.most (λ t r none. holds_waits header.size task.0 t r k.maps (rows_in task.0 k.maps) past None lives none)
   where
     was : Matches header h k ids [] past
     was = works.matches
@@ -135,7 +137,21 @@ failed_one header h outside doing past old events key k ids w waits f found pass
     let rows = k.waits.rows in
     let has = f.works.waits in
     let is : AreTold k.maps waits.rows (λ t. waiting t (e ∷ moment)) = waits_less k.maps w.task.0 rows waits.rows moment has.is puts in
+    let numbers = λ (t : ℕ) (v : Waiting) (at : entry waits.rows t ≡ Some v). has.numbers t v (stood w.task.0 t rows waits.rows v puts at) in
     let cause = fails_cause header h k ids moment key w f.works f.fails found (waits_for key w.on passes) f.before in
+    let copies = f.works.used.copies in
+    let none : w.destination ≡ None = number_fills header k.maps k.chains k.memory.resident w.task.0 w.want w.destination (next_page w.task.0 moment) (copy_target w.task.0 moment) (has.numbers w.task.0 w found) (copies.each w.task.0 w found) in
+    let used2 = used_over w.task.0 w rows waits.rows f.works.used found none puts in
+    let has2 : HasWaits (record k { waits = waits }) (who.Fails key) (e ∷ moment) = record {
+      is = is;
+      allowed = λ t v at. has.allowed t v (stood w.task.0 t rows waits.rows v puts at);
+      sized = λ t v at. has.sized t v (stood w.task.0 t rows waits.rows v puts at);
+      numbers = numbers;
+      reasons = λ t v at still. has.reasons t v (stood w.task.0 t rows waits.rows v puts at) still;
+      aims = λ t v other at waits_on. has.aims t v other (stood w.task.0 t rows waits.rows v puts at) waits_on;
+      askers = λ o p row at away. asker_stays o p (has.askers o p row at away) (f.answered.at o p row at away);
+      ready = has.ready;
+    } in
     record {
       works =
           record {
@@ -153,28 +169,19 @@ failed_one header h outside doing past old events key k ids w waits f found pass
                   regions = regions_moved header moment (e ∷ moment) refl refl (λ r. refl) (λ o. refl) was.regions;
                   entries = was.entries;
                   pages = was.pages;
-                  uses = uses_failed header h k ids moment key w.task waits.rows f.works is (has.allowed w.task.0 w found).lives;
+                  uses = uses_failed header h k ids moment key w.task waits.rows f.works (fills_here {past = e ∷ moment} has2 used2.copies) (λ r filled. filled_before {rows = rows} {rows2 = waits.rows} (fills_over w.task.0 w rows waits.rows found none puts) filled) (has.allowed w.task.0 w found).lives;
                   controls = controls_stay (λ o held. object_stays o h e moment held) was.controls;
                   homeless = homes_next header outside e moment (doing, cause) was.homeless;
                   homes = was.homes;
                   files = was.files;
-                  settled = record { returned = refl; shut = λ region. refl };
+                  settled = record { none_owed = refl; shut = λ region. refl };
                   replied = replied_behind tt was.replied;
                   laundry = was.laundry;
                   frames = was.frames;
                 };
-            used = f.works.used;
+            used = used2;
             referred = f.works.referred;
-            waits =
-                record {
-                  is = is;
-                  allowed = λ t v at. has.allowed t v (stood w.task.0 t rows waits.rows v puts at);
-                  sized = λ t v at. has.sized t v (stood w.task.0 t rows waits.rows v puts at);
-                  reasons = λ t v at still. has.reasons t v (stood w.task.0 t rows waits.rows v puts at) still;
-                  aims = λ t v other at waits_on. has.aims t v other (stood w.task.0 t rows waits.rows v puts at) waits_on;
-                  askers = λ o p row at away. asker_stays o p (has.askers o p row at away) (f.answered.at o p row at away);
-                  ready = has.ready;
-                };
+            waits = has2;
             order = both.order.keeps (λ t. begun_at t moment) 0 f.works.order;
           };
       fails = f.fails;

@@ -1,7 +1,7 @@
 -- An access that finds its page ends at once.
-use Rattle.vm_kernel.proofs.Common.{Backing, Bool, Comes, Command, EndsNext, Event, FindsPage, FrameNo, Header, HostId, HostParts, Ids, IsAt, IsNextAccess, IsTop, LegalEvents, List, Loading, ObjectRow, Option, Outside, PageKey, PageRow, Parts, RegionRow, Sight, Some, Storing, TaskId, ToRead, ToWrite, Waiting, Waits, Walks, Want, Works, [], access_in, address_in, ap, append_assoc, backing_of, count_again, entries_of, entry, entry_at, false, has_pager, inl, inr, is_again, is_known_absent, is_some, not, page_at, page_on, refl, region_of, sight, some_is, subst, suc, sym, true, zero, ℕ, ◌%◌, ◌&&◌, ◌++◌, ◌+◌, ◌∙◌, ◌∷◌, ◌≡◌, ◌⊎◌}
+use Rattle.vm_kernel.proofs.Common.{Backing, Bool, Comes, Command, EndsNext, Event, FindsPage, FrameNo, Header, HostId, HostParts, Ids, IsAt, IsNextAccess, IsOfNumber, IsTop, LegalEvents, List, Loading, ObjectRow, Option, Outside, PageKey, PageRow, Parts, RegionRow, Sight, Some, Storing, TaskId, ToRead, ToWrite, Waiting, Waits, Walks, Want, Works, [], access_in, address_in, ap, append_assoc, backing_of, count_again, entries_of, entry, entry_at, false, has_pager, inl, inr, is_again, is_known_absent, is_some, not, page_at, page_on, refl, region_of, sight, some_is, subst, suc, sym, true, zero, ℕ, ◌%◌, ◌&&◌, ◌++◌, ◌+◌, ◌∙◌, ◌∷◌, ◌≡◌, ◌⊎◌}
 use Rattle.vm_base.specs.declared.entry.Entry.{Entry}
-use Rattle.vm_fault.specs.Faults.{AfterZeros, AtOnce, Ended, FaultState, Faulted, Hits, Needs, Nowhere, Prepares, Raised, ToAsk, ToRaise}
+use Rattle.vm_fault.specs.Faults.{AfterZeros, AtOnce, Copied, Ended, FaultState, Faulted, Hits, Needs, Nowhere, Prepares, Raised, ToAsk, ToCopy, ToRaise}
 use Rattle.vm_fault.specs.Faults as fault
 use Rattle.vm_fault.specs.Walks as walks
 use Rattle.vm_fault.specs.Walks.{Finds, MayCome, StopsAsked, WalksTo, is_storing, keeps_out, top_place, writes_at}
@@ -9,6 +9,7 @@ use Rattle.vm_fault.specs.declared.step.FaultStep.{FaultStep}
 use Rattle.vm_fault.specs.declared.step.FaultStep.TheVariants as step
 use Rattle.vm_kernel.proofs.Attempting.{state_of}
 use Rattle.vm_kernel.proofs.Leading.{Leads, leads_of}
+use Rattle.vm_kernel.proofs.Numbers.{no_copy}
 use Rattle.vm_legal.specs.Walks as legal
 use Rattle.vm_legal.specs.Walks.{Passes}
 use Rattle.vm_model.specs.declared.event.Event.TheVariants as event
@@ -75,13 +76,14 @@ read_at header h past k task address bytes object page what top at to waits come
     load_address a n a2 n2 same = cc
 
     by : (want2 : Want) → what ≡ want2 → FindsAt header h past what top
-    by (want.Store a n v) is = absurd (let bad : Some (Storing a n v) ≡ Some (Loading address bytes) = sym (to.waits ∙ ap (λ z. Some (access_in z)) is) ∙ waits.waits in cc)
+    by (want.CopyTo a pages target next) is = absurd (subst IsOfNumber is to.number)
+    by (want.Store a n v) is = absurd (let bad : Some (Storing a n v) ≡ Some (Loading address bytes) = sym (to.waits ∙ ap (λ z. Some (access_in k.maps.size to.destination z)) is) ∙ waits.waits in cc)
     by (want.Load a n) is =
-        let access : Some (Loading a n) ≡ Some (Loading address bytes) = sym (to.waits ∙ ap (λ z. Some (access_in z)) is) ∙ waits.waits in
-        let same : address_in what ≡ address = ap address_in is ∙ load_address a n address bytes access in
+        let access : Some (Loading a n) ≡ Some (Loading address bytes) = sym (to.waits ∙ ap (λ z. Some (access_in k.maps.size to.destination z)) is) ∙ waits.waits in
+        let same : address_in k.maps.size what ≡ address = ap (address_in k.maps.size) is ∙ load_address a n address bytes access in
         let host : waits.at.host ≡ h = some_is waits.at.host h (sym waits.at.lives ∙ to.lives) in
         let entries : waits.at.entry ≡ at.entry = some_is waits.at.entry at.entry (sym waits.at.found ∙ (ap (λ z. entry_at z (entries_of header.size task past)) (sym same) ∙ to.found)) in
-        let comes2 : Comes header h at.entry.region.0 (page_at header.size (address_in what) at.entry) object page past =
+        let comes2 : Comes header h at.entry.region.0 (page_at header.size (address_in k.maps.size what) at.entry) object page past =
         subst (λ (z : ℕ). Comes header h at.entry.region.0 (page_at header.size z at.entry) object page past) (sym same)
         (subst (λ (z : Entry). Comes header h z.region.0 (page_at header.size address z) object page past) entries
         (subst (λ (z : ℕ). Comes header z waits.at.entry.region.0 (page_at header.size address waits.at.entry) object page past) host comes)) in
@@ -113,13 +115,14 @@ write_at header h past k task address bytes value object page what top at to wai
     store_address a n v a2 n2 v2 same = cc
 
     by : (want2 : Want) → what ≡ want2 → WritesAt header h past what top at.entry.region.0
-    by (want.Load a n) is = absurd (let bad : Some (Loading a n) ≡ Some (Storing address bytes value) = sym (to.waits ∙ ap (λ z. Some (access_in z)) is) ∙ waits.waits in cc)
+    by (want.CopyTo a pages target next) is = absurd (subst IsOfNumber is to.number)
+    by (want.Load a n) is = absurd (let bad : Some (Loading a n) ≡ Some (Storing address bytes value) = sym (to.waits ∙ ap (λ z. Some (access_in k.maps.size to.destination z)) is) ∙ waits.waits in cc)
     by (want.Store a n v) is =
-        let access : Some (Storing a n v) ≡ Some (Storing address bytes value) = sym (to.waits ∙ ap (λ z. Some (access_in z)) is) ∙ waits.waits in
-        let same : address_in what ≡ address = ap address_in is ∙ store_address a n v address bytes value access in
+        let access : Some (Storing a n v) ≡ Some (Storing address bytes value) = sym (to.waits ∙ ap (λ z. Some (access_in k.maps.size to.destination z)) is) ∙ waits.waits in
+        let same : address_in k.maps.size what ≡ address = ap (address_in k.maps.size) is ∙ store_address a n v address bytes value access in
         let host : waits.at.host ≡ h = some_is waits.at.host h (sym waits.at.lives ∙ to.lives) in
         let entries : waits.at.entry ≡ at.entry = some_is waits.at.entry at.entry (sym waits.at.found ∙ (ap (λ z. entry_at z (entries_of header.size task past)) (sym same) ∙ to.found)) in
-        let top2 : IsTop (region_of header at.entry.region.0 past) (page_at header.size (address_in what) at.entry) object page =
+        let top2 : IsTop (region_of header at.entry.region.0 past) (page_at header.size (address_in k.maps.size what) at.entry) object page =
         subst (λ (z : ℕ). IsTop (region_of header at.entry.region.0 past) (page_at header.size z at.entry) object page) (sym same)
         (subst (λ (z : Entry). IsTop (region_of header z.region.0 past) (page_at header.size address z) object page) entries is_top) in
         record {
@@ -146,8 +149,9 @@ finds_first header h past k task what top at to (ToRead address bytes object pag
     record { finds = read_at header h past k task address bytes object page what top at to waits comes here open_it; bare = and_left (is_storing what) at.row.marked (loads what refl) }
   where
     loads : (want2 : Want) → what ≡ want2 → is_storing what ≡ false
+    loads (want.CopyTo a pages target next) is = absurd (subst IsOfNumber is to.number)
     loads (want.Load a n) is = ap is_storing is
-    loads (want.Store a n v) is = absurd (let bad : Some (Storing a n v) ≡ Some (Loading address bytes) = sym (to.waits ∙ ap (λ z. Some (access_in z)) is) ∙ waits.waits in cc)
+    loads (want.Store a n v) is = absurd (let bad : Some (Storing a n v) ≡ Some (Loading address bytes) = sym (to.waits ∙ ap (λ z. Some (access_in k.maps.size to.destination z)) is) ∙ waits.waits in cc)
 finds_first header h past k task what top at to (ToWrite address bytes value object page waits is_top unmarked here open_it) =
     let writes = write_at header h past k task address bytes value object page what top at to waits is_top unmarked here open_it in
     record { finds = writes.finds; bare = and_right (is_storing what) at.row.marked (sym to.marks ∙ writes.unmarked) }
@@ -155,6 +159,7 @@ finds_first header h past k task what top at to (ToWrite address bytes value obj
 -- what the kernel's walk comes to is what the history's does
 
 record Found (header : Header) (h : ℕ) (past : List Event) (parts : HostParts) (chains : ChainTable) (what : Want) (top : PageKey) : Type 0 where
+  pub number : IsOfNumber what
   pub shown : IsShown header h parts chains past
   pub referred : IsReferred parts.objects top.object.0
   pub finds : FindsAt header h past what top
@@ -226,6 +231,7 @@ hits_next task (want.Load address n) key frame at value e old new before after h
     record { later = []; end = event.Loaded task key.object key.page value; is = told ∙ ap (λ z. z ∷ before) hits.2; ends = refl }
 hits_next task (want.Store address n number) key frame at value e old new before after hits told =
     record { later = []; end = event.Stored task key.object key.page at n number; is = told ∙ ap (λ z. z ∷ before) hits.2; ends = refl }
+hits_next task (want.CopyTo address pages target next) key frame at value e old new before after hits told = absurd hits
 
 never : {A : Type 0} → ⊥ → A
 never bad = absurd bad
@@ -235,11 +241,13 @@ ended_next : {header : Header} {h : ℕ} {past : List Event} {what : Want} {top 
 ended_next {what = what} host task at value old new chains before after f (AtOnce steps key row finds none out e hits told) = hits_next task what key row.frame at value e old new before after hits told
 ended_next host task at value old new chains before after f (Raised steps key row finds stores out frame copied hit raises keeps e hits touched told) = never (never_below f steps key row finds stores)
 ended_next host task at value old new chains before after f (AfterZeros sinks frame brought brings keeps e hits told) = never (never_sinks f sinks)
+ended_next {what = what} host task at value old new chains before after f (Copied address pages next target is steps key row finds out is_none copies) = never (subst IsOfNumber is f.number)
 
 never_needs : {header : Header} {h : ℕ} {past : List Event} {parts : HostParts} {chains : ChainTable} {what : Want} {top : PageKey} {source : Option PageKey} → Found header h past parts chains what top → Needs what top parts chains source → ⊥
 never_needs f (Nowhere sinks) = never_sinks f sinks
 never_needs f (ToAsk steps key object comes ready) = never_comes f steps key object comes (ap has_pager ready)
 never_needs f (ToRaise steps key row finds stores out) = never_below f steps key row finds stores
+never_needs {what = what} f (ToCopy steps key row finds copying out) = no_copy what f.number copying
 
 comes_next : {header : Header} {h : ℕ} {past : List Event} {what : Want} {top : PageKey} (host : HostId) (task : TaskId) (may : Bool) (at : ℕ) (answer : FaultStep) (old new : FaultState) → Found header h past old.parts old.chains what top
     → fault.Comes host task what may top at answer old new → EndsNext task.0 old.events new.events
@@ -267,7 +275,7 @@ ends_next header h past k ids w may answer events new works is f finds =
     moment = events ++ past
 
     before : PageKey
-    before = top_place f.row (page_at k.maps.size (address_in w.want) f.entry)
+    before = top_place f.row (page_at k.maps.size (address_in k.maps.size w.want) f.entry)
 
     at : IsAt k.maps k.chains w.task.0 w.want before
     at = record { entry = f.entry; found = f.found; row = f.row; region = f.region; is = refl }
@@ -284,10 +292,10 @@ ends_next header h past k ids w may answer events new works is f finds =
         let at_mid : IsAt k.maps k.chains w.task.0 w.want f.top = subst (λ (z : FaultState). IsAt k.maps z.chains w.task.0 w.want f.top) same f.at in
         let found2 = finds_first header h moment k w.task.0 w.want f.top at_mid (leads_of header h k ids moment woken.Nobody w.task.0 w f.top works.matches works.waits is at_mid) finds in
         let referred = (leads_of header h k ids moment woken.Nobody w.task.0 w f.top works.matches works.waits is at_mid).referred in
-        let comes : fault.Comes k.host w.task w.want may f.top (address_in w.want % k.memory.buffers.size) answer (state_of k ids events) new =
-        subst (λ (z : FaultState). fault.Comes k.host w.task w.want may f.top (address_in w.want % k.memory.buffers.size) answer z new) same f.comes in
-        comes_next k.host w.task may (address_in w.want % k.memory.buffers.size) answer (state_of k ids events) new
-        (record { shown = shown_at works.matches; referred = referred; finds = found2.finds }) comes
+        let comes : fault.Comes k.host w.task w.want may f.top (address_in k.maps.size w.want % k.memory.buffers.size) answer (state_of k ids events) new =
+        subst (λ (z : FaultState). fault.Comes k.host w.task w.want may f.top (address_in k.maps.size w.want % k.memory.buffers.size) answer z new) same f.comes in
+        comes_next k.host w.task may (address_in k.maps.size w.want % k.memory.buffers.size) answer (state_of k ids events) new
+        (record { number = works.waits.numbers w.task.0 w is; shown = shown_at works.matches; referred = referred; finds = found2.finds }) comes
 
 -- what comes later doesn't change that
 pub next_more : (task : ℕ) (before events more : List Event) → EndsNext task before events → EndsNext task before (more ++ events)

@@ -332,7 +332,7 @@ sweeps_beside header h outside doing past k ids rest memory events s fit size =
     record {
       runs = record {
         begins = s.runs.begins;
-        matches = matches_with memory.queues memory.buffers k.waits fit size s.runs.matches;
+        matches = matches_with memory.queues memory.buffers k.waits (λ t r. refl) fit size s.runs.matches;
         waits = s.runs.waits;
         order = s.runs.order;
         idle = s.runs.idle;

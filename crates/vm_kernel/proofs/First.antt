@@ -1,5 +1,5 @@
 -- The kernel before anything has happened.
-use Rattle.vm_kernel.proofs.Common.{All, BeganInOrder, Declared, EachApart, Event, Header, Ids, IsRanged, IsStart, IsWashed, List, None, Parts, Rests, Some, Starts, TaskId, Waiting, [], absent_among, absent_at, all_tasks, away, ap, arith, begun_at, claimed, count_again, count_by, count_claims, entry, false, first_ids, frame_count, host_id, in_use, is_some, last_in, length, length-replicate, live_in, marked_below, marked_regions, named, nat_lt, nat_tests, none_of, not, object_among, object_at, refl, region_at, replicate, reverse, reverse-append, row_at, shadow_at, slice_get, subst, suc, sym, take, waiting_in, zero, ℕ, ◌+◌, ◌<◌, ◌≤◌, ◌∙◌, ◌∷◌, ◌≡◌}
+use Rattle.vm_kernel.proofs.Common.{All, BeganInOrder, Declared, EachApart, Event, Header, Ids, IsRanged, IsStart, IsUsed, IsWashed, List, None, Parts, Rests, Some, Starts, TaskId, Waiting, [], absent_among, absent_at, all_tasks, ap, arith, away, begun_at, claimed, count_again, count_by, count_claims, entry, false, fills_in, first_ids, frame_count, host_id, in_use, inl, inr, is_some, last_in, length, length-replicate, live_in, marked_below, marked_regions, named, nat_lt, nat_tests, none_of, not, object_among, object_at, refl, region_at, replicate, reverse, reverse-append, row_at, shadow_at, slice_get, subst, suc, sym, take, true, waiting_in, zero, ℕ, ◌+◌, ◌<◌, ◌∙◌, ◌∷◌, ◌≡◌, ◌≤◌}
 use Rattle.std.proofs.Math.Bool.{and-false}
 use Rattle.vm_abroad.proofs.Home.{homes_start}
 use Rattle.vm_model.specs.declared.command.Command.TheVariants as command
@@ -48,6 +48,14 @@ first_rests header h k count ranged known size host declared hosts start maps re
     let few = ranged.objects in
     let objects : (o : ℕ) → object_at k.memory.objects o ≡ None = λ o. ap (object_among o) start.objects in
     let marks : (o p : ℕ) → absent_at k.memory.objects o p ≡ false = λ o p. ap (absent_among o p) start.objects in
+    let unfilled : (t r : ℕ) → fills_in r (entry k.waits.rows t) ≡ false = λ t r. ap (λ z. fills_in r (entry z t)) waits in
+    let no_use : (r : ℕ) → named header ≤ r → IsUsed (record { size = header.size; tasks = [] }) k.waits.rows r (in_use header h r []) = λ r temporary. record {
+      why = λ used. inl (let test = sym (unused header h r temporary) ∙ used in grind (arith, nat_tests));
+      is = λ needed. elim needed [
+        | inl some ↦ let nothing = no_entries header.size r in absurd (omega (arith, some, nothing))
+        | inr filled ↦ absurd (let bad : false ≡ true = sym (unfilled filled.task r) ∙ filled.fills in cc)
+      ];
+    } in
     record {
       matches =
           record {
@@ -90,7 +98,7 @@ first_rests header h k count ranged known size host declared hosts start maps re
             shared = rw maps (λ task. tt);
             entries = rw maps (record { inside = λ task. tt; known = tt; most = λ task le. refl; few = λ task. omega arith; counts = λ r row is. none_of (region_at k.chains r) row (regions r) is });
             pages = record { shown = λ o p. rw (rows o p, marks o p) (ap (λ z. record away { absent = z }) (and-false (not (nat_lt o (named header))))) };
-            uses = rw maps (record { used = unused header h; files = λ r file some. let nothing = no_entries header.size r in absurd (omega (arith, some, nothing)); among = λ task rows is. none_of None rows refl is; apart = λ task r none why. refl });
+            uses = rw maps (record { used = no_use; files = λ r file some. let nothing = no_entries header.size r in absurd (omega (arith, some, nothing)); among = λ task rows is. none_of None rows refl is; apart = λ task r none why. refl });
             controls =
                 record {
                   last = λ o. sym (ap last_in (objects o));
@@ -104,7 +112,7 @@ first_rests header h k count ranged known size host declared hosts start maps re
             homeless = homes_start header;
             homes = λ r row paged is. none_of (region_at k.chains r) row (regions r) is;
             files = λ o file. sym (ap is_some (objects o));
-            settled = record { returned = refl; shut = λ region. refl };
+            settled = record { none_owed = refl; shut = λ region. refl };
             replied = replied_none refl;
             laundry =
                 record {
@@ -115,7 +123,13 @@ first_rests header h k count ranged known size host declared hosts start maps re
                 };
             frames = record { total = hosts ∙ ap Some (sym counted); held = sym nothing; wired = sym (ap (λ z. z.wired) frames); fits = let none = ap (λ z. z.wired) frames in omega (arith, nothing, none) };
           };
-      used = λ r row is. none_of (region_at k.chains r) row (regions r) is;
+      used = record {
+        regions = λ r row is. none_of (region_at k.chains r) row (regions r) is;
+        copies = record {
+          each = λ t w is. none_of (entry k.waits.rows t) w (ap (λ z. entry z t) waits) is;
+          apart = λ t u r one two. absurd (let bad : false ≡ true = sym (unfilled t r) ∙ one in cc);
+        };
+      };
       referred = record {
         live = λ o row is. none_of (object_at k.memory.objects o) row (objects o) is;
         pages = λ o p row is. none_of (row_at k.memory.resident o p) row (rows o p) is;
@@ -124,9 +138,10 @@ first_rests header h k count ranged known size host declared hosts start maps re
       };
       waits =
           record {
-            is = λ t here. sym (ap (λ z. waiting_in (entry z t)) waits);
+            is = λ t here. sym (ap (λ z. waiting_in k.maps.size (entry z t)) waits);
             allowed = λ t w is. none_of (entry k.waits.rows t) w (ap (λ z. entry z t) waits) is;
             sized = λ t w is. none_of (entry k.waits.rows t) w (ap (λ z. entry z t) waits) is;
+            numbers = λ t w is. none_of (entry k.waits.rows t) w (ap (λ z. entry z t) waits) is;
             reasons = λ t w is. none_of (entry k.waits.rows t) w (ap (λ z. entry z t) waits) is;
             aims = λ t w key is. none_of (entry k.waits.rows t) w (ap (λ z. entry z t) waits) is;
             askers = λ o p row is. none_of (row_at k.memory.resident o p) row (rows o p) is;
@@ -161,7 +176,7 @@ rests_line header h k ids line past rests =
             homeless = homeless_after leaves m.homeless;
             homes = m.homes;
             files = m.files;
-            settled = record { returned = refl; shut = λ region. refl };
+            settled = record { none_owed = refl; shut = λ region. refl };
             replied = replied_none refl;
             laundry = m.laundry;
             frames = m.frames;

@@ -1,5 +1,5 @@
 -- The causes of what an access does: in the history in front of it stands what its event wants.
-use Rattle.vm_kernel.proofs.Common.{Command, Comes, Event, Header, Ids, IsAt, List, Matches, ObjectId, ObjectRow, Outside, PageKey, PageRow, Parts, Some, Suffice, TaskId, Up, Waits, Want, [], access_in, address_in, ap, arith, desired_access, entries_of, entry_at, false, host_id, if◌then◌else◌, inl, inr, is_store, little_endian, named, nat_tests, number_at, page_at, page_in, page_of, refl, region_of, slice_range, subst, suc, sym, true, zero, ℕ, ◌%◌, ◌+◌, ◌==◌, ◌∙◌, ◌∷◌, ◌≡◌, ◌≤◌}
+use Rattle.vm_kernel.proofs.Common.{Command, Comes, Event, Header, Ids, IsAt, IsOfNumber, List, Matches, ObjectId, ObjectRow, Outside, PageKey, PageRow, Parts, Some, Suffice, TaskId, Up, Waits, Want, [], access_in, address_in, ap, arith, desired_access, entries_of, entry_at, false, host_id, if◌then◌else◌, inl, inr, is_store, little_endian, named, nat_tests, number_at, page_at, page_in, page_of, refl, region_of, slice_range, subst, suc, sym, true, zero, ℕ, ◌%◌, ◌+◌, ◌==◌, ◌∙◌, ◌∷◌, ◌≡◌, ◌≤◌}
 use Rattle.vm_fault.specs.Walks.{Finds, MayCome, Sinks, WalksTo, is_storing, wanted_number}
 use Rattle.vm_kernel.proofs.Growing.{Follows}
 use Rattle.vm_fault.specs.Walks.{keeps_out}
@@ -26,32 +26,32 @@ abbrev pub load_waits : (header : Header) (h : ℕ) (past : List Event) (k : Par
     → Waits header task (Loading address size) past
 load_waits header h past k task what top at address size to is =
     record {
-      waits = to.waits ∙ ap (λ z. Some (access_in z)) is;
-      at = record { host = h; entry = at.entry; lives = to.lives; found = ap (λ z. entry_at (address_in z) (entries_of header.size task past)) (sym is) ∙ to.found };
+      waits = to.waits ∙ ap (λ z. Some (access_in k.maps.size to.destination z)) is;
+      at = record { host = h; entry = at.entry; lives = to.lives; found = ap (λ z. entry_at (address_in k.maps.size z) (entries_of header.size task past)) (sym is) ∙ to.found };
     }
 
 abbrev pub store_waits : (header : Header) (h : ℕ) (past : List Event) (k : Parts) (task : ℕ) (what : Want) (top : PageKey) (at : IsAt k.maps k.chains task what top) (address size value : ℕ) → Leads header h past k task what top at → what ≡ want.Store address size value
     → Waits header task (Storing address size value) past
 store_waits header h past k task what top at address size value to is =
     record {
-      waits = to.waits ∙ ap (λ z. Some (access_in z)) is;
-      at = record { host = h; entry = at.entry; lives = to.lives; found = ap (λ z. entry_at (address_in z) (entries_of header.size task past)) (sym is) ∙ to.found };
+      waits = to.waits ∙ ap (λ z. Some (access_in k.maps.size to.destination z)) is;
+      at = record { host = h; entry = at.entry; lives = to.lives; found = ap (λ z. entry_at (address_in k.maps.size z) (entries_of header.size task past)) (sym is) ∙ to.found };
     }
 
 -- the top place of its page
 top_is : (header : Header) (h : ℕ) (past : List Event) (k : Parts) (task : ℕ) (what other : Want) (top : PageKey) (at : IsAt k.maps k.chains task what top) → Leads header h past k task what top at → what ≡ other
-    → IsTop (region_of header at.entry.region.0 past) (page_at header.size (address_in other) at.entry) top.object.0 top.page.0
-top_is header h past k task what other top at to is = subst (λ (z : Want). IsTop (region_of header at.entry.region.0 past) (page_at header.size (address_in z) at.entry) top.object.0 top.page.0) is to.is_top
+    → IsTop (region_of header at.entry.region.0 past) (page_at header.size (address_in k.maps.size other) at.entry) top.object.0 top.page.0
+top_is header h past k task what other top at to is = subst (λ (z : Want). IsTop (region_of header at.entry.region.0 past) (page_at header.size (address_in k.maps.size z) at.entry) top.object.0 top.page.0) is to.is_top
 
 -- how far its walk comes
-abbrev pub comes_at : (header : Header) (h : ℕ) (past : List Event) (k : Parts) (task : ℕ) (what : Want) (top : PageKey) (at : IsAt k.maps k.chains task what top) → Leads header h past k task what top at → IsShown header h k.memory k.chains past → (n : ℕ) (key : PageKey)
-    → WalksTo k.memory k.chains n top key → Comes header h at.entry.region.0 (page_of header task (access_in what) past at.entry) key.object.0 key.page.0 past
+abbrev pub comes_at : (header : Header) (h : ℕ) (past : List Event) (k : Parts) (task : ℕ) (what : Want) (top : PageKey) (at : IsAt k.maps k.chains task what top) → (to : Leads header h past k task what top at) → IsShown header h k.memory k.chains past → (n : ℕ) (key : PageKey)
+    → WalksTo k.memory k.chains n top key → Comes header h at.entry.region.0 (page_of header task (access_in k.maps.size to.destination what) past at.entry) key.object.0 key.page.0 past
 comes_at header h past k task what top at to s n key walks = record { top = top.object.0; top_page = top.page.0; steps = n; is_top = top_at header h past k task what top at to; walks = walks_of s n top key walks }
 
 -- the region of a store has no mark
-unmarked_of : (header : Header) (h : ℕ) (past : List Event) (k : Parts) (task : ℕ) (what : Want) (top : PageKey) (at : IsAt k.maps k.chains task what top) → Leads header h past k task what top at → (is_storing what ≡ true → at.row.marked ≡ false)
-    → is_store (access_in what) ≡ true → (region_of header at.entry.region.0 past).mark ≡ false
-unmarked_of header h past k task what top at to plain store = to.marks ∙ plain (sym (storing_is what) ∙ store)
+unmarked_of : (header : Header) (h : ℕ) (past : List Event) (k : Parts) (task : ℕ) (what : Want) (top : PageKey) (at : IsAt k.maps k.chains task what top) → (to : Leads header h past k task what top at) → (is_storing what ≡ true → at.row.marked ≡ false)
+    → is_store (access_in k.maps.size to.destination what) ≡ true → (region_of header at.entry.region.0 past).mark ≡ false
+unmarked_of header h past k task what top at to plain store = to.marks ∙ plain (sym (storing_is k.maps.size to.destination what) ∙ store)
 
 -- the region of a store gets an object of its own
 pub shadowed_follows : (header : Header) (h : ℕ) (outside : Outside) (doing : Command) (past : List Event) (k : Parts) (ids : Ids) (task : TaskId) (what : Want) (top : PageKey) (at : IsAt k.maps k.chains task.0 what top) (object : ObjectId) (address size value : ℕ)
@@ -89,7 +89,7 @@ zeroed_follows header h outside doing past k task what top at temporary to s cle
       consequence = tt;
       cause = inr (record {
         task = task;
-        access = access_in what;
+        access = access_in k.maps.size to.destination what;
         waits = it_waits header h past k task what top at to;
         on_host = refl;
         temporary = temporary;
@@ -201,18 +201,21 @@ stored_follows header h outside doing past k task what top at address size value
     }
 
 -- a request asks for what the history wants asked
-pub asks_for : (what : Want) (steps : ℕ) → wanted_number what steps ≡ desired_access (access_in what) steps
-asks_for (want.Load address size) zero = refl
-asks_for (want.Load address size) (suc n) = refl
-asks_for (want.Store address size value) zero = refl
-asks_for (want.Store address size value) (suc n) = ap (λ b. if b then 3 else 1) (later n)
+pub asks_for : (size to : ℕ) (what : Want) (steps : ℕ) → wanted_number what steps ≡ desired_access (access_in size to what) steps
+asks_for size to (want.Load address n) zero = refl
+asks_for size to (want.Load address n) (suc steps) = refl
+asks_for size to (want.CopyTo address pages target next) zero = refl
+asks_for size to (want.CopyTo address pages target next) (suc steps) = refl
+asks_for size to (want.Store address n value) zero = refl
+asks_for size to (want.Store address n value) (suc steps) = ap (λ b. if b then 3 else 1) (later steps)
   where
     later : (n : ℕ) → (suc n == 0) ≡ false
     later n = grind (arith, nat_tests)
 
-asks_left : (size next : ℕ) (what : Want) → HasPageLeft size (access_in what) next
-asks_left size next (want.Load address bytes) = tt
-asks_left size next (want.Store address bytes value) = tt
+asks_left : (size other next to : ℕ) (what : Want) → IsOfNumber what → HasPageLeft other (access_in size to what) next
+asks_left size other next to (want.Load address bytes) number = tt
+asks_left size other next to (want.Store address bytes value) number = tt
+asks_left size other next to (want.CopyTo address pages target page) number = absurd number
 
 -- a page is asked for
 pub request_follows : (header : Header) (h : ℕ) (outside : Outside) (doing : Command) (past : List Event) (k : Parts) (task : ℕ) (what : Want) (top : PageKey) (at : IsAt k.maps k.chains task what top) (steps : ℕ) (key : PageKey) (object : ObjectRow)
@@ -225,18 +228,18 @@ request_follows header h outside doing past k task what top at steps key object 
       consequence = tt;
       cause = record {
         task = task;
-        access = access_in what;
+        access = access_in k.maps.size to.destination what;
         waits = it_waits header h past k task what top at to;
         on_host = refl;
         unmarked = unmarked_of header h past k task what top at to clear;
         comes = comes_at header h past k task what top at to s steps key comes.walks;
-        number = asks_for what steps;
+        number = asks_for k.maps.size to.destination what steps;
         live = may.live;
         ready = may.ready;
         away = may.away;
         unasked = may.unasked;
         known = may.known;
-        left = asks_left header.size (next_page task past) what;
+        left = asks_left k.maps.size header.size (next_page task past) to.destination what to.number;
       };
       own_bytes = tt;
       frames = frames;

@@ -1,6 +1,7 @@
 -- A command's events grow by one that has its cause, carries the right bytes and finds its frame.
-use Rattle.vm_kernel.proofs.Common.{AllInner, AllLicensed, Caused, Channel, Command, CreatesHere, EachIn, Err, Event, FrameTable, Grows, HasFrames, Header, IfSome, IsConsequence, IsInner, IsLined, IsMine, IsOnlyOfHost, IsPaid, IsSettled, KernelSays, LegalEvents, Licensed, List, MatchOption, MomentsIn, None, Ok, OnOk, Option, Outside, OwnBytes, Result, ReturnsOn, Suffice, [], absence_more, absence_taken, ap, append_assoc, arith, created, each_both, error_more, error_taken, frames_free, frames_held, frames_used, frames_wired, free, inner_both, licensed_both, moments_both, no_request, none_locked, none_of, of_both, refl, reverse, slice_get, subst, sym, taken_letter, taken_more, unwrap_or, ℕ, ◌++◌, ◌-◌, ◌∙◌, ◌∷◌, ◌≡◌, ◌≤◌}
+use Rattle.vm_kernel.proofs.Common.{AllInner, AllLicensed, Caused, Command, CreatesHere, EachIn, Err, Event, FrameTable, Grows, HasFrames, Header, IfSome, IsConsequence, IsInner, IsLined, IsMine, IsOnlyOfHost, IsPaid, IsSettled, KernelSays, LegalEvents, Licensed, List, MomentsIn, None, Ok, OnOk, Option, Outside, OwnBytes, Result, Suffice, [], absence_more, absence_taken, ap, append_assoc, arith, each_both, error_more, error_taken, frames_free, frames_held, frames_used, frames_wired, free, inner_both, licensed_both, moments_both, no_request, none_locked, none_of, of_both, owed, refl, reverse, slice_get, subst, sym, taken_letter, taken_more, unwrap_or, ℕ, ◌++◌, ◌-◌, ◌∙◌, ◌∷◌, ◌≡◌, ◌≤◌}
 use Rattle.std.specs.Prelude.{IfOk}
+use Rattle.vm_legal.proofs.Owing.{behind_none}
 use Rattle.vm_kernel.proofs.Mine.{mine_of}
 
 pub suffices : (header : Header) (h : ℕ) (fs : FrameTable) (past : List Event) → HasFrames (slice_get (reverse header.frames.items) h) fs (frames_held header.size h past) (frames_wired h past) → Suffice header h past
@@ -10,13 +11,13 @@ suffices header h fs past has = subst (λ (z : Option ℕ). IfSome z (λ frames.
 pub free_is : (header : Header) (h : ℕ) (fs : FrameTable) (past : List Event) → HasFrames (slice_get (reverse header.frames.items) h) fs (frames_held header.size h past) (frames_wired h past) → frames_free header h past ≡ free fs
 free_is header h fs past has = ap (λ z. unwrap_or z 0 - frames_used header.size h past) has.total ∙ omega (arith, has.held, has.wired)
 
--- no create stands in front
-pub licensed : (header : Header) (outside : Outside) (doing : Command) (e : Event) (past : List Event) → created past ≡ None → Caused header outside doing e past → Licensed header outside doing e past
-licensed header outside doing e past none cause = (cause, subst (λ (z : Option Channel). MatchOption z (Unit {0}) (λ channel. ReturnsOn channel e)) (sym none) tt)
+-- nothing is owed in front
+pub licensed : (header : Header) (outside : Outside) (doing : Command) (e : Event) (past : List Event) → owed past ≡ None → Caused header outside doing e past → Licensed header outside doing e past
+licensed header outside doing e past none cause = (cause, behind_none e past none)
 
 -- what holds of an event that follows from a command's head
 pub record Follows (header : Header) (h : ℕ) (outside : Outside) (doing : Command) (e : Event) (past : List Event) : Type 0 where
-  pub consequence : IsConsequence e
+  pub consequence : IsConsequence e past
   pub cause : Caused header outside doing e past
   pub own_bytes : OwnBytes header e past
   pub frames : Suffice header h (e ∷ past)
@@ -28,13 +29,14 @@ pub record Follows (header : Header) (h : ℕ) (outside : Outside) (doing : Comm
 pub grows_more : (header : Header) (h : ℕ) (outside : Outside) (doing : Command) (past events : List Event) (e : Event) → Grows header h outside doing past events → IsSettled (events ++ past) → Follows header h outside doing e (events ++ past)
     → Grows header h outside doing past (e ∷ events)
 grows_more header h outside doing past events e grows settled all =
+    let same : events ++ past ≡ grows.more ++ (reverse grows.first ++ past) = ap (λ z. z ++ past) grows.is ∙ append_assoc grows.more (reverse grows.first) past in
     record {
       first = grows.first;
       more = e ∷ grows.more;
       head = grows.head;
       is = ap (λ z. e ∷ z) grows.is;
-      follows = (all.consequence, grows.follows);
-      licensed = (licensed header outside doing e (events ++ past) settled.returned all.cause, grows.licensed);
+      follows = (subst (λ (z : List Event). IsConsequence e z) same all.consequence, grows.follows);
+      licensed = (licensed header outside doing e (events ++ past) settled.none_owed all.cause, grows.licensed);
       own_bytes = (all.own_bytes, grows.own_bytes);
       frames = (all.frames, grows.frames);
       inner = (all.inner, grows.inner);
@@ -54,8 +56,8 @@ goes_more header h outside doing past old events e goes settled all =
     record {
       more = e ∷ goes.more;
       is = ap (λ z. e ∷ z) goes.is;
-      follows = (all.consequence, goes.follows);
-      licensed = (subst (λ (z : List Event). Licensed header outside doing e z) same (licensed header outside doing e (events ++ past) settled.returned all.cause), goes.licensed);
+      follows = (subst (λ (z : List Event). IsConsequence e z) same all.consequence, goes.follows);
+      licensed = (subst (λ (z : List Event). Licensed header outside doing e z) same (licensed header outside doing e (events ++ past) settled.none_owed all.cause), goes.licensed);
       own_bytes = (subst (λ (z : List Event). OwnBytes header e z) same all.own_bytes, goes.own_bytes);
       frames = (subst (λ (z : List Event). Suffice header h (e ∷ z)) same all.frames, goes.frames);
       inner = (all.inner, goes.inner);
@@ -74,7 +76,7 @@ goes_both header h outside doing past old mid new one two =
     record {
       more = two.more ++ one.more;
       is = two.is ∙ (ap (λ z. two.more ++ z) one.is ∙ sym (append_assoc two.more one.more old));
-      follows = of_both IsConsequence two.more one.more two.follows one.follows;
+      follows = each_both IsConsequence two.more one.more (old ++ past) (subst (λ (z : List Event). EachIn IsConsequence two.more z) same two.follows) one.follows;
       licensed = licensed_both header outside doing two.more one.more (old ++ past) (subst (λ (z : List Event). AllLicensed header outside doing two.more z) same two.licensed) one.licensed;
       own_bytes = each_both (OwnBytes header) two.more one.more (old ++ past) (subst (λ (z : List Event). EachIn (OwnBytes header) two.more z) same two.own_bytes) one.own_bytes;
       frames = moments_both (Suffice header h) two.more one.more (old ++ past) (subst (λ (z : List Event). MomentsIn (Suffice header h) two.more z) same two.frames) one.frames;
@@ -86,13 +88,14 @@ goes_both header h outside doing past old mid new one two =
 -- what a command's step does goes on
 pub grows_goes : (header : Header) (h : ℕ) (outside : Outside) (doing : Command) (past old new : List Event) → Grows header h outside doing past old → LegalEvents header h outside doing past old new → Grows header h outside doing past new
 grows_goes header h outside doing past old new grows goes =
+    let same : old ++ past ≡ grows.more ++ (reverse grows.first ++ past) = ap (λ z. z ++ past) grows.is ∙ append_assoc grows.more (reverse grows.first) past in
     subst (λ (z : List Event). Grows header h outside doing past z) (sym goes.is)
     (record {
       first = grows.first;
       more = goes.more ++ grows.more;
       head = grows.head;
       is = ap (λ z. goes.more ++ z) grows.is ∙ sym (append_assoc goes.more grows.more (reverse grows.first));
-      follows = of_both IsConsequence goes.more grows.more goes.follows grows.follows;
+      follows = each_both IsConsequence goes.more grows.more (reverse grows.first ++ past) (subst (λ (z : List Event). EachIn IsConsequence goes.more z) same goes.follows) grows.follows;
       licensed = licensed_both header outside doing goes.more old past goes.licensed grows.licensed;
       own_bytes = each_both (OwnBytes header) goes.more old past goes.own_bytes grows.own_bytes;
       frames = moments_both (Suffice header h) goes.more old past goes.frames grows.frames;
@@ -115,11 +118,11 @@ plain_step size past events lined inner = record {
 }
 
 -- such a step owes nothing
-pub paid_of : (header : Header) (past events : List Event) → IsLined past → AllInner events → created (events ++ past) ≡ None → IsPaid header (events ++ past)
+pub paid_of : (header : Header) (past events : List Event) → IsLined past → AllInner events → owed (events ++ past) ≡ None → IsPaid header (events ++ past)
 paid_of header past events lined inner none =
     let plain = plain_step header.size past events lined inner in
     record {
-      returned = none;
+      none_owed = none;
       init = λ host object control size paged is. none_of _ _ plain.taken is;
       create = λ host object control size paged is. none_of _ _ plain.taken is;
       request = λ host object control page access paged is. none_of _ _ plain.taken is;

@@ -47,7 +47,7 @@ pub record IsOne (header : Header) (h : ℕ) (outside : Outside) (doing : Comman
 pub heads_one : (header : Header) (h : ℕ) (outside : Outside) (doing : Command) (past : List Event) (e : Event) → IsOne header h outside doing past e → Heads header h outside doing past (e ∷ [])
 heads_one header h outside doing past e is =
     record {
-      licensed = (licensed header outside doing e past is.settled.returned is.cause, tt);
+      licensed = (licensed header outside doing e past is.settled.none_owed is.cause, tt);
       own_bytes = (is.own_bytes, tt);
       frames = (is.frames, tt);
       inner = (is.inner, tt);

@@ -107,7 +107,7 @@ heard_zeros header h outside doing k ids after past object control page who new 
       fresh = c.fresh;
       asker = c.asker;
       answered = c.answered;
-      goes = goes_one header h outside doing (hears h object control (message.Unavailable page) ∷ past) [] (zeros h object page) (record { returned = refl; shut = λ region. refl })
+      goes = goes_one header h outside doing (hears h object control (message.Unavailable page) ∷ past) [] (zeros h object page) (record { none_owed = refl; shut = λ region. refl })
           (filled_follows header h outside doing new.frames past object control page lacks lives_now declared c.frames);
       brought = tt;
       paid = zeroed_absence header h object control page past;

@@ -1,5 +1,5 @@
 -- A message of a pager is taken: what the kernel stands for behind it.
-use Rattle.vm_kernel.proofs.Common.{Access, AllReferred, ArePlain, Backing, Bool, Cancels, ChainTable, Changes, Command, Elsewhere, EndsNobody, Event, FailsNow, FailsPage, FillsPage, Fit, FrameTable, HasAsker, HasControls, HasFrames, HasHomes, HasKinds, HasLaundry, HasOrder, HasPages, HasRegions, HasTasks, HasUse, HasWaiters, Header, HostId, HostParts, Ids, IsAnswered, IsOfKind, IsPagerTold, IsReferred, IsSettled, Lacks, List, Local, LocalEffect, Mapped, Message, None, ObjectId, ObjectRow, ObjectTable, On, Option, Outside, PageNo, PageRow, Parts, PutsObject, PutsRow, Readies, Reason, Region, ResidentTable, Rests, SameMarks, SameObjects, Some, Supplies, TakesError, TakesNothing, TakesPage, Waiting, Want, Woken, Works, Zeroes, [], absent_at, added, ap, arith, asked_is, asked_row, away, backing_of, clean_row, count_released, entries_of, eqb_tells, false, frames_held, frames_wired, holds, home_of, host_id, host_of, if◌then◌else◌, in_use, inl, inr, is_control, is_on, is_ready, is_some, is_woken, key_of, last_control, last_in, live_control, live_in, local, local_after, local_of_row, lock_numbered, marked_regions, named, nat_lt, nat_tests, next_object, next_region, not, object_at, object_home, one_case, page_in, page_key, place_of, ready_in, refl, region_of, replicate, returns_out, reverse, row_at, row_cases, slice_get, some_is, subst, sym, true, unlocked, waiting, ℕ, ◌&&◌, ◌+◌, ◌-◌, ◌<◌, ◌==◌, ◌^◌, ◌∙◌, ◌∷◌, ◌≡◌, ◌≤◌, ◌⊎◌}
+use Rattle.vm_kernel.proofs.Common.{Access, AllReferred, ArePlain, Backing, Bool, Cancels, ChainTable, Changes, Command, Elsewhere, EndsNobody, Event, FailsNow, FailsPage, FillsPage, Fit, FrameTable, HasAsker, HasControls, HasFrames, HasHomes, HasKinds, HasLaundry, HasOrder, HasPages, HasRegions, HasTasks, HasUse, HasWaiters, Header, HostId, HostParts, Ids, IsAnswered, IsOfKind, IsPagerTold, IsReferred, IsSettled, Lacks, List, Local, LocalEffect, Mapped, Message, None, ObjectId, ObjectRow, ObjectTable, On, Option, Outside, PageNo, PageRow, Parts, PutsObject, PutsRow, Readies, Reason, Region, ResidentTable, Rests, SameMarks, SameObjects, Some, Supplies, TakesError, TakesNothing, TakesPage, Waiting, Want, Woken, Works, Zeroes, [], absent_at, added, ap, arith, asked_is, asked_row, away, backing_of, clean_row, count_released, entries_of, eqb_tells, false, frames_held, frames_wired, holds, home_of, host_id, host_of, if◌then◌else◌, in_use, inl, inr, is_control, is_on, is_ready, is_some, is_woken, key_of, last_control, last_in, live_control, live_in, local, local_after, local_of_row, lock_numbered, marked_regions, named, nat_lt, nat_tests, next_object, next_page, next_region, not, object_at, object_home, one_case, page_in, page_key, place_of, ready_in, refl, region_of, replicate, returns_out, reverse, row_at, row_cases, slice_get, some_is, subst, sym, true, unlocked, waiting, ℕ, ◌&&◌, ◌+◌, ◌-◌, ◌<◌, ◌==◌, ◌^◌, ◌∙◌, ◌∷◌, ◌≡◌, ◌≤◌, ◌⊎◌}
 use Rattle.vm_model.specs.declared.message.Message.TheVariants as message
 use Rattle.vm_objects.specs.declared.row.PagerState.TheVariants as state
 use Rattle.vm_supply.specs.declared.woken.Woken.TheVariants as woken
@@ -18,11 +18,10 @@ use Rattle.vm_kernel.proofs.Known.{known_at, known_on, nothing_known}
 use Rattle.vm_kernel.proofs.Mine.{own_named}
 use Rattle.vm_kernel.proofs.Replied.{replied_behind, replied_none}
 use Rattle.vm_kernel.specs.Matches.{IsReplied}
-use Rattle.vm_legal.specs.Licences.{lock_taken}
+use Rattle.vm_legal.specs.Licences.{Fills, lock_taken}
 use Rattle.vm_parts.specs.Locks.{lock_numbered, lock_of-prohibits}
 use Rattle.vm_state.proofs.Waiting.{IsAwaitedBy, IsUnawaited, awaited_apart, awaited_elsewhere, away_awaited, here_unawaited, none_unawaited}
 use Rattle.vm_state.specs.Waiters.{is_awaited}
-use Rattle.vm_legal.specs.Licences.{Fills}
 use Rattle.vm_model.specs.declared.event.Event.TheVariants as event
 use Rattle.vm_state.proofs.Declared.{kinds_marked, kinds_put, kinds_same}
 use Rattle.vm_state.proofs.Files.{files_put, files_same}
@@ -31,6 +30,7 @@ use Rattle.vm_state.specs.Stands.{KnowsFiles}
 use Rattle.vm_supply.specs.Answers as supply
 use Rattle.vm_legal.specs.Living.{tasks as made_tasks}
 use Rattle.vm_abroad.proofs.Home.{object_stays}
+use Rattle.vm_state.proofs.Filling.{KeepsAway, away_put, used_away, used_told}
 use Rattle.vm_state.specs.References.{MayLock, is_live_in}
 
 -- who waits, where rows of pages and objects are others
@@ -46,6 +46,7 @@ waits_heard maps cs rs rs2 os os2 rows who waiting_at has asked told were ready 
       is = has.is;
       allowed = has.allowed;
       sized = has.sized;
+      numbers = has.numbers;
       reasons = λ t w is still. by_reason t w.want w.on still (has.reasons t w is refl);
       aims = has.aims;
       askers = λ o p row found awaits. has.askers o p row (were o p row found awaits) awaits;
@@ -65,6 +66,7 @@ heard k new = record k { memory = new }
 -- what holds of the parts that may have changed, behind the message and what it brought
 pub record Changed (header : Header) (h : ℕ) (k : Parts) (ids : Ids) (who : Woken) (new : HostParts) (past now : List Event) : Type 0 where
   pub plain : ArePlain new.resident
+  pub away : KeepsAway k.memory.resident new.resident
   pub regions : HasRegions k.chains new.objects ids (λ r. region_of header r past) (λ o. backing_of header o past) (next_region header past) (next_object header past) (marked_regions header past)
   pub kinds : HasKinds header new.objects k.chains
   pub files : KnowsFiles header h new.objects (λ o. home_of o past)
@@ -86,8 +88,9 @@ zeros h object page = event.Zeroed (host_id h) object page
 -- what stays, of the parts that no message changes
 pub record Stays (header : Header) (h : ℕ) (k : Parts) (past now : List Event) : Type 0 where
   pub leaves : Leaves header past now
+  pub next : (task : ℕ) → next_page task now ≡ next_page task past
   pub tasks : HasTasks h header.size k.maps (λ task. host_of task now) (λ task. entries_of header.size task now)
-  pub uses : HasUse header k.maps (λ r. in_use header h r now) (made_tasks now) (λ task r. holds header.size task r now) (next_region header now)
+  pub uses : HasUse header k.maps k.waits.rows (λ r. in_use header h r now) (made_tasks now) (λ task r. holds header.size task r now) (next_region header now)
   pub waits : {who : On → Bool} {rs : ResidentTable} {os : ObjectTable} → HasWaiters k.maps k.chains rs os k.waits.rows who (λ t. waiting t past) → HasWaiters k.maps k.chains rs os k.waits.rows who (λ t. waiting t now)
   pub controls : {os : ObjectTable} → HasControls (named header) h os (λ o. last_control h o past) (λ o. live_control h o past) (λ o. is_ready h o now) (λ o. object_home o past)
       → HasControls (named header) h os (λ o. last_control h o now) (λ o. live_control h o now) (λ o. is_ready h o now) (λ o. object_home o now)
@@ -104,13 +107,14 @@ stays_heard header h k ids past object control m rests none =
     let leaves : Leaves header past (hears h object control m ∷ past) = record { regions_made = refl; objects_made = refl; region = λ r. refl; backing = λ o. refl; home = λ r. refl; made_for = λ o. refl; used = λ g r. refl; target = λ task. refl } in
     record {
       leaves = leaves;
+      next = λ task. refl;
       tasks = was.tasks;
       uses = was.uses;
       waits = λ has. has;
       controls = λ has. controls_after leaves has;
       homes = was.homes;
       order = rests.order;
-      settled = record { returned = refl; shut = λ region. refl };
+      settled = record { none_owed = refl; shut = λ region. refl };
       replied = replied_none none;
       returned = refl;
       wired = refl;
@@ -122,13 +126,14 @@ stays_zeroed header h k past now object page stays =
     let was = stays.leaves in
     record {
       leaves = record { regions_made = was.regions_made; objects_made = was.objects_made; region = was.region; backing = was.backing; home = was.home; made_for = was.made_for; used = was.used; target = was.target };
+      next = stays.next;
       tasks = stays.tasks;
       uses = stays.uses;
       waits = stays.waits;
       controls = λ has. controls_stay (λ o is. object_stays o h (zeros h object page) now is) (stays.controls has);
       homes = stays.homes;
       order = stays.order;
-      settled = record { returned = refl; shut = λ region. refl };
+      settled = record { none_owed = refl; shut = λ region. refl };
       replied = replied_behind tt stays.replied;
       returned = stays.returned;
       wired = stays.wired;
@@ -163,7 +168,7 @@ works_of header h k ids who new past now rests stays fit same c =
             laundry = subst (λ (z : ℕ). HasLaundry new.frames new.resident k.laundry z) (sym stays.returned) c.laundry;
             frames = subst (λ (z : ℕ). HasFrames (slice_get (reverse header.frames.items) h) new.frames (frames_held header.size h now) z) (sym stays.wired) c.frames;
           };
-      used = rests.used;
+      used = used_away k.memory.resident new.resident (used_told rests.used (λ t w found. (stays.next t, stays.leaves.target t))) c.away;
       referred = c.referred;
       order = stays.order;
       waits = stays.waits c.waits;
@@ -252,6 +257,7 @@ changed_none header h k ids past object control m rests nothing =
     let was = rests.matches in
     record {
       plain = was.fits.plain;
+      away = λ o p none. none;
       regions = was.regions;
       kinds = was.kinds;
       files = was.files;
@@ -353,6 +359,7 @@ changed_ready header h k ids events after past object control cache strategy who
     (subst (λ (z : HostParts). Changed header h k ids (woken.ReadyOf object) z past (hears h object control (message.Ready cache strategy) ∷ past)) (sym readies.rest)
     (record {
       plain = was.fits.plain;
+      away = λ o p none. none;
       regions = regions_controlled object.0 known (record known { state = state.Ready }) k.chains k.memory.objects new.objects ids (λ r. region_of header r past) (λ o. backing_of header o past) (next_region header past) (next_object header past) (marked_regions header past)
           readies.found readies.ready refl refl was.regions;
       kinds = kinds_put header object.0 (record known { state = state.Ready }) k.memory.objects new.objects k.chains readies.ready readies.marks (kind_ready header object.0 known (was.kinds.kinds object.0 known readies.found) live) was.kinds;
@@ -462,6 +469,7 @@ changed_supplied header h k ids events after past object control page lock preci
     (on_page object.0 o (lives h object control past) (is_control control (live_control h o past)) (page.0 == p) (TakesPage lock precious bytes) Elsewhere lives_now (λ e. ap (λ z. is_control control (live_control h z past)) (sym e)))) in
     subst (λ (z : Woken). Changed header h k ids z new past (hears h object control (message.Supply page lock precious bytes) ∷ past)) (sym supplies.woken)
     (record {
+      away = away_put object.0 page.0 (Some now) row k.memory.resident new.resident comes.found comes.row;
       plain = plain_changed key row.frame _ _ _ _ _ k.memory new was.fits.plain comes (λ gone. absurd (let bad : true ≡ false = gone in cc));
       regions = regions_of k.chains k.memory.objects new.objects ids (λ r. region_of header r past) (λ o. backing_of header o past) (next_region header past) (next_object header past) (marked_regions header past) was.regions same;
       kinds = kinds_same header k.memory.objects new.objects k.chains same (same_marks k.memory.objects new.objects supplies.objects) was.kinds;
@@ -507,6 +515,7 @@ changed_ended header h k ids past object control page m effect who row new rests
     (pages_moved header.size effect key row.frame _ _ _ _ _ k.memory new new.objects (λ o p. known_local header o p (local_at o p)) was.fits.parts was.pages ends
     (ap (local_after header.size effect) (asked_shows k.memory.frames row (absent_at k.memory.objects object.0 page.0) (was.fits.plain object.0 page.0 row asked.0 asked.1) asked.1) ∙ left.here) left.others) in
     record {
+      away = away_put object.0 page.0 None row k.memory.resident new.resident ends.found ends.row;
       plain = plain_changed key row.frame _ _ _ _ _ k.memory new was.fits.plain ends tt;
       regions = regions_of k.chains k.memory.objects new.objects ids (λ r. region_of header r past) (λ o. backing_of header o past) (next_region header past) (next_object header past) (marked_regions header past) was.regions same;
       kinds = kinds;
@@ -631,6 +640,7 @@ changed_zeroed header h k ids host after past object control page who new rests 
     let some = count_released k.memory.frames.claims row.frame.0 comes.had in
     subst (λ (z : Woken). Changed header h k ids z new past (zeros h object page ∷ hears h object control (message.Unavailable page) ∷ past)) (sym zeroes.woken)
     (record {
+      away = away_put object.0 page.0 (Some now) row k.memory.resident new.resident comes.found comes.row;
       plain = plain_changed key row.frame _ _ _ _ _ k.memory new was.fits.plain comes (λ gone. absurd (let bad : true ≡ false = gone in cc));
       regions = regions_of k.chains k.memory.objects new.objects ids (λ r. region_of header r past) (λ o. backing_of header o past) (next_region header past) (next_object header past) (marked_regions header past) was.regions same;
       kinds = kinds_same header k.memory.objects new.objects k.chains same (same_marks k.memory.objects new.objects zeroes.objects) was.kinds;

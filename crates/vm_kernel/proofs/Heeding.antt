@@ -6,8 +6,7 @@ use Rattle.vm_kernel.proofs.Growing.{goes_none}
 use Rattle.vm_kernel.proofs.Heard.{no_absence}
 use Rattle.vm_kernel.proofs.Holding.{room_once}
 use Rattle.vm_kernel.proofs.Locked.{Done, IsTaken, Request, done, inner_of, request_at, wanted_at}
-use Rattle.vm_kernel.proofs.Hearing.{changed_none, stays_heard}
-use Rattle.vm_kernel.proofs.Hearing.{works_of as heard_works}
+use Rattle.vm_kernel.proofs.Hearing.{changed_none, stays_heard, works_of as heard_works}
 use Rattle.vm_kernel.proofs.Locking.{asks}
 use Rattle.vm_kernel.proofs.Requesting.{mid_taken}
 use Rattle.vm_kernel.proofs.Untold.{matches_with}
@@ -110,7 +109,7 @@ heeds_dead header h outside doing k ids past object control page count returns f
 works_roomier : {header : Header} {h : ℕ} (k : Parts) {ids : Ids} {past : List Event} (memory : HostParts) (laundry : LaundryList) → Works header h (record k { memory = record memory { buffers = k.memory.buffers }; laundry = laundry }) ids woken.Nobody past → Fit memory → memory.buffers.size ≡ k.memory.buffers.size
     → Works header h (record k { memory = memory; laundry = laundry }) ids woken.Nobody past
 works_roomier k memory laundry works fit size =
-    record { matches = matches_with memory.queues memory.buffers k.waits fit size works.matches; used = works.used; referred = works.referred; waits = works.waits; order = works.order }
+    record { matches = matches_with memory.queues memory.buffers k.waits (λ t r. refl) fit size works.matches; used = works.used; referred = works.referred; waits = works.waits; order = works.order }
 
 -- or it was done, and those are to be run again that waited for unlocks under it
 heeds_live : (header : Header) (h : ℕ) (outside : Outside) (doing : Command) (k : Parts) (ids : Ids) (past : List Event) (object : ObjectId) (control : ℕ) (page : PageNo) (count returns : ℕ) (flush : Bool) (lock : ℕ) (reply : Bool) (memory : HostParts) (laundry : LaundryList) (waits2 : WaitTable) (after : List Event) → Rests header h k ids past

@@ -93,7 +93,7 @@ rests_taken header h k ids past object control page dirty bytes f fs laundry res
             homeless = homeless_after leaves was.homeless;
             homes = was.homes;
             files = was.files;
-            settled = record { returned = refl; shut = λ region. refl };
+            settled = record { none_owed = refl; shut = λ region. refl };
             replied = replied_none refl;
             laundry = rw (own_host h) (laundry_less k.memory.frames fs k.memory.resident k.laundry laundry (returns_out h past) f was.laundry held room washed.claimed releases);
             frames = rw (own_host h) (frames_less (slice_get (reverse header.frames.items) h) k.memory.frames fs f.0 (frames_held header.size h past) (frames_wired h past) was.frames releases);

@@ -19,6 +19,7 @@ pub mod Done
 pub mod Endings
 pub mod Ends
 pub mod Failing
+pub mod Filled
 pub mod Finding
 pub mod Finishing
 pub mod First
@@ -38,6 +39,7 @@ pub mod Locking
 pub mod Losing
 pub mod Making
 pub mod Mine
+pub mod Numbers
 pub mod Opening
 pub mod Ordering
 pub mod Own

@@ -638,6 +638,7 @@ completed_rests r k past rests =
     let m = rests in
     rests_moved r.header r.host k r.ids k.memory k.laundry past (completed r.host r.object r.known.control r.page r.count ∷ past) rests (quiet_completed r.object r.known.control r.page r.count rests)
     (record {
+      away = λ o p none. none;
       fits = m.fits;
       objects = record { at = λ o. refl };
       kinds = m.kinds;

@@ -1,5 +1,6 @@
 -- A page obeys a lock request: what the kernel stands for behind that.
-use Rattle.vm_kernel.proofs.Common.{AllReferred, Bool, Caused, ChainTable, Changes, Command, Discards, Does, Drops, Elsewhere, Event, Fit, HasControls, HasFrames, HasHomes, HasKinds, HasLaundry, HasOrder, HasPages, HasTasks, HasUse, HasWaiters, Header, HostParts, Ids, IfSome, IsReferred, IsSettled, LaundryList, List, Local, LocalEffect, None, ObjectId, ObjectRow, ObjectTable, Option, Outside, PageKey, PageNo, PageRow, Parts, PartsFit, PutsAbsent, Queues, ResidentTable, Returns, SameObjects, Some, Suffice, Up, [], absent_at, ap, arith, away, entries_of, false, fit_objects, frame_count, frame_here, frames_held, frames_wired, holds, home_of, host_id, host_of, if◌then◌else◌, in_use, inl, inr, is_on, is_ready, is_some, is_woken, last_control, live_control, live_in, local, local_after, local_of_row, named, nat_tests, next_region, not, object_at, object_home, page_in, pages_of_row, paging, place_of, queues_except, ready_in, refl, returns_out, reverse, row_at, slice_get, some_is, subst, sym, true, waiting, ℕ, ◌&&◌, ◌++◌, ◌+◌, ◌-◌, ◌<◌, ◌==◌, ◌||◌, ◌∙◌, ◌∷◌, ◌≡◌, AreShared, HasEntries, HasRegions, AllUsed, HasWaits, IsRanged, Works, backing_of, marked_regions, next_object, region_of, length, HaveHomes}
+use Rattle.vm_kernel.proofs.Common.{AllReferred, AreShared, Bool, Caused, ChainTable, Changes, Command, Discards, Does, Drops, Elsewhere, Event, Fit, HasControls, HasEntries, HasFrames, HasHomes, HasKinds, HasLaundry, HasOrder, HasPages, HasRegions, HasTasks, HasUse, HasWaiters, HasWaits, HaveHomes, Header, HostParts, Ids, IfSome, IsRanged, IsReferred, IsSettled, LaundryList, List, Local, LocalEffect, None, ObjectId, ObjectRow, ObjectTable, Option, Outside, PageKey, PageNo, PageRow, Parts, PartsFit, PutsAbsent, Queues, ResidentTable, Returns, SameObjects, Some, Suffice, Up, UsesAll, Works, [], absent_at, ap, arith, away, backing_of, entries_of, false, fit_objects, frame_count, frame_here, frames_held, frames_wired, holds, home_of, host_id, host_of, if◌then◌else◌, in_use, inl, inr, is_on, is_ready, is_some, is_woken, last_control, length, live_control, live_in, local, local_after, local_of_row, marked_regions, named, nat_tests, next_object, next_page, next_region, not, object_at, object_home, page_in, pages_of_row, paging, place_of, queues_except, ready_in, refl, region_of, returns_out, reverse, row_at, slice_get, some_is, subst, sym, true, waiting, ℕ, ◌&&◌, ◌++◌, ◌+◌, ◌-◌, ◌<◌, ◌==◌, ◌||◌, ◌∙◌, ◌∷◌, ◌≡◌}
+use Rattle.vm_state.proofs.Filling.{KeepsAway, away_put, used_away, used_told}
 use Rattle.vm_state.specs.Stands.{KnowsFiles}
 use Rattle.vm_kernel.proofs.After.{Leaves, controls_after, homeless_after, regions_after}
 use Rattle.vm_kernel.proofs.Answers.{hears}
@@ -48,13 +49,13 @@ pub record Mid (header : Header) (h : ℕ) (k : Parts) (ids : Ids) (past : List 
   pub entries : HasEntries header.size k.maps k.chains []
   pub shared : AreShared (named header) k.maps
   pub pages : HasPages k.memory.frames k.memory.resident k.memory.objects (λ o p. known_local header o p (local header.size h (place_of o p) past))
-  pub uses : HasUse header k.maps (λ r. in_use header h r past) (made_tasks past) (λ task r. holds header.size task r past) (next_region header past)
+  pub uses : HasUse header k.maps k.waits.rows (λ r. in_use header h r past) (made_tasks past) (λ task r. holds header.size task r past) (next_region header past)
   pub controls : HasControls (named header) h k.memory.objects (λ o. last_control h o past) (λ o. live_control h o past) (λ o. is_ready h o past) (λ o. object_home o past)
   pub homeless : HaveHomes header past
   pub settled : IsSettled past
   pub laundry : HasLaundry k.memory.frames k.memory.resident k.laundry (returns_out h past)
   pub frames : HasFrames (slice_get (reverse header.frames.items) h) k.memory.frames (frames_held header.size h past) (frames_wired h past)
-  pub used : AllUsed k.chains
+  pub used : UsesAll header k past
   pub referred : AllReferred k.chains k.memory.objects k.memory.resident
   pub waits : HasWaits k woken.Nobody past
   pub order : HasOrder k past
@@ -96,8 +97,9 @@ works_mid m replied =
 -- what is not of pages stays behind an event
 pub record Quiet (header : Header) (h : ℕ) (k : Parts) (past now : List Event) : Type 0 where
   pub leaves : Leaves header past now
+  pub next : (task : ℕ) → next_page task now ≡ next_page task past
   pub tasks : HasTasks h header.size k.maps (λ task. host_of task now) (λ task. entries_of header.size task now)
-  pub uses : HasUse header k.maps (λ r. in_use header h r now) (made_tasks now) (λ task r. holds header.size task r now) (next_region header now)
+  pub uses : HasUse header k.maps k.waits.rows (λ r. in_use header h r now) (made_tasks now) (λ task r. holds header.size task r now) (next_region header now)
   pub homes : HasHomes header h k.chains (λ r. home_of r now)
   pub controls : {os : ObjectTable} → HasControls (named header) h os (λ o. last_control h o past) (λ o. live_control h o past) (λ o. is_ready h o past) (λ o. object_home o past)
       → HasControls (named header) h os (λ o. last_control h o now) (λ o. live_control h o now) (λ o. is_ready h o now) (λ o. object_home o now)
@@ -110,6 +112,7 @@ quiet_none rests =
     let m = rests in
     record {
       leaves = record { regions_made = refl; objects_made = refl; region = λ r. refl; backing = λ o. refl; home = λ r. refl; made_for = λ o. refl; used = λ g r. refl; target = λ task. refl };
+      next = λ task. refl;
       tasks = m.tasks;
       uses = m.uses;
       homes = m.homes;
@@ -127,7 +130,7 @@ quiet_dropped : {header : Header} {h : ℕ} {k : Parts} {ids : Ids} {past : List
 quiet_dropped {header = header} {h = h} {past = past} key rests =
     let m = rests in
     let leaves : Leaves header past (drops h key ∷ past) = record { regions_made = refl; objects_made = refl; region = λ r. refl; backing = λ o. refl; home = λ r. refl; made_for = λ o. refl; used = λ g r. refl; target = λ task. refl } in
-    record { leaves = leaves; tasks = m.tasks; uses = m.uses; homes = m.homes; controls = λ has. controls_after leaves has; waits = λ has. has; order = rests.order; settled = record { returned = refl; shut = λ region. refl } }
+    record { leaves = leaves; next = λ task. refl; tasks = m.tasks; uses = m.uses; homes = m.homes; controls = λ has. controls_after leaves has; waits = λ has. has; order = rests.order; settled = record { none_owed = refl; shut = λ region. refl } }
 
 -- or is returned, and a copy stays or not
 abbrev pub gives : ℕ → PageKey → ℕ → Bool → Bool → List ℕ → Event
@@ -137,7 +140,7 @@ quiet_given : {header : Header} {h : ℕ} {k : Parts} {ids : Ids} {past : List E
 quiet_given {header = header} {h = h} {past = past} key control dirty keep bytes rests =
     let m = rests in
     let leaves : Leaves header past (gives h key control dirty keep bytes ∷ past) = record { regions_made = refl; objects_made = refl; region = λ r. refl; backing = λ o. refl; home = λ r. refl; made_for = λ o. refl; used = λ g r. refl; target = λ task. refl } in
-    record { leaves = leaves; tasks = m.tasks; uses = m.uses; homes = m.homes; controls = λ has. controls_after leaves has; waits = λ has. has; order = rests.order; settled = record { returned = refl; shut = λ region. refl } }
+    record { leaves = leaves; next = λ task. refl; tasks = m.tasks; uses = m.uses; homes = m.homes; controls = λ has. controls_after leaves has; waits = λ has. has; order = rests.order; settled = record { none_owed = refl; shut = λ region. refl } }
 
 -- the pager is told that all is done
 abbrev pub completed : ℕ → ObjectId → ℕ → PageNo → ℕ → Event
@@ -147,11 +150,12 @@ pub quiet_completed : {header : Header} {h : ℕ} {k : Parts} {ids : Ids} {past 
 quiet_completed {header = header} {h = h} {past = past} object control page count rests =
     let m = rests in
     let leaves : Leaves header past (completed h object control page count ∷ past) = record { regions_made = refl; objects_made = refl; region = λ r. refl; backing = λ o. refl; home = λ r. refl; made_for = λ o. refl; used = λ g r. refl; target = λ task. refl } in
-    record { leaves = leaves; tasks = m.tasks; uses = m.uses; homes = m.homes; controls = λ has. controls_after leaves has; waits = λ has. has; order = rests.order; settled = record { returned = refl; shut = λ region. refl } }
+    record { leaves = leaves; next = λ task. refl; tasks = m.tasks; uses = m.uses; homes = m.homes; controls = λ has. controls_after leaves has; waits = λ has. has; order = rests.order; settled = record { none_owed = refl; shut = λ region. refl } }
 
 -- what is of pages, where each object is known as before
 pub record Moved (header : Header) (h : ℕ) (k : Parts) (memory : HostParts) (laundry : LaundryList) (past now : List Event) : Type 0 where
   pub fits : PartsFit (record k { memory = memory; laundry = laundry })
+  pub away : KeepsAway k.memory.resident memory.resident
   pub objects : SameObjects k.memory.objects memory.objects
   pub kinds : HasKinds header memory.objects k.chains
   pub pages : HasPages memory.frames memory.resident memory.objects (λ o p. known_local header o p (local header.size h (place_of o p) now))
@@ -185,7 +189,7 @@ rests_moved header h k ids memory laundry past now rests quiet moved =
       settled = quiet.settled;
       laundry = moved.washed;
       frames = moved.frames;
-      used = rests.used;
+      used = used_away k.memory.resident memory.resident (used_told rests.used (λ t w found. (quiet.next t, quiet.leaves.target t))) moved.away;
       referred = moved.referred;
       waits = quiet.waits moved.waits;
       order = quiet.order;
@@ -241,6 +245,7 @@ moved_of header h k ids memory laundry key row x held lists past now rests r pag
         plain = plain_changed key row.frame _ _ _ _ _ k.memory memory m.fits.plain c r.plain;
         buffers = ap (λ z. z.size) r.buffers ∙ m.fits.buffers;
       };
+      away = away_put o p x row k.memory.resident memory.resident c.found c.row;
       objects = r.objects;
       kinds = r.kinds;
       pages = pages;
@@ -565,6 +570,7 @@ rests_roomier header h k ids memory laundry past rests fit size =
     rests_moved header h (record k { memory = record memory { buffers = k.memory.buffers }; laundry = laundry }) ids memory laundry past past rests (quiet_none rests)
     (record {
       fits = record { parts = fit; plain = m.fits.plain; buffers = size ∙ m.fits.buffers };
+      away = λ o p none. none;
       objects = record { at = λ o. refl };
       kinds = m.kinds;
       pages = m.pages;

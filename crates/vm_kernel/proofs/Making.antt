@@ -1,5 +1,7 @@
 -- A task is made: it doesn't wait, and who waits goes on waiting; and an object is made, which has no control yet.
 use Rattle.vm_kernel.proofs.Common.{Access, Bool, ChainTable, ChangesOnly, Event, HasControls, HasWaiters, Header, HostId, Ids, List, Mapped, None, ObjectRow, ObjectTable, On, Option, Outside, Parts, PutsObject, Ran, ResidentTable, Rests, Some, Starts, TaskId, Temp, Waiting, Without, [], ap, arith, entries_in, entry, eqb_tells, false, holds, host_id, inl, inr, is_some, last_in, live_in, next_region, object_at, one_case, ready_in, refl, rows_in, some_is, subst, sym, tasks, true, waiting, waiting_in, ℕ, ◌<◌, ◌∙◌, ◌∷◌, ◌≡◌}
+use Rattle.vm_kernel.proofs.Filled.{same_waiting}
+use Rattle.vm_state.proofs.Filling.{chains_filled, copies_kept, rows_unmade}
 use Rattle.std.proofs.lemmas.Bool.Decides.{eqb_tells}
 use Rattle.std.specs.Prelude.{unwrap_or}
 use Rattle.vm_base.specs.declared.entry.Entry.{Entry}
@@ -20,9 +22,9 @@ use Rattle.vm_kernel.proofs.Mine.{own_new}
 use Rattle.vm_kernel.proofs.Replied.{replied_behind}
 
 -- who doesn't wait in the history has no row
-pub idle_of : (x : Option Waiting) (w : Option Access) → w ≡ waiting_in x → is_some w ≡ false → x ≡ None
-idle_of None w is none = refl
-idle_of (Some row) w is none = absurd (let bad : true ≡ false = sym (ap is_some is) ∙ none in cc)
+pub idle_of : (size : ℕ) (x : Option Waiting) (w : Option Access) → w ≡ waiting_in size x → is_some w ≡ false → x ≡ None
+idle_of size None w is none = refl
+idle_of size (Some row) w is none = absurd (let bad : true ≡ false = sym (ap is_some is) ∙ none in cc)
 
 -- who waits lives
 pub no_waiter : (maps : Mapped) (cs : ChainTable) (rs : ResidentTable) (os : ObjectTable) (rows : List Waiting) (who : On → Bool) (waiting_at : ℕ → Option Access) (task : ℕ)
@@ -41,8 +43,8 @@ waits_made maps new cs rs os rows who task host past has free changes =
     let none = no_waiter maps cs rs os rows who (λ t. waiting t past) task.0 has free in
     waits_changed maps new cs cs rs os rows who (λ t. waiting t past) task.0 (Some []) has changes none (tops_same cs)
     (λ t here. elim (eqb_tells task.0 t) [
-      | inl same ↦ rw same.0 (sym (ap waiting_in (ap (entry rows) (sym same.1) ∙ none)))
-      | inr apart ↦ rw apart.0 (has.is t (ap is_some (sym (changes.others t (λ e. apart.1 (sym e)))) ∙ here))
+      | inl same ↦ rw same.0 (sym (ap (waiting_in new.size) (ap (entry rows) (sym same.1) ∙ none)))
+      | inr apart ↦ rw apart.0 (has.is t (ap is_some (sym (changes.others t (λ e. apart.1 (sym e)))) ∙ here) ∙ ap (λ n. waiting_in n (entry rows t)) (sym changes.size))
     ])
 
 -- what others hold stays, where a task is made
@@ -82,12 +84,12 @@ rests_made header h task past k ids maps rests changes free below =
             homeless = homeless_after leaves m.homeless;
             homes = m.homes;
             files = m.files;
-            settled = record { returned = refl; shut = λ region. refl };
+            settled = record { none_owed = refl; shut = λ region. refl };
             replied = replied_behind tt m.replied;
             laundry = m.laundry;
             frames = m.frames;
           };
-      used = rests.used;
+      used = record { regions = rests.used.regions; copies = copies_kept k.maps maps k.chains k.chains k.memory.resident k.memory.resident rests.used.copies (same_waiting k.maps maps task.0 (Some []) k.waits.rows changes (no_waiter k.maps k.chains k.memory.resident k.memory.objects k.waits.rows _ _ task.0 rests.waits free)) (chains_filled k.chains) (rows_unmade k.chains k.memory.resident) };
       referred = rests.referred;
       waits = waits_made k.maps maps k.chains k.memory.resident k.memory.objects k.waits.rows _ task (host_id h) past rests.waits free changes;
       order = rests.order;

@@ -1,5 +1,8 @@
 -- A declared object is mapped: a task gets an entry on its region, which counts one more or is made, and then the object's pager is told of it.
 use Rattle.vm_kernel.proofs.Common.{Begins, Bool, ChainTable, ChangesOnly, Command, EachOf, Elsewhere, Enters, Entry, Event, HasControls, HasPages, Header, Ids, IfSome, IsInside, IsReferred, IsSome, List, MapChange, Mapped, Matches, None, ObjectId, ObjectRow, ObjectTable, Option, Outside, Parts, Plays, PutsObject, PutsRegion, QueueIsStill, Ran, RegionRow, Rests, RunsNone, SameMarks, Shares, Some, Starts, TaskId, Temp, Up, [], all_tasks, ap, arith, code_where, entered, entering, entries_in, entries_in_row, entries_of, entry, entry_at, eqb_tells, false, get_or, got, has_pager, head, holds, home_of, homes_next, homes_stay, host_id, host_of, if◌then◌else◌, in_use, inl, inr, is_none, is_on, is_range, is_ready, is_some, is_woken, last_control, length, live_control, live_in, lives_on, local, marked_regions, meets_range, most_entries, named, nat_tests, next_object, next_region, object_at, object_home, page_below, pages_in, paging, place_of, refl, region_at, region_entries, region_of, region_pages, reverse, rows_in, slice_get, some_is, subst, sym, tasks, true, waiting, with_entries, ℕ, ◌%◌, ◌&&◌, ◌+◌, ◌-◌, ◌/◌, ◌<◌, ◌==◌, ◌^◌, ◌||◌, ◌∙◌, ◌∷◌, ◌≡◌, ◌≤◌, ◌⊎◌}
+use Rattle.vm_kernel.proofs.Filled.{declared_unfilled, filled_temporary, put_filled, same_waiting}
+use Rattle.vm_kernel.proofs.Regions.{region_row}
+use Rattle.vm_state.proofs.Filling.{copies_kept, rows_unmade}
 use Rattle.std.proofs.Common.{nat_le, nat_lt, not}
 use Rattle.std.proofs.lemmas.Bool.{not-false, or_parts}
 use Rattle.std.proofs.lemmas.List.{length-reverse}
@@ -268,7 +271,7 @@ rests_opened header h outside doing task address bytes object offset pages new p
     let regions = named_regions header past in
     let known_objects = named_objects header past in
     let waits_at = λ (t : ℕ). waiting t past in
-    let none = no_row (entry k.waits.rows task.0) (waiting task.0 past) (rests.waits.is task.0 (ap is_some lives)) may.idle in
+    let none = no_row k.maps.size (entry k.waits.rows task.0) (waiting task.0 past) (rests.waits.is task.0 (ap is_some lives)) may.idle in
     let used = λ (paged : is_paged header object.0 ≡ true). may.used (file_of header object.0 may.declared paged) in
     let controls : HasControls (named header) h objects (λ x. last_control h x now) (λ x. live_control h x now) (λ x. is_ready h x now) (λ x. object_home x past) =
     rw (own_host h) (controls_opened header k.memory.objects objects (λ x. last_control h x past) (λ x. live_control h x past) (λ x. is_ready h x past) object.0 new m.controls may.declared o.known o.put) in
@@ -308,12 +311,16 @@ rests_opened header h outside doing task address bytes object offset pages new p
             homeless =
                 homes_next header outside begins (enters ∷ past) (doing, map_opens header h task address bytes object offset new past k ids rests may o.known)
                 (homes_next header outside enters past (doing, map_enters header h task address bytes object offset past k ids rests may) m.homeless);
-            settled = record { returned = refl; shut = λ region. refl };
+            settled = record { none_owed = refl; shut = λ region. refl };
             replied = replied_behind tt (replied_behind tt m.replied);
             laundry = m.laundry;
             frames = m.frames;
           };
-      used = used_declared object pages k.chains chains o.region rests.used;
+      used = record {
+        regions = used_declared object pages k.chains chains k.waits.rows o.region rests.used.regions;
+        copies = copies_kept k.maps maps k.chains chains k.memory.resident k.memory.resident rests.used.copies (same_waiting k.maps maps task.0 (Some (entered row (rows_in task.0 k.maps))) k.waits.rows o.changes none)
+            (put_filled object.0 (own_region object pages) k.chains chains o.free o.region (declared_unfilled object.0 rests.used m.homeless m.kinds may.declared)) (rows_unmade k.chains k.memory.resident);
+      };
       referred = referred_put object.0 new object.0 (Some (own_region object pages)) k.chains chains k.memory.objects objects k.memory.resident o.region o.put (let single = o.known.references in omega (arith, single)) (λ is. o.known.live) rests.referred;
       waits =
           waits_declared header maps chains k.memory.resident k.memory.objects objects k.waits.rows (is_woken woken.Nobody) waits_at object.0 new
@@ -571,7 +578,12 @@ ran_map header h outside task address bytes object offset past k k2 ids before a
     let row = shared_entry address bytes object offset in
     let e = got task row in
     let may = may_map header h task address bytes object offset past k ids before s in
-    let share : MayShare header task.0 row past k = record { lives = may.lives; idle = may.idle; free = may.judged; pages = may.pages; inside = inside; shared = λ less same. let bad : inherit.Share ≡ inherit.Copy = same in cc } in
+    let there = region_row k.chains object.0 inside.region in
+    let counted : 0 < region_entries k.chains object.0 = elim (s.rests.used.regions object.0 there.0 there.1) [
+      | inl some ↦ subst (λ (z : ℕ). 0 < z) (sym (ap entries_in_row there.1)) some
+      | inr filled ↦ let least = filled_temporary object.0 s.rests.used.copies m.homeless filled in let less = may.declared in absurd (omega (arith, least, less))
+    ] in
+    let share : MayShare header task.0 row past k = record { counted = counted; lives = may.lives; idle = may.idle; free = may.judged; pages = may.pages; inside = inside; shared = λ less same. let bad : inherit.Share ≡ inherit.Copy = same in cc } in
     let log : after ≡ e ∷ [] = shares.told ∙ ap (λ z. e ∷ z) s.nothing in
     let is : head header past doing ≡ Some (e ∷ []) = rw (lives_here m.tasks may.lives, alive) refl in
     subst (λ (z : List Event). Ran header h outside doing past k2 ids z) (sym log)
@@ -607,7 +619,7 @@ ran_map header h outside task address bytes object offset past k k2 ids before a
     (record {
       licensed = (
         licensed header outside doing begins (enters ∷ past) refl (map_opens header h task address bytes object offset new past k ids s.rests may o.known),
-        (licensed header outside doing enters past m.settled.returned (map_enters header h task address bytes object offset past k ids s.rests may), tt),
+        (licensed header outside doing enters past m.settled.none_owed (map_enters header h task address bytes object offset past k ids s.rests may), tt),
       );
       own_bytes = (tt, (tt, tt));
       frames = (fine, (fine, tt));

@@ -1,8 +1,8 @@
 -- The lists of pages are as the events say.
-use Rattle.vm_kernel.proofs.Common.{AllSkipped, Bool, Changes, Does, Event, FrameNo, Header, HostParts, Ids, IsChosen, IsVictim, KeepsPages, List, None, Option, Page, PageKey, PageRow, PagerState, Paging, Parts, Plays, PutsRow, Queues, Reclaim, ReclaimEffects, ResidentTable, Rests, Some, Still, TaskId, Then, Up, Want, [], ap, balanced, balanced_done, cleared, controlled, created, false, frame_here, from_unreferenced, front_referenced_of, if◌then◌else◌, inl, inr, is_queued, is_skipped, looked, map, needs_none, none_needed, page_in, paging, places_with_frame, queues_after_search, queues_except, referenced_front, refl, row_at, row_cases, sends, shortage, spared, spared_done, subst, sym, take, told_from, true, victim_frame, with_reference, ℕ, ◌&&◌, ◌++◌, ◌==◌, ◌||◌, ◌∙◌, ◌∷◌, ◌≡◌}
+use Rattle.vm_kernel.proofs.Common.{AllSkipped, Bool, Changes, Does, Event, FrameNo, Header, HostParts, Ids, IsChosen, IsOfNumber, IsVictim, KeepsPages, List, None, Option, Page, PageKey, PageRow, PagerState, Paging, Parts, Plays, PutsRow, Queues, Reclaim, ReclaimEffects, ResidentTable, Rests, Some, Still, TaskId, Then, Up, Want, [], ap, balanced, balanced_done, cleared, controlled, false, frame_here, from_unreferenced, front_referenced_of, if◌then◌else◌, inl, inr, is_queued, is_skipped, looked, map, needs_none, none_needed, owed, page_in, paging, places_with_frame, queues_after_search, queues_except, referenced_front, refl, row_at, row_cases, sends, shortage, spared, spared_done, subst, sym, take, told_from, true, victim_frame, with_reference, ℕ, ◌&&◌, ◌++◌, ◌==◌, ◌||◌, ◌∙◌, ◌∷◌, ◌≡◌}
 use Rattle.std.proofs.lemmas.Bool.Decides.{eqb_tells}
 use Rattle.vm_base.specs.declared.ids.HostId.{HostId}
-use Rattle.vm_fault.specs.Faults.{AfterZeros, AtOnce, Ended, Faulted, FaultState, Hits, Raised, References}
+use Rattle.vm_fault.specs.Faults.{AfterZeros, AtOnce, Copied, Ended, Faulted, FaultState, Hits, Raised, References}
 use Rattle.vm_fault.specs.declared.step.FaultStep.{FaultStep}
 use Rattle.vm_fault.specs.declared.step.FaultStep.TheVariants as step
 use Rattle.vm_legal.specs.Walks.{Reach}
@@ -13,6 +13,7 @@ use Rattle.vm_objects.specs.declared.row.PagerState.TheVariants as state
 use Rattle.vm_pageout.specs.declared.answer.Reclaim.TheVariants as reclaim
 use Rattle.vm_queues.specs.Queues.{added, marked}
 use Rattle.vm_waits.specs.declared.waiting.Want.TheVariants as want
+use Rattle.vm_legal.specs.Licences.{ReturnOn}
 use Rattle.vm_kernel.specs.Plays.{Looks, AreSpared, Arrives, AsUnreached, AsVictim, Departs, uncreated}
 use Rattle.vm_kernel.specs.Turns.{IsFront, Bare, Shadow}
 use Rattle.vm_kernel.proofs.Claiming.{Front, front_in}
@@ -102,6 +103,7 @@ refers_touches frame old new refers = record { lists = refers.marks; frames = λ
 
 hit_touches : (task : TaskId) (what : Want) (key : PageKey) (frame : FrameNo) (at value : ℕ) (e : Event) (old new : HostParts) → Hits task what key frame at value e old new → Touches frame old new
 hit_touches task (want.Load address n) key frame at value e old new hits = refers_touches frame old new hits.1
+hit_touches task (want.CopyTo address pages target next) key frame at value e old new hits = absurd hits
 hit_touches task (want.Store address n number) key frame at value e old new hits =
     let wrote = hits.1.1 in
     let touched = refers_touches frame hits.1.0 new hits.1.2 in
@@ -116,6 +118,7 @@ hit_touches task (want.Store address n number) key frame at value e old new hits
 hit_does : (header : Header) (past : List Event) (task : TaskId) (what : Want) (key : PageKey) (frame : FrameNo) (at value : ℕ) (e : Event) (old new : HostParts) (a b : Paging) → Hits task what key frame at value e old new
     → a.frame_at key.object.0 key.page.0 ≡ Some frame → b ≡ record a { queues = with_reference frame.0 a.queues } → Does header past e a b
 hit_does header past task (want.Load address n) key frame at value e old new a b hits here is = subst (λ (z : Event). Does header past z a b) (sym hits.2) (record { frame = frame; here = here; is = is })
+hit_does header past task (want.CopyTo address pages target next) key frame at value e old new a b hits here is = absurd hits
 hit_does header past task (want.Store address n number) key frame at value e old new a b hits here is = subst (λ (z : Event). Does header past z a b) (sym hits.2) (record { frame = frame; here = here; is = is })
 
 touched_is : (frame : FrameNo) (old new : HostParts) → Touches frame old new → ◌≡◌ {A = Paging} (paging_in new) (record (paging_in old) { queues = with_reference frame.0 old.queues })
@@ -162,14 +165,15 @@ front_plays header past s mid f =
     by Bare = Still
     by (Shadow region new old) = Then (event.Shadowed region new old) s.events (paging_in s.parts) (paging_in s.parts) Still refl
 
-ended_plays : (header : Header) (past : List Event) (host : HostId) (task : TaskId) (what : Want) (top : PageKey) (at value : ℕ) (s new : FaultState) → Ended host task what top at value s.parts new.parts s.chains s.events new.events
+ended_plays : (header : Header) (past : List Event) (host : HostId) (task : TaskId) (what : Want) (top : PageKey) (at value : ℕ) (s new : FaultState) → IsOfNumber what → Ended host task what top at value s.parts new.parts s.chains s.events new.events
     → Plays header past s.events (paging_in s.parts) new.events (paging_in new.parts)
-ended_plays header past host task what top at value s new (AtOnce steps key row finds stores opens e hits told) =
+ended_plays header past host task what top at value s new of_number (Copied address pages next target is steps key row finds out is_none copies) = absurd (subst IsOfNumber is of_number)
+ended_plays header past host task what top at value s new of_number (AtOnce steps key row finds stores opens e hits told) =
     let touched = hit_touches task what key row.frame at value e s.parts new.parts hits in
     plays_told told
     (hit_does header (s.events ++ past) task what key row.frame at value e s.parts new.parts (paging_in s.parts) (paging_in new.parts) hits (here_is (row_at s.parts.resident key.object.0 key.page.0) row row.frame finds.found finds.here refl)
     (touched_is row.frame s.parts new.parts touched))
-ended_plays header past host task what top at value s new (AfterZeros sinks frame brought brings plan e hits told) =
+ended_plays header past host task what top at value s new of_number (AfterZeros sinks frame brought brings plan e hits told) =
     let zeroed = event.Zeroed host top.object top.page in
     let arrives = came top frame _ _ _ s.parts brought brings refl in
     let come = come_is top frame _ _ _ s.parts brought brings refl in
@@ -178,7 +182,7 @@ ended_plays header past host task what top at value s new (AfterZeros sinks fram
     subst (λ (z : List Event). Plays header past s.events (paging_in s.parts) z (paging_in new.parts)) (sym told)
     (Then e (zeroed ∷ s.events) (paging_in brought) (paging_in new.parts) (Then zeroed s.events (paging_in s.parts) (paging_in brought) Still arrives)
     (hit_does header ((zeroed ∷ s.events) ++ past) task what top frame at value e brought new.parts (paging_in brought) (paging_in new.parts) hits here (touched_is frame brought new.parts touched)))
-ended_plays header past host task what top at value s new (Raised steps key row finds stores opens frame copied hit raises plan e hits refers told) =
+ended_plays header past host task what top at value s new of_number (Raised steps key row finds stores opens frame copied hit raises plan e hits refers told) =
     let raised = event.Raised host key.object key.page top.object top.page in
     let o = top.object.0 in
     let p = top.page.0 in
@@ -200,25 +204,25 @@ ended_plays header past host task what top at value s new (Raised steps key row 
     (Then e (raised ∷ s.events) both (paging_in new.parts) (Then raised s.events was both Still (record { mid = come; arrives = arrives; marks = record { frame = row.frame; here = source; is = refl } }))
     (hit_does header ((raised ∷ s.events) ++ past) task what top frame at value e copied hit both (paging_in new.parts) hits here (same_paging _ _ _ _ (λ q r. last.frames q r ∙ touched.frames q r) lists)))
 
-comes_plays : (header : Header) (past : List Event) (maps : Mapped) (host : HostId) (task : TaskId) (what : Want) (may : Bool) (answer : FaultStep) (s new : FaultState) → (f : Faulted maps host task what may answer s new)
+comes_plays : (header : Header) (past : List Event) (maps : Mapped) (host : HostId) (task : TaskId) (what : Want) (may : Bool) (answer : FaultStep) (s new : FaultState) → IsOfNumber what → (f : Faulted maps host task what may answer s new)
     → Plays header past f.mid.events (paging_in f.mid.parts) new.events (paging_in new.parts)
-comes_plays header past maps host task what may (step.Done value) s new f = ended_plays header past host task what f.top _ value f.mid new f.comes
-comes_plays header past maps host task what may (step.Ask key) s new f =
+comes_plays header past maps host task what may (step.Done value) s new of_number f = ended_plays header past host task what f.top _ value f.mid new of_number f.comes
+comes_plays header past maps host task what may (step.Ask key) s new of_number f =
     let asked = f.comes in
     plays_told asked.told
     (same_paging _ _ _ _ (frames_kept f.mid.parts.resident new.parts.resident key.object.0 key.page.0 _ asked.page.row (sym (ap frame_here asked.page.found))) asked.page.queues)
-comes_plays header past maps host task what may (step.Unlock key) s new f =
+comes_plays header past maps host task what may (step.Unlock key) s new of_number f =
     let asks = f.comes in
     plays_told asks.told
     (same_paging _ _ _ _ (frames_kept f.mid.parts.resident new.parts.resident key.object.0 key.page.0 _ asks.page.row (sym (ap frame_here asks.page.found))) asks.page.queues)
-comes_plays header past maps host task what may (step.WaitReady object) s new f = plays_none header past _ _ _ _ f.comes.1.told (ap paging_in f.comes.1.parts)
-comes_plays header past maps host task what may (step.WaitAnswer key) s new f = plays_none header past _ _ _ _ f.comes.1.told (ap paging_in f.comes.1.parts)
-comes_plays header past maps host task what may (step.NeedFrame source) s new f = plays_none header past _ _ _ _ f.comes.2.told (ap paging_in f.comes.2.parts)
+comes_plays header past maps host task what may (step.WaitReady object) s new of_number f = plays_none header past _ _ _ _ f.comes.1.told (ap paging_in f.comes.1.parts)
+comes_plays header past maps host task what may (step.WaitAnswer key) s new of_number f = plays_none header past _ _ _ _ f.comes.1.told (ap paging_in f.comes.1.parts)
+comes_plays header past maps host task what may (step.NeedFrame source) s new of_number f = plays_none header past _ _ _ _ f.comes.2.told (ap paging_in f.comes.2.parts)
 
 -- an access was run once
-pub plays_attempt : (header : Header) (past : List Event) (maps : Mapped) (host : HostId) (task : TaskId) (what : Want) (may : Bool) (answer : FaultStep) (s new : FaultState) → Faulted maps host task what may answer s new
+pub plays_attempt : (header : Header) (past : List Event) (maps : Mapped) (host : HostId) (task : TaskId) (what : Want) (may : Bool) (answer : FaultStep) (s new : FaultState) → IsOfNumber what → Faulted maps host task what may answer s new
     → Plays header past s.events (paging_in s.parts) new.events (paging_in new.parts)
-plays_attempt header past maps host task what may answer s new f = plays_both (front_plays header past s f.mid (front_in f)) (comes_plays header past maps host task what may answer s new f)
+plays_attempt header past maps host task what may answer s new of_number f = plays_both (front_plays header past s f.mid (front_in f)) (comes_plays header past maps host task what may answer s new of_number f)
 
 -- a victim that was looked for twice is the same
 
@@ -245,8 +249,8 @@ plays_looked header h past events skip k lists sources all is =
     Looks h events (paging k) _ Still (record { skip = skip; spared = sources; all = all; is = ap (λ (z : Queues). record (paging k) { queues = z }) is })
 
 -- nothing stands in front but what a return needs
-uncreated_same : (past : List Event) → created past ≡ None → uncreated past ≡ past
-uncreated_same (event.Sent (Up host object) (message.Create control size) ∷ past) none = absurd (let bad : Some (Up host object) ≡ None = none in cc)
+uncreated_same : (past : List Event) → owed past ≡ None → uncreated past ≡ past
+uncreated_same (event.Sent (Up host object) (message.Create control size) ∷ past) none = absurd (let bad : Some (ReturnOn (Up host object)) ≡ None = none in cc)
 uncreated_same past none = refl
 
 -- a page is dropped whose object is in no chain
@@ -301,8 +305,8 @@ reclaim_plays_from header h past ids skip reclaim.Returned k k2 mid before after
 
     bare : (pager : PagerState) → uncreated (told_from pager creation before ++ past) ≡ before ++ past
     bare state.Without = refl
-    bare state.Sent = uncreated_same (before ++ past) rests.matches.settled.returned
-    bare state.Ready = uncreated_same (before ++ past) rests.matches.settled.returned
+    bare state.Sent = uncreated_same (before ++ past) rests.matches.settled.none_owed
+    bare state.Ready = uncreated_same (before ++ past) rests.matches.settled.none_owed
 reclaim_plays_from header h past ids skip reclaim.Nothing k k2 mid before after rests sources same f queued unskipped is =
     absurd (let bad : true ≡ false = sym (is.skipped f queued) ∙ unskipped in cc)
 

@@ -1,5 +1,6 @@
 -- At the end of a step nobody waits in vain, and nothing is left behind.
-use Rattle.vm_kernel.proofs.Common.{Access, Bool, Event, FrameTable, HasQueue, HasRegions, HasWaits, Header, HostIsFull, Ids, IsPagerTold, IsSwept, List, Matches, None, NoneInVain, ObjectRow, On, Option, PageRow, Parts, PromptAt, QueueIsServed, Reach, Reason, RegionRow, Rests, Some, Waiting, Waits, WaitsForPager, Want, [], absent_at, access_in, all_tasks, ap, arith, backing_of, count_by, entries_in, entry, false, has_entry, if◌then◌else◌, in_use, inl, inr, is_again, is_frame, is_on, is_store, live_in, local_of_row, marked_regions, named, nat_lt, nat_tests, next_object, next_region, none_again, none_queued, object_at, page_on, refl, region_at, region_of, row_at, rows_in, subst, sym, true, waiting, waiting_in, ℕ, ◌<◌, ◌≤◌, ◌||◌, ◌∙◌, ◌≡◌, ◌⊎◌}
+use Rattle.vm_kernel.proofs.Common.{Access, Bool, Event, FrameTable, HasQueue, HasRegions, HasWaits, Header, HostIsFull, Ids, IsOfNumber, IsPagerTold, IsSwept, List, Matches, None, NoneInVain, ObjectRow, On, Option, PageRow, Parts, PromptAt, QueueIsServed, Reach, Reason, RegionRow, Rests, Some, Waiting, Waits, WaitsForPager, Want, [], absent_at, access_in, all_tasks, ap, arith, backing_of, copies_to, count_by, entries_in, entry, false, has_entry, if◌then◌else◌, in_use, inl, inr, is_again, is_frame, is_on, is_store, live_in, local_of_row, marked_regions, named, nat_lt, nat_tests, next_object, next_region, none_again, none_queued, object_at, page_on, refl, region_at, region_of, row_at, rows_in, subst, sym, true, waiting, waiting_in, ℕ, ◌<◌, ◌≤◌, ◌||◌, ◌∙◌, ◌≡◌, ◌⊎◌}
+use Rattle.vm_kernel.proofs.Filled.{filled_temporary, row_use}
 use Rattle.std.proofs.Common.{is_some}
 use Rattle.vm_legal.specs.Licences.{IsUnheld}
 use Rattle.vm_legal.specs.Walks.{Reaches}
@@ -23,18 +24,18 @@ here_row fs None lacked bad = absurd (let no : false ≡ true = bad in cc)
 here_row fs (Some row) lacked is = (row, refl)
 
 -- the row of an access that waits
-pub record HasRow (rows : List Waiting) (task : ℕ) (access : Access) : Type 0 where
+pub record HasRow (size : ℕ) (rows : List Waiting) (task : ℕ) (access : Access) : Type 0 where
   pub row : Waiting
   pub found : entry rows task ≡ Some row
-  pub is : access ≡ access_in row.want
+  pub is : access ≡ access_in size (copies_to row.destination) row.want
 
-pub has_row : (k : Parts) (past : List Event) (task : ℕ) (access : Access) → HasWaits k woken.Nobody past → is_some (entries_in task k.maps) ≡ true → waiting task past ≡ Some access → HasRow k.waits.rows task access
+pub has_row : (k : Parts) (past : List Event) (task : ℕ) (access : Access) → HasWaits k woken.Nobody past → is_some (entries_in task k.maps) ≡ true → waiting task past ≡ Some access → HasRow k.maps.size k.waits.rows task access
 has_row k past task access has here waits = go (entry k.waits.rows task) refl
   where
-    go : (x : Option Waiting) → entry k.waits.rows task ≡ x → HasRow k.waits.rows task access
-    go None none = absurd (let bad : None ≡ Some access = sym (has.is task here ∙ ap waiting_in none) ∙ waits in cc)
+    go : (x : Option Waiting) → entry k.waits.rows task ≡ x → HasRow k.maps.size k.waits.rows task access
+    go None none = absurd (let bad : None ≡ Some access = sym (has.is task here ∙ ap (waiting_in k.maps.size) none) ∙ waits in cc)
     go (Some row) found =
-        let same : Some access ≡ Some (access_in row.want) = sym waits ∙ (has.is task here ∙ ap waiting_in found) in
+        let same : Some access ≡ Some (access_in k.maps.size (copies_to row.destination) row.want) = sym waits ∙ (has.is task here ∙ ap (waiting_in k.maps.size) found) in
         record { row = row; found = found; is = cc }
 
 -- a task that waits on the host is in its maps
@@ -42,29 +43,29 @@ pub at_home : (header : Header) (h : ℕ) (k : Parts) (ids : Ids) (past : List E
 at_home header h k ids past task access m waits home = sym (m.tasks.hosts task) ∙ (ap (is_on h) (waits.at.lives ∙ ap Some home) ∙ own_host h)
 
 -- what an access waits for that isn't to be run again
-waits_for : (header : Header) (h : ℕ) (k : Parts) (ids : Ids) (past : List Event) (task : ℕ) (what : Want) (why : On) → Matches header h k ids [] past → Reason k.maps k.chains k.memory.resident k.memory.objects task what why → is_again why ≡ false → (is_frame why ≡ true → HostIsFull header h past)
-    → (waits : Waits header task (access_in what) past) → waits.at.host ≡ h → WaitsForPager header h task (access_in what) past ⊎ HostIsFull header h past
-waits_for header h k ids past task what on.Again m reason fresh full waits home = absurd (let bad : true ≡ false = fresh in cc)
-waits_for header h k ids past task what (on.Ready object) m reason fresh full waits home =
+waits_for : (header : Header) (h : ℕ) (k : Parts) (ids : Ids) (past : List Event) (task to : ℕ) (what : Want) (why : On) → IsOfNumber what → Matches header h k ids [] past → Reason k.maps k.chains k.memory.resident k.memory.objects task what why → is_again why ≡ false → (is_frame why ≡ true → HostIsFull header h past)
+    → (waits : Waits header task (access_in k.maps.size to what) past) → waits.at.host ≡ h → WaitsForPager header h task (access_in k.maps.size to what) past ⊎ HostIsFull header h past
+waits_for header h k ids past task to what on.Again number m reason fresh full waits home = absurd (let bad : true ≡ false = fresh in cc)
+waits_for header h k ids past task to what (on.Ready object) number m reason fresh full waits home =
     let told : IsPagerTold k.memory.objects reason.0.object.0 = subst (λ z. IsPagerTold k.memory.objects z.0) (sym reason.2) reason.3 in
     inl (record {
       waits = waits;
       on_host = home;
       object = reason.0.object.0;
       page = reason.0.page.0;
-      place = waiting_place m reason.1 (at_home header h k ids past task (access_in what) m waits home) waits;
-      what = awaits_ready (shown_at m) reason.0.object.0 told.row told.found told.sent (is_store (access_in what)) reason.0.page.0;
+      place = waiting_place m to number reason.1 (at_home header h k ids past task (access_in k.maps.size to what) m waits home) waits;
+      what = awaits_ready (shown_at m) reason.0.object.0 told.row told.found told.sent (is_store (access_in k.maps.size to what)) reason.0.page.0;
     })
-waits_for header h k ids past task what (on.Page key) m reason fresh full waits home =
+waits_for header h k ids past task to what (on.Page key) number m reason fresh full waits home =
     inl (record {
       waits = waits;
       on_host = home;
       object = key.object.0;
       page = key.page.0;
-      place = waiting_place m reason.0 (at_home header h k ids past task (access_in what) m waits home) waits;
-      what = awaits_word (shown_at m) key.object.0 key.page.0 what reason.1;
+      place = waiting_place m to number reason.0 (at_home header h k ids past task (access_in k.maps.size to what) m waits home) waits;
+      what = awaits_word (shown_at m) k.maps.size to key.object.0 key.page.0 what reason.1;
     })
-waits_for header h k ids past task what on.Frame m reason fresh full waits home = inr (full refl)
+waits_for header h k ids past task to what on.Frame number m reason fresh full waits home = inr (full refl)
 
 -- an access that wants a frame waits while the queue can't go on
 queue_full : (header : Header) (h : ℕ) (k : Parts) (past : List Event) (task : ℕ) (w : Waiting) → QueueIsServed header h k past → entry k.waits.rows task ≡ Some w → is_frame w.on ≡ true → HostIsFull header h past
@@ -76,18 +77,14 @@ none_in_vain header h k ids past rests served task access waits home =
     let row = has_row k past task access rests.waits (at_home header h k ids past task access rests.matches waits home) waits.waits in
     let w = row.row in
     subst (λ (z : Access). (it : Waits header task z past) → it.at.host ≡ h → WaitsForPager header h task z past ⊎ HostIsFull header h past) (sym row.is)
-    (waits_for header h k ids past task w.want w.on rests.matches (rests.waits.reasons task w row.found refl) (none_again k.waits.rows task w rests.idle row.found) (queue_full header h k past task w served row.found))
+    (waits_for header h k ids past task (copies_to w.destination) w.want w.on (rests.waits.numbers task w row.found) rests.matches (rests.waits.reasons task w row.found refl) (none_again k.waits.rows task w rests.idle row.found) (queue_full header h k past task w served row.found))
     waits home
 
 -- the temporary regions that a kernel knows are in use
 regions_used : (header : Header) (h : ℕ) (k : Parts) (ids : Ids) (past : List Event) → Rests header h k ids past → (r : ℕ) (row : RegionRow) → named header ≤ r → region_at k.chains r ≡ Some row → in_use header h r past ≡ true
 regions_used header h k ids past rests r row temporary found =
     let m = rests.matches in
-    let some = rests.used r row found in
-    let counts = m.entries.counts r row found in
-    let less : 0 < count_by all_tasks r k.maps = omega (arith, some, counts) in
-    let test : nat_lt 0 (count_by all_tasks r k.maps) ≡ true = grind (arith, nat_tests) in
-    m.uses.used r temporary ∙ test
+    (m.uses.used r temporary).is (row_use r row m.entries found rests.used)
 
 -- a temporary object to which something refers is in the chain of one of them
 reaches : (header : Header) (h : ℕ) (k : Parts) (ids : Ids) (past : List Event) (object : ℕ) → Rests header h k ids past → named header ≤ object → IsReferred k.memory.objects object → Reach header h object past
@@ -120,9 +117,11 @@ held : (header : Header) (h : ℕ) (k : Parts) (ids : Ids) (past : List Event) (
 held header h k ids past object rests less referred unheld = elim (referrer_of m.regions object referred) [
   | OfRegion r row found top ↦
       let own : r ≡ object = over_declared m.regions m.kinds m.homeless r row found (omega (arith, top, less)) ∙ top in
-      let some = rests.used r row found in
-      let counts = m.entries.counts r row found in
-      let task = by_some all_tasks r k.maps (omega (arith, some, counts)) in
+      let some : 0 < count_by all_tasks r k.maps = elim (row_use r row m.entries found rests.used) [
+        | inl count ↦ count
+        | inr filled ↦ let high = filled_temporary r rests.used.copies m.homeless filled in absurd (omega (arith, high, own, less))
+      ] in
+      let task = by_some all_tasks r k.maps some in
       let here = with_entry r (entries_in task.0 k.maps) task.1 in
       let none = unheld task.0 (m.tasks.hosts task.0 ∙ here) in
       let has : has_entry object (rows_in task.0 k.maps) ≡ true = subst (λ (z : ℕ). has_entry z (rows_in task.0 k.maps) ≡ true) own task.1 in

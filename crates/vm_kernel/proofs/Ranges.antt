@@ -1,5 +1,9 @@
 -- A range is allocated: a region over a new object, and an entry on the whole of it.
-use Rattle.vm_kernel.proofs.Common.{AllLicensed, AllReferred, AllUsed, Bool, ChainTable, ChangesOnly, EachIn, Enters, Entry, Event, Fit, HasCause, HasEntries, HasHomes, HasRegions, HasUse, HaveHomes, Header, HostParts, Ids, IfSome, IsInside, IsLined, IsMine, List, MadeRange, MapChange, Mapped, None, ObjectId, ObjectRow, ObjectTable, Option, Outside, Parts, PutsObject, PutsRegion, Ran, Region, RegionId, RegionRow, Rests, Some, Starts, TaskId, [], all_tasks, ap, arith, backing_of, begins_copy, begins_here, both_left, code_where, copy_target, count_by, entered, entering, entries_in, entries_of, entry, eqb_tells, false, fills, fit_within, got, has_entry, head, holds, home_entered, home_of, homes_next, homes_stay, host_of, if◌then◌else◌, in_use, inl, inr, is_none, is_range, is_ready, is_some, last_control, length, length_entered, live_control, lives_on, local, made_here, marked_regions, meets_range, most_entries, nat_le, nat_tests, next_object, next_region, object_at, object_home, one_case, page_below, pages_in, pages_of_row, place_of, refl, region_at, region_of, region_pages, rows_entered, rows_in, rows_map, some_is, starts_copy, subst, sym, tasks, true, waiting, waiting_in, whole_entry, ℕ, ◌%◌, ◌++◌, ◌+◌, ◌-◌, ◌/◌, ◌<◌, ◌==◌, ◌^◌, ◌||◌, ◌∙◌, ◌∷◌, ◌≡◌, ◌≢◌, ◌≤◌, ◌⊎◌}
+use Rattle.vm_kernel.proofs.Common.{AllLicensed, AllReferred, Bool, ChainTable, ChangesOnly, EachIn, Enters, Entry, Event, Fit, HasCause, HasEntries, HasHomes, HasRegions, HasSlow, HasUse, HasWaits, HaveHomes, Header, HostParts, Ids, IfSome, IsFilledIn, IsInside, IsLined, IsMine, IsUsed, List, MadeRange, MapChange, Mapped, None, ObjectId, ObjectRow, ObjectTable, Option, Outside, Parts, PutsObject, PutsRegion, Ran, Region, RegionId, RegionRow, Rests, Some, Starts, TaskId, Waiting, [], all_tasks, ap, arith, backing_of, begins_copy, begins_here, both_left, code_where, copy_target, count_by, entered, entering, entries_in, entries_of, entry, eqb_tells, false, fills, fit_within, got, has_entry, head, holds, home_entered, home_of, homes_next, homes_stay, host_of, if◌then◌else◌, in_use, inl, inr, is_none, is_on, is_range, is_ready, is_some, last_control, length, length_entered, live_control, lives_on, local, made_here, marked_regions, meets_range, most_entries, nat_le, nat_tests, next_object, next_region, object_at, object_home, one_case, page_below, pages_in, pages_of_row, place_of, refl, region_at, region_of, region_pages, rows_entered, rows_in, rows_map, some_is, starts_copy, subst, sym, tasks, true, waiting, waiting_in, whole_entry, ℕ, ◌%◌, ◌++◌, ◌+◌, ◌-◌, ◌/◌, ◌<◌, ◌==◌, ◌^◌, ◌||◌, ◌∙◌, ◌∷◌, ◌≡◌, ◌≢◌, ◌≤◌, ◌⊎◌}
+use Rattle.vm_supply.specs.declared.woken.Woken.TheVariants as woken
+use Rattle.vm_kernel.proofs.Filled.{free_unfilled, put_filled, same_waiting, unknown_unfilled}
+use Rattle.vm_kernel.proofs.Uses.{ApartFrom, fills_here, holds_rows, unfilled, uses_entered}
+use Rattle.vm_state.proofs.Filling.{copies_kept, copies_told, rows_unmade}
 use Rattle.vm_state.specs.Places.{known_local}
 use Rattle.std.proofs.Common.{nat_lt, not}
 use Rattle.vm_base.specs.declared.code.Code.TheVariants as code
@@ -18,9 +22,8 @@ use Rattle.vm_model.specs.Named.{named}
 use Rattle.vm_state.proofs.Declared.{kind_new, kinds_put, kinds_region}
 use Rattle.vm_state.specs.Stands.{HasKinds}
 use Rattle.vm_kernel.proofs.Tasks.{Keeps, entries_changed, inside_kept, tasks_entered}
-use Rattle.vm_kernel.proofs.Uses.{unfilled, uses_entered, ApartFrom, holds_rows}
-use Rattle.vm_abroad.proofs.Home.{named_objects, named_regions, objects_stay, region_made}
-use Rattle.vm_abroad.specs.Home.{home_at}
+use Rattle.vm_abroad.proofs.Home.{home_plain, named_objects, named_regions, objects_stay, region_made}
+use Rattle.vm_abroad.specs.Home.{copying_host, home_at}
 use Rattle.vm_base.specs.Limits.{most_objects}
 use Rattle.vm_state.proofs.Bare.{next_bare}
 use Rattle.vm_state.proofs.Files.{files_entered, files_temporary, no_file}
@@ -90,7 +93,7 @@ may_range header h task address bytes past k ids events s =
       regions = grind (arith, nat_tests);
       objects = grind (arith, nat_tests);
       marks = grind (arith, nat_tests);
-      idle = idle_of (entry k.waits.rows task.0) (waiting task.0 past) (s.rests.waits.is task.0 (ap is_some lives)) idle.0;
+      idle = idle_of k.maps.size (entry k.waits.rows task.0) (waiting task.0 past) (s.rests.waits.is task.0 (ap is_some lives)) idle.0;
     }
   where
     all_false : (a b c : Bool) → (a || (b || c)) ≡ false → (a ≡ false) × (b ≡ false) × (c ≡ false)
@@ -159,9 +162,14 @@ entries_range size maps new chains chains2 task n address bytes object has none 
     made : region_at chains2 n ≡ Some (new_region object (bytes / size))
     made = elim (region_cases n (Some (new_region object (bytes / size))) chains chains2 put n) [ inl same ↦ same.1 | inr apart ↦ absurd (apart.0 refl) ]
 
-used_range : (chains chains2 : ChainTable) (n : ℕ) (object : ObjectId) (pages : ℕ) → AllUsed chains → PutsRegion n (Some (new_region object pages)) chains chains2 → AllUsed chains2
-used_range chains chains2 n object pages used put r row found = elim (region_cases n (Some (new_region object pages)) chains chains2 put r) [
-  | inl same ↦ let count : 1 ≡ row.entries = ap (λ z. z.entries) (some_is (new_region object pages) row (sym same.1 ∙ found)) in omega arith
+-- no slow copy has just begun
+target_lined : (past : List Event) (task : ℕ) → IsLined past → (region : RegionId) (object : ObjectId) (pages : ℕ) → copy_target task (event.RegionMade region object pages ∷ past) ≡ copy_target task past
+target_lined past task lined region object pages = subst (λ (z : List Event). copy_target task (event.RegionMade region object pages ∷ z) ≡ copy_target task z) (sym lined.is) refl
+
+used_range : (chains chains2 : ChainTable) (n : ℕ) (object : ObjectId) (pages : ℕ) (list : List Waiting) → ((r : ℕ) (row : RegionRow) → region_at chains r ≡ Some row → (0 < row.entries) ⊎ IsFilledIn list r) → PutsRegion n (Some (new_region object pages)) chains chains2
+    → (r : ℕ) (row : RegionRow) → region_at chains2 r ≡ Some row → (0 < row.entries) ⊎ IsFilledIn list r
+used_range chains chains2 n object pages list used put r row found = elim (region_cases n (Some (new_region object pages)) chains chains2 put r) [
+  | inl same ↦ let count : 1 ≡ row.entries = ap (λ z. z.entries) (some_is (new_region object pages) row (sym same.1 ∙ found)) in inl (omega arith)
   | inr apart ↦ used r row (sym apart.1 ∙ found)
 ]
 
@@ -249,14 +257,14 @@ range_apart header h task address bytes past k ids maps object pages lined rests
 
 range_uses : (header : Header) (h : ℕ) (task : TaskId) (address bytes : ℕ) (past : List Event) (k : Parts) (ids : Ids) (maps : Mapped) (object : ObjectId) (pages : ℕ) → IsLined past → Rests header h k ids past → MayRange header.size k ids task.0 address bytes → task.0 < all_tasks
     → ChangesOnly k.maps maps task.0 (Some (entered (whole_entry address bytes (record { 0 = ids.next_region })) (rows_in task.0 k.maps)))
-    → HasUse header maps (λ r. in_use header h r (got task (whole_entry address bytes (record { 0 = ids.next_region })) ∷ event.RegionMade (record { 0 = ids.next_region }) object pages ∷ past)) (tasks past)
+    → HasUse header maps k.waits.rows (λ r. in_use header h r (got task (whole_entry address bytes (record { 0 = ids.next_region })) ∷ event.RegionMade (record { 0 = ids.next_region }) object pages ∷ past)) (tasks past)
     (λ t r. holds header.size t r (got task (whole_entry address bytes (record { 0 = ids.next_region })) ∷ event.RegionMade (record { 0 = ids.next_region }) object pages ∷ past)) (next_region header past + 1)
 range_uses header h task address bytes past k ids maps object pages lined rests may below changes =
     let m = rests.matches in
     let n = ids.next_region in
     let made : Event = event.RegionMade (record { 0 = n }) object pages in
     uses_entered header k.maps maps (λ r. in_use header h r (made ∷ past)) (tasks past) _ _ task.0 (whole_entry address bytes (record { 0 = n })) (lives_on h task.0 (made ∷ past))
-    (λ r temporary apart. other_use header h n r pages object past apart ∙ m.uses.used r temporary) (λ r file apart some. other_use header h n r pages object past apart ∙ m.uses.files r file some) (λ paged. made_use header h n n pages object past lined refl) m.uses.among changes may.lives below
+    (λ r temporary apart. subst (λ (b : Bool). IsUsed k.maps k.waits.rows r b) (sym (other_use header h n r pages object past apart)) (m.uses.used r temporary)) (λ r file apart some. other_use header h n r pages object past apart ∙ m.uses.files r file some) (λ paged. made_use header h n n pages object past lined refl) m.uses.among changes may.lives below
     (m.tasks.hosts task.0 ∙ ap is_some may.lives)
     (range_apart header h task address bytes past k ids maps object pages lined rests may)
 
@@ -270,8 +278,10 @@ range_enters header h task address bytes past k ids lined rests may =
     let made : Event = event.RegionMade (record { 0 = n }) object pages in
     let sized : (region_of header n (made ∷ past)).pages ≡ pages = ap (λ z. z.pages) (made_test n n ids.next_object pages (region_of header n past) refl) in
     let own = made_use header h n n pages object past lined refl in
+    let waits_made : HasWaits k woken.Nobody (made ∷ past) = rests.waits in
+    let copies_made : HasSlow header k (made ∷ past) = copies_told rests.used.copies (λ t w found. (refl, target_lined past t lined (record { 0 = n }) object pages)) in
     record {
-      idle = rests.waits.is task.0 (ap is_some may.lives) ∙ ap waiting_in may.idle;
+      idle = rests.waits.is task.0 (ap is_some may.lives) ∙ ap (waiting_in k.maps.size) may.idle;
       host = h;
       lives = lives_here m.tasks may.lives;
       whole = may.whole;
@@ -279,7 +289,7 @@ range_enters header h task address bytes past k ids lined rests may =
       made = let number = m.regions.region in omega arith;
       used = λ temporary. own;
       file = λ is. own;
-      unfilled = unfilled header.size n (tasks past) k.maps k.waits.rows (made ∷ past) (record { is = rests.waits.is }) (λ t none. holds_range header task past t n lined object n pages ∙ m.uses.apart t n none (inr (omega (arith, m.regions.region))));
+      unfilled = unfilled header.size n (tasks past) k.maps k.waits.rows (made ∷ past) (fills_here {past = made ∷ past} waits_made copies_made) (free_unfilled n rests.used.copies (region_free header h k ids past rests)) (λ t none. holds_range header task past t n lined object n pages ∙ m.uses.apart t n none (inr (omega (arith, m.regions.region))));
     }
 
 range_licensed : (header : Header) (h : ℕ) (outside : Outside) (task : TaskId) (address bytes : ℕ) (past : List Event) (k : Parts) (ids : Ids) → IsLined past → Rests header h k ids past → MayRange header.size k ids task.0 address bytes
@@ -290,7 +300,7 @@ range_licensed header h outside task address bytes past k ids lined rests may =
     let made : Event = event.RegionMade (record { 0 = n }) (record { 0 = ids.next_object }) (bytes / header.size) in
     let numbers : (n ≡ next_region header past) × (ids.next_object ≡ next_object header past) = (m.regions.region, m.regions.object) in (
       licensed header outside (command.Allocate task address bytes) (got task (whole_entry address bytes (record { 0 = n }))) (made ∷ past) refl (range_enters header h task address bytes past k ids lined rests may),
-      (licensed header outside (command.Allocate task address bytes) made past m.settled.returned numbers, tt),
+      (licensed header outside (command.Allocate task address bytes) made past m.settled.none_owed numbers, tt),
     )
 
 -- the range's two events are the host's, and its region has its home
@@ -315,24 +325,29 @@ range_homeless header h outside task address bytes past k ids lined rests may =
     homes_next header outside (got task (whole_entry address bytes (record { 0 = ids.next_region }))) (made ∷ past) (command.Allocate task address bytes, range_enters header h task address bytes past k ids lined rests may)
     (homes_next header outside made past (range_made header h outside task address bytes past k ids rests) rests.matches.homeless)
 
+-- behind a line no slow copy fills it
+range_homes : (past : List Event) → IsLined past → (r : ℕ) (region : RegionId) (object : ObjectId) (pages : ℕ) → home_of r (event.RegionMade region object pages ∷ past) ≡ home_of r past
+range_homes past lined r region object pages = home_plain r region object pages past (ap copying_host lined.is)
+
 -- the new region is on the host, and so is its object
-range_home : (header : Header) (h : ℕ) (task : TaskId) (address bytes : ℕ) (past : List Event) (k : Parts) (ids : Ids) → Rests header h k ids past → MayRange header.size k ids task.0 address bytes
+range_home : (header : Header) (h : ℕ) (task : TaskId) (address bytes : ℕ) (past : List Event) (k : Parts) (ids : Ids) → IsLined past → Rests header h k ids past → MayRange header.size k ids task.0 address bytes
     → home_of ids.next_region (ranged task ids address bytes (bytes / header.size) ++ past) ≡ Some h
-range_home header h task address bytes past k ids rests may =
+range_home header h task address bytes past k ids lined rests may =
     let m = rests.matches in
     let made : Event = event.RegionMade (record { 0 = ids.next_region }) (record { 0 = ids.next_object }) (bytes / header.size) in
     let row = whole_entry address bytes (record { 0 = ids.next_region }) in
-    home_entered h task row.address row.bytes row.region row.offset row.prot row.inherit (made ∷ past) (m.homeless.regions ids.next_region (omega (arith, m.regions.region))) (lives_here m.tasks may.lives)
+    home_entered h task row.address row.bytes row.region row.offset row.prot row.inherit (made ∷ past)
+    (range_homes past lined ids.next_region (record { 0 = ids.next_region }) (record { 0 = ids.next_object }) (bytes / header.size) ∙ m.homeless.regions ids.next_region (omega (arith, m.regions.region))) (lives_here m.tasks may.lives)
 
-range_object_home : (header : Header) (h : ℕ) (task : TaskId) (address bytes : ℕ) (past : List Event) (k : Parts) (ids : Ids) → Rests header h k ids past → MayRange header.size k ids task.0 address bytes
+range_object_home : (header : Header) (h : ℕ) (task : TaskId) (address bytes : ℕ) (past : List Event) (k : Parts) (ids : Ids) → IsLined past → Rests header h k ids past → MayRange header.size k ids task.0 address bytes
     → object_home ids.next_object (ranged task ids address bytes (bytes / header.size) ++ past) ≡ Some h
-range_object_home header h task address bytes past k ids rests may =
+range_object_home header h task address bytes past k ids lined rests may =
     let m = rests.matches in
     let region : RegionId = record { 0 = ids.next_region } in
     let object : ObjectId = record { 0 = ids.next_object } in
     let none = m.homeless.objects ids.next_object (omega (arith, m.regions.object)) in
     ap (λ z. home_at z (ranged task ids address bytes (bytes / header.size) ++ past)) (region_made region object (bytes / header.size) past none)
-    ∙ range_home header h task address bytes past k ids rests may
+    ∙ range_home header h task address bytes past k ids lined rests may
 
 -- the regions and objects behind the two
 range_regions : (header : Header) (h : ℕ) (task : TaskId) (address bytes : ℕ) (past : List Event) (k k2 : Parts) (ids : Ids) → Rests header h k ids past → MayRange header.size k ids task.0 address bytes
@@ -400,18 +415,25 @@ rests_range header h outside task address bytes past k k2 ids maps lined rests m
             uses = range_uses header h task address bytes past k ids maps object (bytes / header.size) lined rests may (rw most_is below) changes;
             controls = controls_made k.memory.objects k2.memory.objects (λ o. last_control h o past) (λ o. live_control h o past) (λ o. is_ready h o past) ids.next_object pages m.controls unknown made.object_row
                 (λ o is. objects_stay o h (ranged task ids address bytes pages) past is)
-                (range_object_home header h task address bytes past k ids rests may);
+                (range_object_home header h task address bytes past k ids lined rests may);
             homeless = range_homeless header h outside task address bytes past k ids lined rests may;
             files =
                 files_entered header h task row k2.memory.objects (event.RegionMade (record { 0 = n }) object pages ∷ past) (λ file. absurd (no_file header n (first_temporary header h past k ids rests).region file))
-                (files_temporary header h ids.next_object (Some (new_object pages)) k.memory.objects k2.memory.objects (λ o. home_of o past) (first_temporary header h past k ids rests).object made.object_row m.files);
-            homes = homes_range header h k.chains k2.chains n (new_region object pages) (λ r. home_of r past) (λ r. home_of r (ranged task ids address bytes pages ++ past)) m.homes (λ r is. homes_stay r h (ranged task ids address bytes pages) past is) (range_home header h task address bytes past k ids rests may) made.region_row;
-            settled = record { returned = refl; shut = λ region. refl };
+                (λ o file. ap (is_on h) (range_homes past lined o (record { 0 = n }) object pages)
+                ∙ files_temporary header h ids.next_object (Some (new_object pages)) k.memory.objects k2.memory.objects (λ z. home_of z past) (first_temporary header h past k ids rests).object made.object_row m.files o file);
+            homes = homes_range header h k.chains k2.chains n (new_region object pages) (λ r. home_of r past) (λ r. home_of r (ranged task ids address bytes pages ++ past)) m.homes (λ r is. homes_stay r h (ranged task ids address bytes pages) past is) (range_home header h task address bytes past k ids lined rests may) made.region_row;
+            settled = record { none_owed = refl; shut = λ region. refl };
             replied = replied_behind tt (replied_behind tt m.replied);
             laundry = m.laundry;
             frames = m.frames;
           };
-      used = used_range k.chains k2.chains n object pages rests.used made.region_row;
+      used = record {
+        regions = used_range k.chains k2.chains n object pages k.waits.rows rests.used.regions made.region_row;
+        copies = copies_told
+            (copies_kept k.maps maps k.chains k2.chains k.memory.resident k.memory.resident rests.used.copies (same_waiting k.maps maps task.0 _ k.waits.rows changes may.idle)
+            (put_filled n (new_region object pages) k.chains k2.chains none made.region_row (unknown_unfilled k.chains k.memory.objects ids.next_object m.regions.tops unknown)) (rows_unmade k.chains k.memory.resident))
+            (λ t w found. (refl, target_lined past t lined (record { 0 = n }) object pages));
+      };
       referred = referred_put ids.next_object (new_object pages) n (Some (new_region object pages)) k.chains k2.chains k.memory.objects k2.memory.objects k.memory.resident made.region_row made.object_row (omega arith) (λ is. absurd (let bad : false ≡ true = sym (ap is_live_in unknown) ∙ is in cc)) rests.referred;
       waits =
           waits_known maps k2.chains k.memory.resident k.memory.objects k2.memory.objects k.waits.rows _ (λ t. waiting t past)

@@ -1,5 +1,6 @@
 -- One page of a host is reclaimed, and a pageout does that over and over.
-use Rattle.vm_kernel.proofs.Common.{AllLive, AllSkipped, ArePlain, Begins, Bool, Channel, Command, Created, Creates, EachGone, Elsewhere, Event, Fit, FrameNo, FrameTable, FreesOrReturns, GivesBack, HasControls, HasFrames, HasLaundry, HasOrder, HasPages, HasRegions, HasTasks, HasUse, HasWaits, HaveHomes, Header, HostId, HostIsFull, Ids, IfSome, IsExhausted, IsFreed, IsNothing, IsReturned, KeepsPages, LegalEvents, List, LocalEffect, MatchOption, Matches, None, ObjectRow, Option, Outside, PageKey, PageRow, PagerState, PagesOut, Parts, PartsFit, PutsObject, PutsRow, Queues, Reclaim, ReclaimEffects, ResidentTable, Rests, ReturnCause, Returns, ReturnsOn, Some, Starves, Up, [], absent_at, ap, arith, away, backing_of, claimed, controlled, departures, entries_of, false, fit_touched, frame_count, frames_held, frames_wired, free, has_pager, holds, home_of, host_id, host_of, if_true, if◌then◌else◌, in_use, inl, inr, is_claimed, is_queued, is_ready, is_skipped, is_woken, last_control, last_in, length, live_control, live_in, local, local_after, local_of_row, looked, mark_there, named, next_object, next_region, not, owner_of, page_in, page_key, place_of, queues_after_search, refl, region_of, returns_out, reverse, row_at, row_cases, row_with_control, sends, slice_get, some_is, subst, sym, told_from, true, ℕ, ◌&&◌, ◌++◌, ◌+◌, ◌-◌, ◌<◌, ◌==◌, ◌||◌, ◌∙◌, ◌∷◌, ◌≡◌, ◌⊎◌}
+use Rattle.vm_kernel.proofs.Common.{AllLive, AllSkipped, ArePlain, Begins, Bool, Command, Created, Creates, EachGone, Elsewhere, Event, Fit, FrameNo, FrameTable, FreesOrReturns, GivesBack, HasControls, HasFrames, HasLaundry, HasOrder, HasPages, HasRegions, HasTasks, HasUse, HasWaits, HaveHomes, Header, HostId, HostIsFull, Ids, IfSome, IsExhausted, IsFreed, IsNothing, IsReturned, KeepsPages, LegalEvents, List, LocalEffect, Matches, None, ObjectRow, Option, Outside, PageKey, PageRow, PagerState, PagesOut, Parts, PartsFit, PutsObject, PutsRow, Queues, Reclaim, ReclaimEffects, ResidentTable, Rests, ReturnCause, Returns, Some, Starves, Up, UsesAll, [], absent_at, ap, arith, away, backing_of, claimed, controlled, departures, entries_of, false, fit_touched, frame_count, frames_held, frames_wired, free, has_pager, holds, home_of, host_id, host_of, if_true, if◌then◌else◌, in_use, inl, inr, is_claimed, is_queued, is_ready, is_skipped, is_woken, last_control, last_in, length, live_control, live_in, local, local_after, local_of_row, looked, mark_there, named, next_object, next_region, not, owner_of, page_in, page_key, place_of, queues_after_search, refl, region_of, returns_out, reverse, row_at, row_cases, row_with_control, sends, slice_get, some_is, subst, sym, told_from, true, ℕ, ◌&&◌, ◌++◌, ◌+◌, ◌-◌, ◌<◌, ◌==◌, ◌||◌, ◌∙◌, ◌∷◌, ◌≡◌, ◌⊎◌}
+use Rattle.vm_state.proofs.Filling.{away_put, used_away}
 use Rattle.vm_legal.specs.Licences.{Drops, Reclaimed as ForFrames}
 use Rattle.vm_legal.specs.Living.{tasks as made_tasks}
 use Rattle.vm_legal.specs.Reclaims.{Reclaims as May}
@@ -15,6 +16,7 @@ use Rattle.vm_kernel.proofs.Brings.{plain_changed}
 use Rattle.vm_kernel.proofs.Pages.{frames_changed, itself, laundry_changed, pages_moved}
 use Rattle.vm_abroad.proofs.Home.{object_stays}
 use Rattle.vm_kernel.proofs.Known.{known_on, other_if, other_nested, pages_known}
+use Rattle.vm_legal.proofs.Owing.{behind_none}
 use Rattle.vm_kernel.proofs.Returning.{controls_begun, controls_same, controls_told, counts_controlled, first_of_object, kind_controlled, kinds_controlled, pages_created, ready_controlled, told_controlled, unasked, untold_temporary}
 use Rattle.vm_abroad.specs.Home.{object_home}
 use Rattle.vm_legal.specs.Prompt.{IsSource}
@@ -23,7 +25,7 @@ use Rattle.vm_parts.proofs.Rows.{stood}
 use Rattle.vm_state.specs.Places.{known_local}
 use Rattle.vm_state.specs.Stands.{HasHomes, IsOfKind, KnowsFiles}
 use Rattle.vm_state.proofs.Files.{files_put}
-use Rattle.vm_kernel.specs.Serving.{FreesBut, IsToCopy}
+use Rattle.vm_kernel.specs.Serving.{FreesBut, IsToCopy, SkipLocked}
 use Rattle.vm_state.proofs.Changing.{regions_controlled}
 use Rattle.vm_state.proofs.Referred.{referred_controlled, referred_gone}
 use Rattle.vm_state.proofs.Told.{waiters_lost}
@@ -34,7 +36,6 @@ use Rattle.vm_kernel.proofs.After.{controls_stay, regions_behind}
 use Rattle.vm_kernel.proofs.Replied.{replied_behind}
 use Rattle.vm_kernel.proofs.Sparing.{waits_unlocked}
 use Rattle.vm_kernel.specs.Matches.{IsReplied}
-use Rattle.vm_kernel.specs.Serving.{SkipLocked}
 use Rattle.vm_legal.specs.Accesses.{WaitsUnlocked}
 
 -- all but what a reclaim changes is as it was, and what it changes fits
@@ -109,7 +110,7 @@ took_nothing header h outside doing past ids skip k k2 before after rests beside
                   regions = rw (beside.chains, is.objects) m.regions;
                   entries = rw (beside.chains, beside.maps) m.entries;
                   pages = rw (is.objects, is.frames, is.resident) m.pages;
-                  uses = rw beside.maps m.uses;
+                  uses = rw (beside.maps, beside.waits) m.uses;
                   controls = rw is.objects m.controls;
                   homeless = m.homeless;
                   homes = rw beside.chains m.homes;
@@ -119,7 +120,7 @@ took_nothing header h outside doing past ids skip k k2 before after rests beside
                   laundry = rw (is.frames, is.resident, is.laundry) m.laundry;
                   frames = rw is.frames m.frames;
                 };
-            used = rw beside.chains rests.used;
+            used = rw (beside.chains, beside.maps, beside.waits, is.resident) rests.used;
             referred = rw (beside.chains, is.objects, is.resident) rests.referred;
             waits = rw (beside.chains, beside.maps, beside.waits, is.objects, is.resident) rests.waits;
             order = rw beside.waits rests.order;
@@ -181,17 +182,17 @@ took_freed header h outside doing past ids skip k k2 before after rests beside l
                       (known_on header header.size key Leaves (λ o p. local header.size h (place_of o p) moment) tt
                       (pages_moved header.size Leaves key row.frame _ _ _ _ _ (looked k.memory) k2.memory k.memory.objects (λ o p. known_local header o p (local header.size h (place_of o p) moment)) fit m.pages page
                       (ap (λ z. record away { asked = not z; absent = absent_at k.memory.objects o p }) here) (λ o p apart. refl)));
-                  uses = rw beside.maps m.uses;
+                  uses = rw (beside.maps, beside.waits) m.uses;
                   controls = rw freed.objects (controls_stay (λ o is. object_stays o h e moment is) m.controls);
                   homeless = record { regions = m.homeless.regions; objects = m.homeless.objects; stay = m.homeless.stay; files = m.homeless.files; whole = m.homeless.whole; bare = m.homeless.bare; fills = m.homeless.fills };
                   homes = rw beside.chains m.homes;
                   files = rw freed.objects m.files;
-                  settled = record { returned = refl; shut = λ region. refl };
+                  settled = record { none_owed = refl; shut = λ region. refl };
                   replied = replied_behind tt m.replied;
                   laundry = rw freed.laundry (laundry_changed key row.frame _ _ _ _ _ (looked k.memory) k2.memory k.laundry (returns_out h moment) m.laundry page);
                   frames = frames;
                 };
-            used = rw beside.chains rests.used;
+            used = rw (beside.chains, beside.maps, beside.waits) (used_away k.memory.resident k2.memory.resident rests.used (away_put o p None row k.memory.resident k2.memory.resident page.found page.row));
             referred = rw (beside.chains, freed.objects) (referred_gone o p k.chains k.memory.objects k.memory.resident k2.memory.resident page.row rests.referred);
             waits = rw (beside.chains, beside.maps, beside.waits, freed.objects) (waiters_lost k.maps k.chains k.memory.resident k2.memory.resident k.memory.objects k.memory.objects k.waits.rows (is_woken woken.Nobody) _ o p row rests.waits page.found here none page.row (λ object told. told) (λ object is. is));
             order = rw beside.waits rests.order;
@@ -226,7 +227,7 @@ record Before (header : Header) (h : ℕ) (k : Parts) (ids : Ids) (past : List E
   tasks : HasTasks h header.size k.maps (λ task. host_of task past) (λ task. entries_of header.size task past)
   regions : HasRegions k.chains k.memory.objects ids (λ r. region_of header r past) (λ o. backing_of header o past) (next_region header past) (next_object header past) (marked_regions header past)
   pages : HasPages k.memory.frames k.memory.resident k.memory.objects (λ o p. known_local header o p (local header.size h (place_of o p) past))
-  uses : HasUse header k.maps (λ r. in_use header h r past) (made_tasks past) (λ t r. holds header.size t r past) (next_region header past)
+  uses : HasUse header k.maps k.waits.rows (λ r. in_use header h r past) (made_tasks past) (λ t r. holds header.size t r past) (next_region header past)
   homeless : HaveHomes header past
   homes : HasHomes header h k.chains (λ r. home_of r past)
   files : KnowsFiles header h k.memory.objects (λ o. home_of o past)
@@ -235,6 +236,7 @@ record Before (header : Header) (h : ℕ) (k : Parts) (ids : Ids) (past : List E
   replied : IsReplied past
   waits : HasWaits k woken.Nobody past
   order : HasOrder k past
+  used : UsesAll header k past
 
 -- the return of a page
 abbrev returning : ℕ → PageKey → ℕ → Bool → List ℕ → Event
@@ -287,17 +289,17 @@ returned_rests header h ids skip k k2 before after moment past control rests bes
             regions = rw beside.chains (regions_behind header e moment k.chains k2.memory.objects ids (λ r. refl) regions);
             entries = rw (beside.chains, beside.maps) m.entries;
             pages = rw (own_host h) pages;
-            uses = rw beside.maps b.uses;
+            uses = rw (beside.maps, beside.waits) b.uses;
             controls = controls_stay (λ o is. object_stays o h e moment is) controls;
             homeless = record { regions = b.homeless.regions; objects = b.homeless.objects; stay = b.homeless.stay; files = b.homeless.files; whole = b.homeless.whole; bare = b.homeless.bare; fills = b.homeless.fills };
             homes = rw beside.chains b.homes;
             files = files_put header h o is.object (controlled is.object) k.memory.objects k2.memory.objects (λ r. home_of r moment) is.known is.objects b.files;
-            settled = record { returned = refl; shut = λ region. refl };
+            settled = record { none_owed = refl; shut = λ region. refl };
             replied = replied_behind tt b.replied;
             laundry = rw (own_host h) (laundry_returned key row _ _ (looked k.memory) k2.memory k.laundry k2.laundry (returns_out h moment) b.laundry page is.held is.room);
             frames = frames_changed (slice_get (reverse header.frames.items) h) key row.frame _ _ _ _ _ (looked k.memory) k2.memory (frames_held header.size h moment) (frames_held header.size h moment) (frames_wired h moment) b.frames page (λ held. let same = page.claims in omega arith);
           };
-      used = rw beside.chains rests.used;
+      used = rw (beside.chains, beside.maps, beside.waits) (used_away k.memory.resident k2.memory.resident b.used (away_put o p None row k.memory.resident k2.memory.resident page.found page.row));
       referred =
           rw beside.chains
           (referred_gone o p k.chains k2.memory.objects k.memory.resident k2.memory.resident page.row
@@ -350,7 +352,7 @@ took_told header h outside doing past ids skip k k2 before after rests beside lo
     let lives : live_control h o moment ≡ Some is.object.control = m.controls.live o ∙ (ap live_in is.known ∙ ap (λ b. if b then Some is.object.control else None) (kind.lives ∙ paged)) in
     let why : ReturnCause header doing h o p false moment = ForFrames refl (may_take header h doing o p moment (seen.unlocking ∙ none) may) in
     let follows = back_follows header h outside doing ids k key row is.row.frame.0 is.object.control moment moment m page.found refl seen is.wanted lives why m.frames in
-    let b : Before header h k ids moment = record { tasks = m.tasks; regions = m.regions; pages = m.pages; uses = m.uses; homeless = m.homeless; homes = m.homes; files = m.files; laundry = m.laundry; frames = m.frames; replied = m.replied; waits = rests.waits; order = rests.order } in
+    let b : Before header h k ids moment = record { tasks = m.tasks; regions = m.regions; pages = m.pages; uses = m.uses; homeless = m.homeless; homes = m.homes; files = m.files; laundry = m.laundry; frames = m.frames; replied = m.replied; waits = rests.waits; order = rests.order; used = rests.used } in
     let controls = controls_same k.memory.objects k2.memory.objects _ _ _ m.controls (controls_told k.memory.objects k2.memory.objects o is.object is.known same is.objects) in
     subst (λ (z : List Event). Took header h outside doing past ids reclaim.Returned skip k k2 before z) (sym log)
     (record {
@@ -411,6 +413,7 @@ took_first header h outside doing past ids skip k k2 before after rests beside l
       replied = replied_behind tt m.replied;
       waits = rests.waits;
       order = rests.order;
+      used = rests.used;
     } in
     subst (λ (z : List Event). Took header h outside doing past ids reclaim.Returned skip k k2 before z) (sym log)
     (record {
@@ -420,7 +423,7 @@ took_first header h outside doing past ids skip k k2 before after rests beside l
             more = e2 ∷ e1 ∷ [];
             is = refl;
             follows = (tt, (tt, tt));
-            licensed = ((follows.cause, refl), ((creates, subst (λ (z : Option Channel). MatchOption z (Unit {0}) (λ channel. ReturnsOn channel e1)) (sym m.settled.returned) tt), tt));
+            licensed = ((follows.cause, refl), ((creates, behind_none e1 h0 m.settled.none_owed), tt));
             own_bytes = (tt, (tt, tt));
             frames = (follows.frames, (suffices header h k.memory.frames moment m.frames, tt));
             inner = (tt, (tt, tt));

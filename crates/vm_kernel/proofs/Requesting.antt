@@ -1,5 +1,7 @@
 -- A lock request is taken: what the kernel stands for, once its rows are as they will be, and those are to be run again that wait for unlocks under it.
-use Rattle.vm_kernel.proofs.Common.{Bool, Elsewhere, Event, Fit, HasPages, HasWaiters, Header, Ids, List, Local, LocalEffect, Mapped, ObjectId, On, Option, PageKey, PageNo, PageRow, Parts, Reason, ResidentTable, Rests, Some, TakesLock, WaitTable, Waiting, Want, absent_at, ap, eqb_tells, false, if◌then◌else◌, inl, inr, is_control, is_woken, live_control, local, local_after, local_of_row, map, not, object_at, owner_of, page_key, place_of, refl, row_at, subst, sym, true, waiting, ℕ, ◌&&◌, ◌<◌, ◌==◌, ◌||◌, ◌∙◌, ◌∷◌, ◌≡◌, ◌⊎◌, ObjectRow}
+use Rattle.vm_kernel.proofs.Common.{Bool, Elsewhere, Event, Fit, HasPages, HasWaiters, Header, Ids, List, Local, LocalEffect, Mapped, ObjectId, ObjectRow, On, Option, PageKey, PageNo, PageRow, Parts, Reason, ResidentTable, Rests, Some, TakesLock, WaitTable, Waiting, Want, absent_at, ap, entry, eqb_tells, false, if◌then◌else◌, inl, inr, is_control, is_woken, live_control, local, local_after, local_of_row, map, not, object_at, owner_of, page_key, place_of, refl, row_at, subst, sym, true, waiting, ℕ, ◌&&◌, ◌<◌, ◌==◌, ◌||◌, ◌∙◌, ◌∷◌, ◌≡◌, ◌⊎◌}
+use Rattle.vm_state.proofs.Filling.{KeepsAway, away_back, fills_waked, used_away, used_waked, uses_refilled}
+use Rattle.vm_waits.specs.Waits.{Waked}
 use Rattle.std.specs.Prelude.{nat_le, nat_lt, option_map, ◌+◌}
 use Rattle.vm_kernel.proofs.After.{Leaves, controls_after, homeless_after, regions_after}
 use Rattle.vm_kernel.proofs.Answers.{on_page}
@@ -18,7 +20,6 @@ use Rattle.vm_state.specs.References.{MayLock, is_live_in}
 use Rattle.vm_state.specs.Waiters.{is_awaited}
 use Rattle.vm_supply.specs.declared.woken.Woken.TheVariants as woken
 use Rattle.vm_waits.proofs.Tables.{waked}
-use Rattle.vm_waits.specs.Waits.{Waked}
 use Rattle.vm_waits.specs.Waits as waits
 use Rattle.vm_waits.specs.declared.waiting.On.TheVariants as on
 
@@ -55,12 +56,13 @@ mid_rows header h k ids rs2 past m same =
       settled = m.settled;
       laundry = record { count = m.laundry.count; room = m.laundry.room; washed = λ i d less. let its = m.laundry.washed i d less in record { claimed = its.claimed; unowned = same.owners _ ∙ its.unowned }; apart = m.laundry.apart };
       frames = m.frames;
-      used = m.used;
+      used = used_away k.memory.resident rs2 m.used (λ o p none. same.rows o p ∙ none);
       referred = record { live = m.referred.live; pages = λ o p row found. m.referred.pages o p row (was o p row found); locks = λ o p row found. m.referred.locks o p row (was o p row found); shadows = m.referred.shadows };
       waits = record {
         is = m.waits.is;
         allowed = m.waits.allowed;
         sized = m.waits.sized;
+        numbers = m.waits.numbers;
         reasons = λ t w found asleep. reason t w.want w.on (m.waits.reasons t w found asleep);
         aims = m.waits.aims;
         askers = λ o p row found. m.waits.askers o p row (was o p row found);
@@ -142,6 +144,7 @@ waits_taken maps k object page count lock flush rows2 past has woke =
       is = has.is;
       allowed = has.allowed;
       sized = has.sized;
+      numbers = has.numbers;
       reasons = λ t w found asleep. reason t w.want w.on asleep (has.reasons t w found refl);
       aims = has.aims;
       askers = λ o p row found awaits. let was = row_back (pended a) rs o p row found in has.askers o p was.0 was.1 (awaited_was o p row was.0 was.2 awaits);
@@ -299,10 +302,10 @@ mid_taken header h k ids past object control page count returns lock flush reply
       entries = m.entries;
       shared = m.shared;
       pages = pages_taken header h k object control page count returns lock flush reply past m.pages lives few;
-      uses = m.uses;
+      uses = uses_refilled k.waits.rows waits2.rows (fills_waked (is_unlocked k.memory.resident object.0 page.0 count) k.waits.rows waits2.rows waked_rows) m.uses;
       controls = controls_after leaves m.controls;
       homeless = homeless_after leaves m.homeless;
-      settled = record { returned = refl; shut = λ region. refl };
+      settled = record { none_owed = refl; shut = λ region. refl };
       laundry = record {
         count = m.laundry.count;
         room = m.laundry.room;
@@ -310,7 +313,7 @@ mid_taken header h k ids past object control page count returns lock flush reply
         apart = m.laundry.apart;
       };
       frames = m.frames;
-      used = rests.used;
+      used = used_waked (is_unlocked k.memory.resident object.0 page.0 count) k.waits.rows waits2.rows (used_away k.memory.resident (retabled (pended a) k.memory.resident) rests.used away_back_pended) waked_rows;
       referred = record {
         live = rests.referred.live;
         pages = λ o p row there. let was = row_back (pended a) k.memory.resident o p row there in rests.referred.pages o p was.0 was.1;
@@ -323,6 +326,12 @@ mid_taken header h k ids past object control page count returns lock flush reply
   where
     its : Ahead
     its = ahead_of object page count flush lock page.0
+
+    away_back_pended : KeepsAway k.memory.resident (retabled (pended its) k.memory.resident)
+    away_back_pended = away_back k.memory.resident (retabled (pended its) k.memory.resident) (λ o p row there. let was = row_back (pended its) k.memory.resident o p row there in (was.0, was.1))
+
+    waked_rows : (t : ℕ) → Waked (is_unlocked k.memory.resident object.0 page.0 count) (entry k.waits.rows t) (entry waits2.rows t)
+    waked_rows t = subst (λ (z : List Waiting). Waked (is_unlocked k.memory.resident object.0 page.0 count) (entry k.waits.rows t) (entry z t)) (sym woke) (waked (is_unlocked k.memory.resident object.0 page.0 count) k.waits.rows t)
 
     plain : (o p : ℕ) (row : PageRow) → ((was : PageRow) × (row_at k.memory.resident o p ≡ Some was) × (row ≡ pended its o p was)) → row.here ≡ false → IsPlainRow row
     plain o p row was away_now =

@@ -1,5 +1,5 @@
 -- A task's entries are cut, changed or taken away, and regions count what is left.
-use Rattle.vm_kernel.proofs.Common.{Header, AllEntriesInside, AllReferred, AllRows, AllUsed, Backing, Bool, ChainTable, ChangesOnly, Entry, HasEntries, HasHomes, HasRegions, HasTasks, Ids, Inside, IsInside, List, Mapped, None, ObjectTable, Option, Region, ResidentTable, Some, [], all_tasks, ap, arith, count_on, cut, entries_in, entries_in_row, eqb_tells, false, flat_map, has_entry, has_region, if◌then◌else◌, inl, inr, is_on, is_some, length, max, min, most_entries, nat_lt, nat_tests, part, parts_in, refl, region_entries, removed, rewritten, rows_in, rows_map, subst, suc, sym, true, unwrap_or, zero, ℕ, ◌++◌, ◌+◌, ◌<◌, ◌==◌, ◌^◌, ◌∙◌, ◌∷◌, ◌≡◌, ◌≢◌, ◌≤◌}
+use Rattle.vm_kernel.proofs.Common.{AllEntriesInside, AllReferred, AllRows, Backing, Bool, ChainTable, ChangesOnly, Entry, HasEntries, HasHomes, HasRegions, HasTasks, Header, Ids, Inside, IsFilledIn, IsInside, List, Mapped, None, ObjectTable, Option, Region, RegionRow, ResidentTable, Some, Waiting, [], all_tasks, ap, arith, count_on, cut, entries_in, entries_in_row, eqb_tells, false, flat_map, has_entry, has_region, if◌then◌else◌, inl, inr, is_on, is_some, length, max, min, most_entries, nat_lt, nat_tests, part, parts_in, refl, region_at, region_entries, removed, rewritten, rows_in, rows_map, subst, suc, sym, true, unwrap_or, zero, ℕ, ◌++◌, ◌+◌, ◌<◌, ◌==◌, ◌^◌, ◌∙◌, ◌∷◌, ◌≡◌, ◌≢◌, ◌≤◌, ◌⊎◌}
 use Rattle.vm_kernel.proofs.Counts.{by_changed, on_append, on_zero}
 use Rattle.vm_kernel.proofs.Recounts.{Recounts, has_same, pages_same, recounts_but, row_before}
 use Rattle.vm_state.proofs.Changing.{regions_recounted}
@@ -18,15 +18,17 @@ recount_homes count header h cs cs2 home_from is has r row paged found = let b =
 pub recount_referred : (count : ℕ → ℕ) (cs cs2 : ChainTable) (os : ObjectTable) (rs : ResidentTable) → Recounts count cs cs2 → AllReferred cs os rs → AllReferred cs2 os rs
 recount_referred count cs cs2 os rs is all = referred_recounted cs cs2 os rs (recounts_but count cs cs2 is) all
 
-pub recount_used : (count : ℕ → ℕ) (cs cs2 : ChainTable) → Recounts count cs cs2 → ((r : ℕ) → has_region cs r ≡ true → 0 < region_entries cs r → 0 < count r) → AllUsed cs → AllUsed cs2
-recount_used count cs cs2 is more used r row found =
+pub recount_used : (count : ℕ → ℕ) (cs cs2 : ChainTable) → Recounts count cs cs2 → ((r : ℕ) → has_region cs r ≡ true → 0 < region_entries cs r → 0 < count r) → (list : List Waiting) → ((r : ℕ) (row : RegionRow) → region_at cs r ≡ Some row → (0 < row.entries) ⊎ IsFilledIn list r)
+    → (r : ℕ) (row : RegionRow) → region_at cs2 r ≡ Some row → (0 < row.entries) ⊎ IsFilledIn list r
+recount_used count cs cs2 is more list used r row found =
     let b = row_before count cs cs2 is r row found in
     let there : has_region cs r ≡ true = ap is_some b.found in
-    let had = used r b.was b.found in
     let were = ap entries_in_row b.found in
     let now = ap (λ z. z.entries) b.is in
-    let some = more r there (omega arith) in
-    omega arith
+    elim (used r b.was b.found) [
+      | inl had ↦ let some = more r there (omega arith) in inl (omega arith)
+      | inr filled ↦ inr filled
+    ]
 
 pub recount_inside : (count : ℕ → ℕ) (size : ℕ) (cs cs2 : ChainTable) → Recounts count cs cs2 → (rows : List Entry) → AllEntriesInside size cs rows → AllEntriesInside size cs2 rows
 recount_inside count size cs cs2 is rows all =

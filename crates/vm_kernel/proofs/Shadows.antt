@@ -1,5 +1,7 @@
 -- What a shadow leaves of the kernel, which a store's region gets first where that is marked.
 use Rattle.vm_kernel.proofs.Common.{ChainTable, Event, HasEntries, Header, HostParts, Ids, Inside, IsInside, List, Matches, None, ObjectId, ObjectTable, Parts, PutsObject, Region, RegionRow, SameMarks, Some, Works, [], ap, arith, false, has_region, home_of, if◌then◌else◌, inl, inr, is_some, is_woken, local_of_row, marked_regions, next_object, next_region, object_at, one_case, pages_in, refl, region_at, region_pages, row_at, rows_in, rows_map, some_is, subst, sym, true, waiting, ℕ, ◌+◌, ◌-◌, ◌<◌, ◌==◌, ◌∙◌, ◌∷◌, ◌≡◌, ◌≤◌, ◌⊎◌}
+use Rattle.vm_kernel.proofs.Filled.{shadowed_filled, unknown_unfilled}
+use Rattle.vm_state.proofs.Filling.{copies_kept, rows_unmade}
 use Rattle.vm_abroad.proofs.Home.{home_shadowed, named_objects, object_stays}
 use Rattle.vm_abroad.specs.Home.{first_of, region_for}
 use Rattle.vm_base.specs.Limits.{most_objects}
@@ -78,10 +80,10 @@ entries_kept size k new has keeps =
 
 -- a region gets an object of its own, over its old top
 pub shadowed_with : (header : Header) (h : ℕ) (past : List Event) (k : Parts) (ids : Ids) (region : RegionId) (object : ObjectId) (row : RegionRow) (chains : ChainTable) (objects : ObjectTable) → Works header h k ids woken.Nobody past
-    → region_at k.chains region.0 ≡ Some row → row.marked ≡ true → object.0 ≡ ids.next_object → ShadowsRegion region.0 object row k.chains chains → PutsObject object.0 (Some (new_object row.pages)) k.memory.objects objects
+    → region_at k.chains region.0 ≡ Some row → 0 < row.entries → row.marked ≡ true → object.0 ≡ ids.next_object → ShadowsRegion region.0 object row k.chains chains → PutsObject object.0 (Some (new_object row.pages)) k.memory.objects objects
     → SameMarks k.memory.objects objects → Fit (record k.memory { objects = objects }) → ChainsFit chains objects
     → Works header h (record k { memory = record k.memory { objects = objects }; chains = chains }) (record ids { next_object = ids.next_object + 1; marks = ids.marks - 1 }) woken.Nobody (event.Shadowed region object row.top ∷ past)
-shadowed_with header h past k ids region object row chains objects works there marked next made put same fit fits =
+shadowed_with header h past k ids region object row chains objects works there counted marked next made put same fit fits =
     record {
       matches = record {
         ranged = m.ranged;
@@ -120,12 +122,19 @@ shadowed_with header h past k ids region object row chains objects works there m
               ap (λ b. (over b (region_of header region.0 past) (backing_of header o past)).backed) other ∙ m.homeless.bare o declared;
           fills = m.homeless.fills;
         };
-        settled = record { returned = refl; shut = λ r. refl };
+        settled = record { none_owed = refl; shut = λ r. refl };
         replied = replied_behind tt m.replied;
         laundry = m.laundry;
         frames = m.frames;
       };
-      used = λ r found is. let was = keeps.row r found is in subst (λ (z : ℕ). 0 < z) (sym was.2) (works.used r was.0 was.1);
+      used = record {
+        regions = λ r found is. let was = keeps.row r found is in elim (works.used.regions r was.0 was.1) [
+          | inl some ↦ inl (subst (λ (z : ℕ). 0 < z) (sym was.2) some)
+          | inr filled ↦ inr filled
+        ];
+        copies = copies_kept k.maps k.maps k.chains chains k.memory.resident k.memory.resident works.used.copies (λ t w found. record { size = refl; entries = refl })
+            (shadowed_filled region.0 object row k.chains chains there counted made (unknown_unfilled k.chains k.memory.objects object.0 m.regions.tops unknown)) (rows_unmade k.chains k.memory.resident);
+      };
       referred = referred_shadowed region.0 object row (new_object row.pages) k.chains chains k.memory.objects objects k.memory.resident made put (omega arith) (λ is. absurd (let bad : false ≡ true = sym (ap is_live_in unknown) ∙ is in cc)) works.referred;
       waits = waits_shadowed k.maps k.chains chains k.memory.resident k.memory.objects objects k.waits.rows (is_woken woken.Nobody) (λ u. waiting u past) region.0 object row works.waits there made
           (subst (λ (z : ℕ). ObjectsBelow z k.chains) (sym number) (objects_below m.regions)) (knows_made k.memory.objects objects object.0 (new_object row.pages) unknown put);
@@ -166,16 +175,16 @@ shadowed_with header h past k ids region object row chains objects works there m
     few_now = let few = m.regions.few in omega (arith, one_less, few)
 
 pub works_shadowed : (header : Header) (h : ℕ) (past : List Event) (k : Parts) (ids : Ids) (region : RegionId) (row : RegionRow) (old new : FaultState) → Works header h k ids woken.Nobody past → old.parts ≡ k.memory → old.chains ≡ k.chains → old.ids ≡ ids
-    → region_at k.chains region.0 ≡ Some row → row.marked ≡ true → (made : MakesShadow region row old new)
+    → region_at k.chains region.0 ≡ Some row → 0 < row.entries → row.marked ≡ true → (made : MakesShadow region row old new)
     → Works header h (record k { memory = new.parts; chains = new.chains }) new.ids woken.Nobody (event.Shadowed region made.object row.top ∷ past)
-works_shadowed header h past k ids region row old new works memory chains numbers there marked made =
+works_shadowed header h past k ids region row old new works memory chains numbers there counted marked made =
     let e : Event = event.Shadowed region made.object row.top in
     let objects : ObjectTable = new.parts.objects in
     let parts : new.parts ≡ record k.memory { objects = objects } = made.parts ∙ ap (λ (z : HostParts). record z { objects = objects }) memory in
     let ids_now : new.ids ≡ record ids { next_object = ids.next_object + 1; marks = ids.marks - 1 } = made.ids ∙ ap (λ (z : Ids). record z { next_object = z.next_object + 1; marks = z.marks - 1 }) numbers in
     subst (λ (z : Ids). Works header h (record k { memory = new.parts; chains = new.chains }) z woken.Nobody (e ∷ past)) (sym ids_now)
     (subst (λ (z : HostParts). Works header h (record k { memory = z; chains = new.chains }) (record ids { next_object = ids.next_object + 1; marks = ids.marks - 1 }) woken.Nobody (e ∷ past)) (sym parts)
-    (shadowed_with header h past k ids region made.object row new.chains objects works there marked (made.next ∙ ap (λ (z : Ids). z.next_object) numbers)
+    (shadowed_with header h past k ids region made.object row new.chains objects works there counted marked (made.next ∙ ap (λ (z : Ids). z.next_object) numbers)
     (subst (λ (z : ChainTable). ShadowsRegion region.0 made.object row z new.chains) chains made.chains)
     (subst (λ (z : HostParts). PutsObject made.object.0 (Some (new_object row.pages)) z.objects objects) memory made.objects)
     (subst (λ (z : HostParts). SameMarks z.objects objects) memory made.marks)

@@ -1,5 +1,8 @@
 -- A fork makes a child, and gives it what is shared, and copies of what is copied, one entry after another.
-use Rattle.vm_kernel.proofs.Common.{Access, AllRows, AllUsed, AreEntries, ArePlain, CanShare, ChainTable, ChangesOnly, Command, Enters, Entry, Event, Fit, HasEntries, HasWaiters, HasWholePages, HaveHomes, Header, HostParts, Ids, InOrder, IsInside, IsShared, IsSome, List, Mapped, None, Option, Outside, Parts, PutsEntries, Ran, RegionRow, Rests, Shares, Some, Starts, Target, TaskId, [], all_tasks, ap, arith, code_where, copies, copy_target, count_again, count_by, drop, entered, entering, entries_in, entries_in_row, entries_of, entry, entry_at, eqb_tells, false, got, has_region, head, holds, home_stays, homes_next, host_id, host_of, if◌then◌else◌, in_use, inl, inr, is_copied, is_filled, is_fork_full, is_none, is_range, is_some, is_woken, length, length_entered, lives_on, most_entries, named, nat_tests, next_region, one_case, pages_in, refl, region_at, region_entries, region_of, region_pages, reverse, reverse-append, rows_entered, rows_in, rows_map, slice_get, slice_get_within, some_is, subst, sym, tasks, true, unwrap_or, waiting, ℕ, ◌%◌, ◌*◌, ◌++◌, ◌+◌, ◌/◌, ◌<◌, ◌==◌, ◌^◌, ◌∙◌, ◌∷◌, ◌≡◌, ◌≢◌, ◌≤◌}
+use Rattle.vm_kernel.proofs.Common.{Access, AllRows, AreEntries, ArePlain, CanShare, ChainTable, ChangesOnly, Command, Enters, Entry, Event, Fit, HasEntries, HasWaiters, HasWholePages, HaveHomes, Header, HostParts, Ids, InOrder, IsFilledIn, IsInside, IsShared, IsSome, List, Mapped, None, Option, Outside, Parts, PutsEntries, Ran, RegionRow, Rests, Shares, Some, Starts, Target, TaskId, Waiting, [], all_tasks, ap, arith, code_where, copies, copy_target, count_again, count_by, drop, entered, entering, entries_in, entries_in_row, entries_of, entry, entry_at, eqb_tells, false, got, has_entry, has_region, head, holds, home_stays, homes_next, host_id, host_of, if◌then◌else◌, in_use, inl, inr, is_copied, is_filled, is_fork_full, is_none, is_range, is_some, is_woken, length, length_entered, lives_on, most_entries, named, nat_tests, next_region, one_case, pages_in, refl, region_at, region_entries, region_of, region_pages, reverse, reverse-append, rows_entered, rows_in, rows_known, rows_map, slice_get, slice_get_within, some_is, subst, sym, tasks, true, unwrap_or, waiting, ℕ, ◌%◌, ◌*◌, ◌++◌, ◌+◌, ◌/◌, ◌<◌, ◌==◌, ◌^◌, ◌∙◌, ◌∷◌, ◌≡◌, ◌≢◌, ◌≤◌, ◌⊎◌}
+use Rattle.vm_kernel.proofs.Filled.{counted_unfilled, entry_some, recount_filled, same_waiting}
+use Rattle.vm_kernel.proofs.Uses.{fills_here, holds_rows, paged_file, paged_temporary, unfilled, uses_entered}
+use Rattle.vm_state.proofs.Filling.{copies_kept, rows_unmade}
 use Rattle.std.proofs.Common.{nat_lt}
 use Rattle.vm_abroad.proofs.Elsewhere.{filled_other}
 use Rattle.vm_abroad.proofs.Home.{object_stays}
@@ -35,7 +38,6 @@ use Rattle.vm_kernel.proofs.Regions.{region_row}
 use Rattle.vm_kernel.proofs.Rooms.{HasRoom, room_copied, room_more, room_of, room_other}
 use Rattle.vm_kernel.proofs.Tasks.{Keeps, entries_changed, inside_kept, tasks_entered}
 use Rattle.vm_kernel.proofs.Sharing.{kinds_recounted, shared_entered}
-use Rattle.vm_kernel.proofs.Uses.{holds_rows, paged_file, paged_temporary, unfilled, uses_entered}
 use Rattle.vm_kernel.proofs.After.{controls_stay, regions_behind}
 use Rattle.vm_kernel.proofs.Rewrites.{lives_below}
 use Rattle.vm_kernel.proofs.Replied.{replied_behind}
@@ -44,6 +46,7 @@ use Rattle.vm_kernel.proofs.Replied.{replied_behind}
 
 -- what an entry has that may be shared
 pub record MayShare (header : Header) (task : ℕ) (row : Entry) (past : List Event) (k : Parts) : Type 0 where
+  pub counted : 0 < region_entries k.chains row.region.0
   pub lives : entries_in task k.maps ≡ Some (rows_in task k.maps)
   pub idle : waiting task past ≡ None
   pub free : judged k.maps.size (entering row) (rows_in task k.maps) ≡ None
@@ -83,11 +86,12 @@ keeps_share r n cs cs2 put =
     let recounts = recounts_put r n cs cs2 put in
     record { there = λ q is. has_same _ cs cs2 recounts q ∙ is; pages = λ q is. pages_same _ cs cs2 recounts q }
 
-used_share : (r n : ℕ) (row : RegionRow) (cs cs2 : ChainTable) → region_at cs r ≡ Some row → PutsEntries r (n + 1) cs cs2 → AllUsed cs → AllUsed cs2
-used_share r n row cs cs2 there put used q now found = elim (one_case r q (with_entries (n + 1) (region_at cs r)) (region_at cs q) (region_at cs2 q) (put.at q)) [
+used_share : (r n : ℕ) (row : RegionRow) (cs cs2 : ChainTable) (list : List Waiting) → region_at cs r ≡ Some row → PutsEntries r (n + 1) cs cs2 → ((r : ℕ) (row : RegionRow) → region_at cs r ≡ Some row → (0 < row.entries) ⊎ IsFilledIn list r)
+    → (r : ℕ) (row : RegionRow) → region_at cs2 r ≡ Some row → (0 < row.entries) ⊎ IsFilledIn list r
+used_share r n row cs cs2 list there put used q now found = elim (one_case r q (with_entries (n + 1) (region_at cs r)) (region_at cs q) (region_at cs2 q) (put.at q)) [
   | inl this ↦
       let count = ap (λ z. z.entries) (some_is (record row { entries = n + 1 }) now (sym (this.1 ∙ ap (with_entries (n + 1)) there) ∙ found)) in
-      omega (arith, count)
+      inl (omega (arith, count))
   | inr other ↦ used q now (sym other.1 ∙ found)
 ]
 
@@ -141,7 +145,7 @@ share_enters header h task row past k ids rests may =
       file = λ is. used (paged_file header r is);
       unfilled = elim (kind_cases header r) [
         | inl declared ↦ unfilled_declared header r (tasks past) past declared m.homeless
-        | inr temporary ↦ unfilled header.size r (tasks past) k.maps k.waits.rows past (record { is = rests.waits.is }) (λ t none. m.uses.apart t r none (inl (used (paged_temporary header r temporary))))
+        | inr temporary ↦ unfilled header.size r (tasks past) k.maps k.waits.rows past (fills_here {past = past} rests.waits rests.used.copies) (counted_unfilled r there.0 rests.used.copies there.1 (subst (λ (z : ℕ). 0 < z) (ap entries_in_row there.1) may.counted)) (λ t none. m.uses.apart t r none (inl (used (paged_temporary header r temporary))))
       ];
     }
 
@@ -159,7 +163,7 @@ rests_shared header h outside doing task row past k k2 ids before after rests ma
     let below = lives_below size task.0 k.maps k.chains [] m.entries lives in
     let free = free_of k.maps.size row (rows_in task.0 k.maps) may.free in
     let waits_at = λ (t : ℕ). waiting t past in
-    let none = no_row (entry k.waits.rows task.0) (waiting task.0 past) (rests.waits.is task.0 (ap is_some lives)) may.idle in
+    let none = no_row k.maps.size (entry k.waits.rows task.0) (waiting task.0 past) (rests.waits.is task.0 (ap is_some lives)) may.idle in
     let now_waits : HasWaiters k2.maps k2.chains k.memory.resident k.memory.objects k.waits.rows (is_woken woken.Nobody) waits_at =
     waits_changed k.maps k2.maps k.chains k2.chains k.memory.resident k.memory.objects k.waits.rows (is_woken woken.Nobody) waits_at task.0 (Some (entered row (rows_in task.0 k.maps))) rests.waits s.maps none (keeps_recounted k.chains k2.chains recount)
     (told_changed k.maps k2.maps k.waits.rows waits_at task.0 (rows_in task.0 k.maps) (Some (entered row (rows_in task.0 k.maps))) rests.waits.is s.maps lives) in
@@ -185,23 +189,33 @@ rests_shared header h outside doing task row past k k2 ids before after rests ma
             homes = λ q now paged found. home_stays q h e past (m.homes q (was_row recount q now found).0 paged (was_row recount q now found).1);
             entries = entries_share size k.maps k2.maps k.chains k2.chains task.0 row m.entries may.inside s.counts s.maps below free.room;
             pages = rw s.memory m.pages;
-            uses = uses_entered header k.maps k2.maps (λ q. in_use header h q past) (tasks past) (λ t q. holds header.size t q (e ∷ past)) (next_region header past) task.0 row (lives_on h task.0 past) (λ q temporary apart. m.uses.used q temporary) (λ q file apart some. m.uses.files q file some) (used_there header h k ids past r there.0 rests there.1) m.uses.among s.maps lives below
+            uses = rw s.waits (uses_entered header k.maps k2.maps (λ q. in_use header h q past) (tasks past) (λ t q. holds header.size t q (e ∷ past)) (next_region header past) task.0 row (lives_on h task.0 past) (λ q temporary apart. m.uses.used q temporary) (λ q file apart some. m.uses.files q file some) (used_there header h k ids past r there.0 rests there.1) m.uses.among s.maps lives below
                 (m.tasks.hosts task.0 ∙ ap is_some lives)
-                (λ t q away why. holds_rows header.size task.0 t q k.maps (rows_in task.0 k.maps) _ past lives away ∙ m.uses.apart t q away why);
+                (λ t q away why. holds_rows header.size task.0 t q k.maps (rows_in task.0 k.maps) _ past lives away ∙ m.uses.apart t q away why));
             controls = rw s.memory (controls_stay (λ o at_home. object_stays o h e past at_home) m.controls);
             homeless = homes_next header outside e past (doing, share_enters header h task row past k ids rests may) m.homeless;
-            settled = record { returned = refl; shut = λ region. refl };
+            settled = record { none_owed = refl; shut = λ region. refl };
             replied = replied_behind tt m.replied;
             laundry = rw (s.memory, s.laundry) m.laundry;
             frames = rw s.memory m.frames;
           };
-      used = used_share r (region_entries k.chains r) there.0 k.chains k2.chains there.1 s.counts rests.used;
+      used = rw (s.memory, s.waits) (record {
+        regions = used_share r (region_entries k.chains r) there.0 k.chains k2.chains k.waits.rows there.1 s.counts rests.used.regions;
+        copies = copies_kept k.maps k2.maps k.chains k2.chains k.memory.resident k.memory.resident rests.used.copies (same_waiting k.maps k2.maps task.0 (Some (entered row (rows_in task.0 k.maps))) k.waits.rows s.maps none)
+            (recount_filled _ k.chains k2.chains (recounts_put r (region_entries k.chains r + 1) k.chains k2.chains s.counts) none_counted) (rows_unmade k.chains k.memory.resident);
+      });
       referred = rw s.memory (referred_recounted k.chains k2.chains k.memory.objects k.memory.resident recount rests.referred);
       waits = rw (s.memory, s.waits) now_waits;
       order = rw s.waits rests.order;
       idle = ap (λ z. count_again z.rows) s.waits ∙ rests.idle;
     }
   where
+    none_counted : (q : ℕ) → has_region k.chains q ≡ true → region_entries k.chains q ≡ 0 → (if row.region.0 == q then region_entries k.chains row.region.0 + 1 else region_entries k.chains q) ≡ 0
+    none_counted q there_q none_q = elim (eqb_tells row.region.0 q) [
+      | inl same ↦ let some = may.counted in let that = ap (region_entries k.chains) same.1 in absurd (omega (arith, some, that, none_q))
+      | inr apart ↦ ap (λ b. if b then region_entries k.chains row.region.0 + 1 else region_entries k.chains q) apart.0 ∙ none_q
+    ]
+
     some_of : (n : ℕ) (x : Option RegionRow) (now : RegionRow) → with_entries n x ≡ Some now → (was : RegionRow) × (x ≡ Some was)
     some_of n None now is = absurd (let bad : None ≡ Some now = is in cc)
     some_of n (Some was) now is = (was, refl)
@@ -293,6 +307,7 @@ fork_start header h outside task child past k ids before after maps s changes li
 
 -- the next entry, as far as its place goes
 record IsNext (header : Header) (child : ℕ) (rows : List Entry) (i : ℕ) (row : Entry) (k : Parts) : Type 0 where
+  leads : has_entry row.region.0 rows ≡ true
   inside : IsInside header.size k.chains row
   shared : IsShared (named header) row
   whole : HasWholePages k.maps.size row
@@ -320,6 +335,7 @@ is_next header h outside task child rows i row past k ids events f sound found =
     let few = f.few in
     let fits : nat_lt most_entries (length (rows_in child.0 k.maps) + 1) ≡ false = let le : length (rows_in child.0 k.maps) + 1 ≤ most_entries = omega (arith, count, most, few) in grind (arith, nat_tests) in
     record {
+      leads = (row_among (λ mine. IsInside header.size k.chains mine × (has_entry mine.region.0 rows ≡ true)) rows i row (rows_known (IsInside header.size k.chains) rows (subst (AllRows (IsInside header.size k.chains)) here (f.rests.matches.entries.inside task.0))) found).1;
       inside = inside;
       shared = row_among (IsShared (named header)) rows i row (subst (AllRows (IsShared (named header))) here (f.rests.matches.shared task.0)) found;
       whole = whole;
@@ -333,7 +349,9 @@ pub may_share : (header : Header) (h : ℕ) (outside : Outside) (task child : Ta
     → AreEntries k.maps.size rows → slice_get rows i ≡ Some row → MayShare header child.0 row (events ++ past) k
 may_share header h outside task child rows i row past k ids events f sound found =
     let next = is_next header h outside task child rows i row past k ids events f sound found in
-    record { lives = f.lives; idle = f.idle; free = next.free; pages = next.whole.pages; inside = next.inside; shared = next.shared }
+    let there = region_row k.chains row.region.0 next.inside.region in
+    let some = entry_some header.size row.region.0 task.0 k.maps k.chains [] there.0 f.rests.matches.entries there.1 (ap (has_entry row.region.0) (ap (λ z. unwrap_or z []) f.others) ∙ next.leads) in
+    record { counted = subst (λ (z : ℕ). 0 < z) (sym (ap entries_in_row there.1)) some; lives = f.lives; idle = f.idle; free = next.free; pages = next.whole.pages; inside = next.inside; shared = next.shared }
 
 -- the next entry may be copied
 pub may_copy : (header : Header) (h : ℕ) (outside : Outside) (task child : TaskId) (rows : List Entry) (i : ℕ) (row : Entry) (past : List Event) (k : Parts) (ids : Ids) (events : List Event) → HasForked header h outside task child rows i past k ids events
@@ -362,6 +380,7 @@ may_copy header h outside task child rows i row past k ids events f sound found 
       idle = f.idle;
       free = next.free;
       pages = omega (arith, whole, sized);
+      counted = entry_some header.size row.region.0 task.0 k.maps k.chains [] region.0 m.entries region.1 (ap (has_entry row.region.0) (ap (λ z. unwrap_or z []) f.others) ∙ next.leads);
       region = region.0;
       there = region.1;
       temporary = elim (kind_cases header row.region.0) [ inl declared ↦ absurd (next.shared declared is) | inr least ↦ least ];

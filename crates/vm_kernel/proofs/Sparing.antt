@@ -1,5 +1,5 @@
 -- The pages that are spared where one is reclaimed: the one that the front of the frame queue is to copy, and those for whose unlocks accesses wait.
-use Rattle.vm_kernel.proofs.Common.{Bool, Event, FreesOrReturns, HasWaits, Header, Ids, IfSome, List, Matches, None, Option, PageKey, PageRow, Parts, Reason, Reclaim, Rests, Some, Waiting, Waits, [], access_in, address_in, ap, entries_of, entry, entry_at, eqb_tells, false, if◌then◌else◌, inl, inr, is_some, next_page, owner_of, page_key, paging, refl, row_at, some_is, subst, sym, true, waiting_in, ℕ, ◌++◌, ◌==◌, ◌||◌, ◌∙◌, ◌∷◌, ◌≡◌, ◌⊎◌, append_assoc, append-nil, get_or, length, take, take_more, ◌+◌, ◌<◌}
+use Rattle.vm_kernel.proofs.Common.{Bool, Event, FreesOrReturns, HasWaits, Header, Ids, IfSome, List, Matches, None, Option, PageKey, PageRow, Parts, Reason, Reclaim, Rests, Some, Waiting, Waits, [], access_in, address_in, ap, copies_to, entries_of, entry, entry_at, eqb_tells, false, if◌then◌else◌, inl, inr, is_some, next_page, owner_of, page_key, paging, refl, row_at, some_is, subst, sym, true, waiting_in, ℕ, ◌++◌, ◌==◌, ◌||◌, ◌∙◌, ◌∷◌, ◌≡◌, ◌⊎◌, append_assoc, append-nil, get_or, length, take, take_more, ◌+◌, ◌<◌}
 use Rattle.std.proofs.lemmas.Bool.{or_right}
 use Rattle.vm_base.specs.declared.ids.FrameNo.{FrameNo}
 use Rattle.vm_kernel.proofs.Own.{lives_here, rows_here}
@@ -21,16 +21,16 @@ use Rattle.vm_waits.specs.declared.waiting.On.{On}
 use Rattle.vm_waits.specs.declared.waiting.On.TheVariants as on
 
 -- who waits here, as licences want it
-abbrev pub here_waits : (header : Header) (h : ℕ) (k : Parts) (ids : Ids) (past : List Event) (task : ℕ) (w : Waiting) → Matches header h k ids [] past → HasWaits k woken.Nobody past → entry k.waits.rows task ≡ Some w → Waits header task (access_in w.want) past
+abbrev pub here_waits : (header : Header) (h : ℕ) (k : Parts) (ids : Ids) (past : List Event) (task : ℕ) (w : Waiting) → Matches header h k ids [] past → HasWaits k woken.Nobody past → entry k.waits.rows task ≡ Some w → Waits header task (access_in k.maps.size (copies_to w.destination) w.want) past
 here_waits header h k ids past task w m waits found =
     let allowed = waits.allowed task w found in
     record {
-      waits = waits.is task (ap is_some allowed.lives) ∙ ap waiting_in found;
+      waits = waits.is task (ap is_some allowed.lives) ∙ ap (waiting_in k.maps.size) found;
       at = record {
         host = h;
         entry = allowed.entry;
         lives = lives_here m.tasks allowed.lives;
-        found = ap (λ z. entry_at z (entries_of header.size task past)) (want_address header.size (next_page task past) w.want) ∙ (ap (entry_at (address_in w.want)) (rows_here m.tasks allowed.lives) ∙ allowed.found);
+        found = ap (λ z. entry_at z (entries_of header.size task past)) (want_address k.maps.size header.size (next_page task past) (copies_to w.destination) w.want (waits.numbers task w found)) ∙ (ap (entry_at (address_in k.maps.size w.want)) (rows_here m.tasks allowed.lives) ∙ allowed.found);
       };
     }
 
@@ -50,12 +50,12 @@ waits_for_unlock header h k ids past o p task row w m waits found here there on_
     let shows = shows_row s o p locked.row locked.found locked.here in
     record {
       task = task;
-      access = access_in w.want;
+      access = access_in k.maps.size (copies_to w.destination) w.want;
       waits = here_waits header h k ids past task w m waits there;
       on_host = refl;
-      place = waiting_place m reason.0 (ap is_some (waits.allowed task w there).lives) (here_waits header h k ids past task w m waits there);
+      place = waiting_place m (copies_to w.destination) (waits.numbers task w there) reason.0 (ap is_some (waits.allowed task w there).lives) (here_waits header h k ids past task w m waits there);
       here = shows.here;
-      named = named_at s o p w.want locked;
+      named = named_at s k.maps.size (copies_to w.destination) o p w.want locked;
       unlocking = shows.unlocking ∙ locked.sent;
     }
 

@@ -1,5 +1,5 @@
 -- Who waits for a page has a row that says so, but in the frame queue.
-use Rattle.vm_kernel.proofs.Common.{Access, AllInner, Asked, Awaits, Bool, Command, Down, EndsAll, EndsEach, Event, HasPlace, HasQueue, Header, Ids, IsPagerTold, LegalEvents, List, Local, Message, None, ObjectId, ObjectTable, On, Option, Outside, PageRow, Parts, Reason, Rests, Some, Waiting, Waits, WaitsAt, [], absent_at, access_in, ap, append-nil, before_more, before_step, entry, error_more, error_taken, false, frames_free, host_id, if◌then◌else◌, inl, inr, is_again, is_control, is_frame, is_ready_state, is_some, is_store, live_control, local, local_of_row, none_again, none_queued, object_at, page_key, page_of, place_of, ready_in, refl, row_at, some_is, subst, sym, true, ℕ, ◌&&◌, ◌++◌, ◌∙◌, ◌∷◌, ◌≡◌}
+use Rattle.vm_kernel.proofs.Common.{Access, AllInner, Asked, Awaits, Bool, Command, Down, EndsAll, EndsEach, Event, HasPlace, HasQueue, Header, Ids, IsPagerTold, LegalEvents, List, Local, Message, None, ObjectId, ObjectTable, On, Option, Outside, PageRow, Parts, Reason, Rests, Some, Waiting, Waits, WaitsAt, [], absent_at, access_in, ap, append-nil, before_more, before_step, copies_to, entry, error_more, error_taken, false, frames_free, host_id, if◌then◌else◌, inl, inr, is_again, is_control, is_frame, is_ready_state, is_some, is_store, live_control, local, local_of_row, none_again, none_queued, object_at, page_key, page_of, place_of, ready_in, refl, row_at, some_is, subst, sym, true, ℕ, ◌&&◌, ◌++◌, ◌∙◌, ◌∷◌, ◌≡◌}
 use Rattle.vm_model.specs.declared.event.Event.TheVariants as event
 use Rattle.vm_model.specs.declared.message.Message.TheVariants as message
 use Rattle.vm_waits.specs.declared.waiting.On.TheVariants as on
@@ -20,7 +20,7 @@ AwaitsOnly header h task access past waits object page =
 
 -- so its row says that it waits for that page
 waits_there : (header : Header) (h : ℕ) (k : Parts) (ids : Ids) (past : List Event) (task object page : ℕ) (w : Waiting) (why : On) → Rests header h k ids past → HasQueue header h k past → entry k.waits.rows task ≡ Some w → w.on ≡ why
-    → (waits : Waits header task (access_in w.want) past) → AwaitsOnly header h task (access_in w.want) past waits object page → ready_in (object_at k.memory.objects object) ≡ true
+    → (waits : Waits header task (access_in k.maps.size (copies_to w.destination) w.want) past) → AwaitsOnly header h task (access_in k.maps.size (copies_to w.destination) w.want) past waits object page → ready_in (object_at k.memory.objects object) ≡ true
     → (frames_free header h past ≡ 0 → ⊥) → why ≡ on.Page (page_key object page)
 waits_there header h k ids past task object page w on.Again rests queue found is waits only ready frees =
     absurd (let bad : true ≡ false = sym (ap is_again is) ∙ none_again k.waits.rows task w rests.idle found in cc)
@@ -30,9 +30,9 @@ waits_there header h k ids past task object page w (on.Ready told) rests queue f
     let reason : Reason k.maps k.chains k.memory.resident k.memory.objects task w.want (on.Ready told) =
     subst (λ (z : On). Reason k.maps k.chains k.memory.resident k.memory.objects task w.want z) is (rests.waits.reasons task w found refl) in
     let pager = reason.3 in
-    let awaits : Awaits header h (is_store (access_in w.want)) told.0 reason.0.page.0 past = awaits_ready (shown_at m) told.0 pager.row pager.found pager.sent (is_store (access_in w.want)) reason.0.page.0 in
-    let same = only reason.0.object.0 reason.0.page.0 (waiting_place m reason.1 here waits)
-    (subst (λ (z : ObjectId). Awaits header h (is_store (access_in w.want)) z.0 reason.0.page.0 past) (sym reason.2) awaits) in
+    let awaits : Awaits header h (is_store (access_in k.maps.size (copies_to w.destination) w.want)) told.0 reason.0.page.0 past = awaits_ready (shown_at m) told.0 pager.row pager.found pager.sent (is_store (access_in k.maps.size (copies_to w.destination) w.want)) reason.0.page.0 in
+    let same = only reason.0.object.0 reason.0.page.0 (waiting_place m (copies_to w.destination) (rests.waits.numbers task w found) reason.1 here waits)
+    (subst (λ (z : ObjectId). Awaits header h (is_store (access_in k.maps.size (copies_to w.destination) w.want)) z.0 reason.0.page.0 past) (sym reason.2) awaits) in
     let named : told.0 ≡ object = ap (λ (z : ObjectId). z.0) (sym reason.2) ∙ same.0 in
     absurd (told_unready k.memory.objects object (subst (IsPagerTold k.memory.objects) named pager) ready)
 waits_there header h k ids past task object page w (on.Page key) rests queue found is waits only ready frees =
@@ -40,7 +40,7 @@ waits_there header h k ids past task object page w (on.Page key) rests queue fou
     let here = ap is_some (rests.waits.allowed task w found).lives in
     let reason : Reason k.maps k.chains k.memory.resident k.memory.objects task w.want (on.Page key) =
     subst (λ (z : On). Reason k.maps k.chains k.memory.resident k.memory.objects task w.want z) is (rests.waits.reasons task w found refl) in
-    let same = only key.object.0 key.page.0 (waiting_place m reason.0 here waits) (awaits_word (shown_at m) key.object.0 key.page.0 w.want reason.1) in
+    let same = only key.object.0 key.page.0 (waiting_place m (copies_to w.destination) (rests.waits.numbers task w found) reason.0 here waits) (awaits_word (shown_at m) k.maps.size (copies_to w.destination) key.object.0 key.page.0 w.want reason.1) in
     λ i. on.Page (page_key (same.0 i) (same.1 i))
 waits_there header h k ids past task object page w on.Frame rests (inl none) found is waits only ready frees =
     absurd (let bad : true ≡ false = sym (ap is_frame is) ∙ none_queued k.waits.rows task w none found in cc)

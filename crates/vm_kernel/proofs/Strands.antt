@@ -1,5 +1,6 @@
 -- No entry leads to a region any more: it goes, and its top has one reference less.
-use Rattle.vm_kernel.proofs.Common.{AllEntriesInside, AllRows, AllUsed, Bool, ChainTable, Command, EndsObject, EndsRegion, Entry, Event, HasControls, HasEntries, Header, Ids, IfSome, Inside, IsInStep, IsReferred, IsSome, List, Mapped, Matches, None, ObjectId, ObjectRow, ObjectTable, Option, Outside, Parts, PutsObject, PutsRegion, RegionRow, SameMarks, Some, Sweeps, [], all_tasks, ap, arith, backing_of, count_by, count_on, entries_in_row, eqb_tells, false, fit_objects, has_entry, has_region, home_of, inl, inr, is_some, is_woken, last_in, live_in, local_of_row, marked_regions, nat_lt, nat_tests, next_object, next_region, object_at, one_case, pages_in, ready_in, refl, region_at, region_entries, region_of, row_at, rows_in, same_pages, some_is, subst, sym, true, unwrap_or, waiting, ℕ, ◌++◌, ◌+◌, ◌-◌, ◌<◌, ◌^◌, ◌∙◌, ◌∷◌, ◌≡◌, ◌≢◌, ◌≤◌}
+use Rattle.vm_kernel.proofs.Common.{AllEntriesInside, AllRows, Bool, ChainTable, Command, EndsObject, EndsRegion, Entry, Event, HasControls, HasEntries, Header, Ids, IfSome, Inside, IsInStep, IsReferred, IsSome, List, Mapped, Matches, None, ObjectId, ObjectRow, ObjectTable, Option, Outside, Parts, PutsObject, PutsRegion, RegionRow, SameMarks, Some, Sweeps, UsesAll, [], all_tasks, ap, arith, backing_of, count_by, count_on, entries_in_row, eqb_tells, false, fit_objects, has_entry, has_region, home_of, inl, inr, is_some, is_woken, last_in, live_in, local_of_row, marked_regions, nat_lt, nat_tests, next_object, next_region, object_at, one_case, pages_in, ready_in, refl, region_at, region_entries, region_of, row_at, rows_in, same_pages, some_is, subst, sym, true, unwrap_or, waiting, ℕ, ◌++◌, ◌+◌, ◌-◌, ◌<◌, ◌^◌, ◌∙◌, ◌∷◌, ◌≡◌, ◌≢◌, ◌≤◌}
+use Rattle.vm_kernel.proofs.Filled.{copies_gone}
 use Rattle.vm_supply.specs.declared.woken.Woken.TheVariants as woken
 use Rattle.vm_kernel.proofs.Counts.{by_zero, on_zero}
 use Rattle.vm_kernel.proofs.Regions.{region_row}
@@ -208,8 +209,12 @@ runs_gone header h outside doing past k ids rest r left events object chains obj
     }
 
 used_gone : (header : Header) (h : ℕ) (outside : Outside) (doing : Command) (past : List Event) (k : Parts) (ids : Ids) (rest : List Entry) (r : ℕ) (events : List Event) (chains : ChainTable) → EndsRegion header h outside doing past k ids rest r events
-    → PutsRegion r None k.chains chains → AllUsed chains
-used_gone header h outside doing past k ids rest r events chains e put r2 row found = let before = other_row r k.chains chains put r2 row found in e.others r2 row (λ same. before.0 (sym same)) before.1
+    → PutsRegion r None k.chains chains → UsesAll header (record k { chains = chains }) (events ++ past)
+used_gone header h outside doing past k ids rest r events chains e put =
+    record {
+      regions = λ r2 row found. let before = other_row r k.chains chains put r2 row found in e.others r2 row (λ same. before.0 (sym same)) before.1;
+      copies = copies_gone r k.chains chains k.maps k.memory.resident e.copies put e.unfilled;
+    }
 
 -- something refers to its top still
 pub sweeps_region : (header : Header) (h : ℕ) (outside : Outside) (doing : Command) (past : List Event) (k : Parts) (ids : Ids) (rest : List Entry) (r left : ℕ) (events : List Event) (object : ObjectId) (chains : ChainTable) (objects : ObjectTable)

@@ -1,5 +1,5 @@
 -- An object to which nothing refers: its pages go, its control ends, where one lives, and what stood under it has one reference less.
-use Rattle.vm_kernel.proofs.Common.{AllEntriesInside, AllUsed, Below, Bool, Caused, ChainTable, Changes, Command, Does, Drops, Elsewhere, EndsObject, Entry, Event, Fit, FrameTable, HasControls, HasEntries, HasFrames, HasKinds, HasPages, HasWaiters, HaveHomes, Header, HostParts, Ids, Inside, IsInStep, IsInside, IsOfKind, IsReferred, LaundryList, List, Local, LocalEffect, Mapped, Matches, None, ObjectId, ObjectRow, ObjectTable, Option, Outside, PageKey, PageRow, Parts, PutsAbsent, PutsObject, Reach, Region, RegionRow, ResidentTable, ReturnCause, Returns, SameMarks, SameObjects, Some, Sweeps, Unreached, Up, [], absent_at, all_tasks, ap, arith, away, backing_of, count_by, entries_in, entries_of, eqb_tells, false, fit_objects, frames_held, frames_wired, has_entry, has_region, home_of, host_id, if◌then◌else◌, in_use, inl, inr, is_control, is_ready, is_some, is_woken, last_control, last_in, length, live_control, live_in, local, local_after, local_of_row, marked_regions, named, nat_lt, nat_tests, next_object, next_region, not, object_at, one_case, page_in, pages_in, pages_of_row, paging, place_of, queues_except, ready_in, refl, region_at, region_of, returns_out, reverse, row_at, row_cases, rows_in, rows_map, same_pages, slice_get, some_is, subst, suc, sym, true, waiting, without_control, zero, ℕ, ◌&&◌, ◌++◌, ◌+◌, ◌-◌, ◌<◌, ◌==◌, ◌^◌, ◌||◌, ◌∙◌, ◌∷◌, ◌≡◌, ◌≤◌, ◌⊎◌}
+use Rattle.vm_kernel.proofs.Common.{AllEntriesInside, Below, Bool, Caused, ChainTable, Changes, Command, Does, Drops, Elsewhere, EndsObject, Entry, Event, Fit, FrameTable, HasControls, HasEntries, HasFrames, HasKinds, HasPages, HasSlow, HasWaiters, HaveHomes, Header, HostParts, Ids, Inside, IsInStep, IsInside, IsOfKind, IsReferred, LaundryList, List, Local, LocalEffect, Mapped, Matches, None, ObjectId, ObjectRow, ObjectTable, Option, Outside, PageKey, PageRow, Parts, PutsAbsent, PutsObject, Reach, Region, RegionRow, ResidentTable, ReturnCause, Returns, SameMarks, SameObjects, Some, Sweeps, Unreached, Up, UsesAll, [], absent_at, all_tasks, ap, arith, away, backing_of, entries_in, entries_of, eqb_tells, false, fit_objects, frames_held, frames_wired, has_entry, has_region, home_of, host_id, if◌then◌else◌, in_use, inl, inr, is_control, is_ready, is_some, is_woken, last_control, last_in, length, live_control, live_in, local, local_after, local_of_row, marked_regions, named, nat_tests, next_object, next_region, not, object_at, one_case, page_in, pages_in, pages_of_row, paging, place_of, queues_except, ready_in, refl, region_at, region_of, returns_out, reverse, row_at, row_cases, rows_in, rows_map, same_pages, slice_get, some_is, subst, suc, sym, true, waiting, without_control, zero, ℕ, ◌&&◌, ◌++◌, ◌+◌, ◌-◌, ◌<◌, ◌==◌, ◌^◌, ◌||◌, ◌∙◌, ◌∷◌, ◌≡◌, ◌≤◌, ◌⊎◌}
 use Rattle.std.proofs.lemmas.Bool.{or_parts}
 use Rattle.vm_kernel.specs.Fits.{ArePlain}
 use Rattle.vm_legal.specs.Licences.{DropCause, Ended, IsUnheld}
@@ -37,7 +37,10 @@ use Rattle.vm_state.proofs.Places.{told_apart, unsent_apart, waits_dropped}
 use Rattle.vm_state.proofs.Reaching.{chain_known}
 use Rattle.vm_state.proofs.Referred.{but_dropped, but_gone, but_known, referred_dropped}
 use Rattle.vm_state.proofs.Referring.{unreferred_region, unreferred_shadow}
+use Rattle.vm_state.proofs.Filling.{away_put, copies_kept, filled_there, rows_unmade, used_away}
 use Rattle.vm_state.proofs.Told.{waiters_lost, waits_told}
+use Rattle.vm_state.specs.Filling.{filled_row}
+use Rattle.vm_kernel.proofs.Filled.{dropped_filled}
 use Rattle.vm_state.specs.Places.{known_local}
 use Rattle.vm_state.specs.References.{is_live_in}
 
@@ -51,12 +54,11 @@ entry_there size r cs (row ∷ rows) all has = elim (eqb_tells row.region.0 r) [
 ]
 
 -- a temporary region in use is there
-pub used_there : (header : Header) (h : ℕ) (k : Parts) (ids : Ids) (rest : List Entry) (past : List Event) (r : ℕ) → Matches header h k ids rest past → named header ≤ r → in_use header h r past ≡ true → (row : RegionRow) × (region_at k.chains r ≡ Some row)
-used_there header h k ids rest past r m temporary used =
-    let count : nat_lt 0 (count_by all_tasks r k.maps) ≡ true = sym (m.uses.used r temporary) ∙ used in
-    let some : 0 < count_by all_tasks r k.maps = grind (arith, nat_tests) in
-    let task = by_some all_tasks r k.maps some in
-    region_row k.chains r (entry_there header.size r k.chains (rows_in task.0 k.maps) (m.entries.inside task.0) task.1)
+pub used_there : (header : Header) (h : ℕ) (k : Parts) (ids : Ids) (rest : List Entry) (past : List Event) (r : ℕ) → Matches header h k ids rest past → HasSlow header k past → named header ≤ r → in_use header h r past ≡ true → (row : RegionRow) × (region_at k.chains r ≡ Some row)
+used_there header h k ids rest past r m copies temporary used = elim ((m.uses.used r temporary).why used) [
+  | inl some ↦ let task = by_some all_tasks r k.maps some in region_row k.chains r (entry_there header.size r k.chains (rows_in task.0 k.maps) (m.entries.inside task.0) task.1)
+  | inr filled ↦ let there = filled_there copies filled.task r filled.fills in (filled_row there.object there.pages, there.region)
+]
 
 -- the chain of a declared region is of its own object alone
 pub declared_chain : (header : Header) (past : List Event) (r n u : ℕ) → HaveHomes header past → r < named header → Below (λ o. backing_of header o past) n (region_of header r past).top u → r ≡ u
@@ -66,11 +68,11 @@ declared_chain header past r n u homes declared below = by_steps n (subst (λ (z
     by_steps zero is = is
     by_steps (suc n) is = absurd (let bad : true ≡ false = sym is.0 ∙ homes.bare r declared in cc)
 
-pub unreached : (header : Header) (h : ℕ) (k : Parts) (ids : Ids) (rest : List Entry) (past : List Event) (o : ℕ) (row : ObjectRow) → Matches header h k ids rest past → object_at k.memory.objects o ≡ Some row → row.references ≡ 0 → named header ≤ o → Reach header h o past → ⊥
-unreached header h k ids rest past o row m known none least reach = elim (kind_cases header reach.0) [
+pub unreached : (header : Header) (h : ℕ) (k : Parts) (ids : Ids) (rest : List Entry) (past : List Event) (o : ℕ) (row : ObjectRow) → Matches header h k ids rest past → HasSlow header k past → object_at k.memory.objects o ≡ Some row → row.references ≡ 0 → named header ≤ o → Reach header h o past → ⊥
+unreached header h k ids rest past o row m copies known none least reach = elim (kind_cases header reach.0) [
   | inl declared ↦ let same = declared_chain header past reach.0 reach.1 o m.homeless declared reach.3 in omega (arith, same, declared, least)
   | inr temporary ↦
-      let there = used_there header h k ids rest past reach.0 m temporary reach.2 in
+      let there = used_there header h k ids rest past reach.0 m copies temporary reach.2 in
       let is : IsReferred k.memory.objects o = chain_known m.regions reach.0 there.0 there.1 reach.1 o reach.3 in
       let some = is.some in
       let same = ap (λ z. z.references) (some_is row is.row (sym known ∙ is.known)) in
@@ -129,7 +131,7 @@ ends_lost header h outside doing past k ids rest key row memory events e first i
           uses = m.uses;
           controls = rw objects (controls_after leaves m.controls);
           homeless = homeless_after leaves m.homeless;
-          settled = record { returned = refl; shut = λ region. refl };
+          settled = record { none_owed = refl; shut = λ region. refl };
           replied = replied_behind tt m.replied;
           laundry = laundry_changed key row.frame _ _ _ _ _ k.memory memory k.laundry (returns_out h moment) m.laundry c;
           frames = frames2;
@@ -139,7 +141,7 @@ ends_lost header h outside doing past k ids rest key row memory events e first i
         idle = e.runs.idle;
         grows = grows_more header h outside doing past events gone e.runs.grows m.settled (record { consequence = tt; cause = cause; own_bytes = tt; frames = suffices header h memory.frames (gone ∷ moment) frames2; inner = tt; said = tt; own = own_named h; creates = tt });
       };
-      used = e.used;
+      used = used_away k.memory.resident memory.resident e.used (away_put o p None row k.memory.resident memory.resident c.found c.row);
       row = e.row;
       known = rw objects e.known;
       none = e.none;
@@ -176,7 +178,7 @@ ends_lost header h outside doing past k ids rest key row memory events e first i
     why : DropCause header doing h o p (local header.size h (place_of o p) (events ++ past)) (events ++ past)
     why = elim (kind_cases header o) [
       | inl declared ↦ Ended (seen.dirty ∙ (or_parts row.dirty row.precious (clean declared)).0) (seen.precious ∙ (or_parts row.dirty row.precious (clean declared)).1) declared (unheld header h k ids rest (events ++ past) o e.row m e.known e.none declared)
-      | inr temporary ↦ Unreached temporary (unreached header h k ids rest (events ++ past) o e.row m e.known e.none temporary) least
+      | inr temporary ↦ Unreached temporary (unreached header h k ids rest (events ++ past) o e.row m e.used.copies e.known e.none temporary) least
     ]
 
     cause : Caused header outside doing (event.Dropped (host_id h) key.object key.page) (events ++ past)
@@ -222,7 +224,7 @@ pub lost_plays : (header : Header) (h : ℕ) (outside : Outside) (doing : Comman
     → Does header (events ++ past) (event.Dropped (host_id h) key.object key.page) (paging k) (paging (record k { memory = memory }))
 lost_plays header h outside doing past k ids rest key row memory events e is_here c = elim (kind_cases header key.object.0) [
   | inl declared ↦ AsUnheld (departs_unheld header h outside doing past k ids rest key row _ _ memory events e declared is_here c)
-  | inr temporary ↦ AsUnreached (unreached header h k ids rest (events ++ past) key.object.0 e.row e.runs.matches e.known e.none temporary) (leaves_lists k key row _ _ memory is_here c)
+  | inr temporary ↦ AsUnreached (unreached header h k ids rest (events ++ past) key.object.0 e.row e.runs.matches e.used.copies e.known e.none temporary) (leaves_lists k key row _ _ memory is_here c)
 ]
 
 -- or it goes back to its pager, in its frame
@@ -298,7 +300,7 @@ ends_returned header h outside doing past k ids rest key known row memory laundr
           uses = m.uses;
           controls = controls_after leaves (controls_same k.memory.objects memory.objects (λ o2. last_control h o2 moment) (λ o2. live_control h o2 moment) (λ o2. is_ready h o2 moment) m.controls goes.objects.at);
           homeless = homeless_after leaves m.homeless;
-          settled = record { returned = refl; shut = λ region. refl };
+          settled = record { none_owed = refl; shut = λ region. refl };
           replied = replied_behind tt m.replied;
           laundry = rw (own_host h) (laundry_returned key row _ _ k.memory memory k.laundry laundry (returns_out h moment) m.laundry c goes.held goes.room);
           frames = frames2;
@@ -309,7 +311,7 @@ ends_returned header h outside doing past k ids rest key known row memory laundr
         idle = e.runs.idle;
         grows = grows_more header h outside doing past events sent e.runs.grows m.settled (record { consequence = tt; cause = cause; own_bytes = tt; frames = suffices header h memory.frames (sent ∷ moment) frames2; inner = tt; said = (refl, long); own = own_named h; creates = tt });
       };
-      used = e.used;
+      used = used_away k.memory.resident memory.resident e.used (away_put o p None row k.memory.resident memory.resident c.found c.row);
       row = e.row;
       known = goes.objects.at o ∙ e.known;
       none = e.none;
@@ -516,7 +518,7 @@ ends_told header h outside doing past k ids rest object events row objects s non
           uses = m.uses;
           controls = controls_after leaves (rw (own_host h) (controls_quiet row.control o row k.memory.objects objects (λ o2. last_control h o2 moment) (λ o2. live_control h o2 moment) (λ o2. is_ready h o2 moment) m.controls found alive put));
           homeless = homeless_after leaves m.homeless;
-          settled = record { returned = refl; shut = λ region. refl };
+          settled = record { none_owed = refl; shut = λ region. refl };
           replied = replied_behind tt m.replied;
           laundry = m.laundry;
           frames = m.frames;
@@ -574,7 +576,7 @@ ends_told header h outside doing past k ids rest object events row objects s non
     cause : Caused header outside doing (event.Sent (Up (host_id h) object) (message.Terminate row.control)) (events ++ past)
     cause = record {
       live = alive;
-      unreached = unreached header h k ids rest (events ++ past) object.0 row m found unreferred;
+      unreached = unreached header h k ids rest (events ++ past) object.0 row m s.used.copies found unreferred;
       unheld = unheld header h k ids rest (events ++ past) object.0 row m found unreferred;
       away = λ p. ap (λ z. z.here) (bare p);
       unasked = λ p. ap (λ z. z.asked) (bare p);
@@ -647,8 +649,12 @@ runs_dropped header h outside doing past k ids rest o left row known events chai
     }
 
 used_dropped : (header : Header) (h : ℕ) (outside : Outside) (doing : Command) (past : List Event) (k : Parts) (ids : Ids) (rest : List Entry) (o : ℕ) (events : List Event) (chains : ChainTable) → EndsObject header h outside doing past k ids rest o events
-    → DropsShadow o k.chains chains → AllUsed chains
-used_dropped header h outside doing past k ids rest o events chains e drops r row found = e.used r row (sym (ap (λ f. f r) drops.regions) ∙ found)
+    → DropsShadow o k.chains chains → UsesAll header (record k { chains = chains }) (events ++ past)
+used_dropped header h outside doing past k ids rest o events chains e drops =
+    record {
+      regions = λ r row found. e.used.regions r row (sym (ap (λ f. f r) drops.regions) ∙ found);
+      copies = copies_kept k.maps k.maps k.chains chains k.memory.resident k.memory.resident e.used.copies (λ t w found. record { size = refl; entries = refl }) (dropped_filled o k.chains chains drops) (rows_unmade k.chains k.memory.resident);
+    }
 
 -- something else refers to that still
 pub sweeps_dropped : (header : Header) (h : ℕ) (outside : Outside) (doing : Command) (past : List Event) (k : Parts) (ids : Ids) (rest : List Entry) (o left : ℕ) (row : ShadowRow) (known : ObjectRow) (events : List Event) (chains : ChainTable) (objects : ObjectTable)

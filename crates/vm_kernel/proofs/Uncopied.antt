@@ -75,12 +75,12 @@ source_same header h k ids past task target address bytes to own (Some row) rest
     let is = found_row (IsInside header.size k.chains) address (rows_in task k.maps) row (rests.matches.entries.inside task) found in
     rw (uncopied_same header h k ids past own row rests is.is.region, same, full_same header h k ids past row.region.0 rests is.is.region) refl
 
-some_waits : (o : Option Waiting) → is_some (waiting_in o) ≡ is_some o
-some_waits None = refl
-some_waits (Some w) = refl
+some_waits : (size : ℕ) (o : Option Waiting) → is_some (waiting_in size o) ≡ is_some o
+some_waits size None = refl
+some_waits size (Some w) = refl
 
 pub waits_are : (header : Header) (h : ℕ) (k : Parts) (ids : Ids) (past : List Event) (task : ℕ) → Rests header h k ids past → lives_on h task past ≡ true → is_some (waiting task past) ≡ is_some (entry k.waits.rows task)
-waits_are header h k ids past task rests acts = ap (λ z. is_some z) (rests.waits.is task (ap (λ z. is_some z) (lives_in task rests.matches.tasks acts))) ∙ some_waits (entry k.waits.rows task)
+waits_are header h k ids past task rests acts = ap (λ z. is_some z) (rests.waits.is task (ap (λ z. is_some z) (lives_in task rests.matches.tasks acts))) ∙ some_waits k.maps.size (entry k.waits.rows task)
 
 pub copy_refused : (header : Header) (h : ℕ) (k : Parts) (ids : Ids) (past : List Event) (elsewhere : Bool) (task : TaskId) (address bytes : ℕ) (target : TaskId) (to : ℕ) → Rests header h k ids past → lives_on h task.0 past ≡ true → lives_on h target.0 past ≡ true
     → refusal header past (command.Copy task address bytes target to) ≡ code_of k ids elsewhere (command.Copy task address bytes target to)

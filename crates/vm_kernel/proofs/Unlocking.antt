@@ -1,5 +1,6 @@
 -- What an unlock that is asked for leaves of the kernel, and its cause.
-use Rattle.vm_kernel.proofs.Common.{Bool, Command, Elsewhere, Event, HasWaiters, Header, HostParts, Ids, IsAt, List, LocalEffect, Matches, None, ObjectRow, Option, ObjectTable, Outside, PageKey, PageRow, Parts, Some, Suffice, Unlocks, Up, WaitTable, Waiting, Want, Works, [], absent_at, access_in, ap, arith, begun_at, entry, false, frames_held, frames_wired, host_id, if◌then◌else◌, inl, inr, live_control, live_in, local, local_after, named, nat_tests, object_at, place_of, refl, returns_out, reverse, slice_get, subst, sym, true, waiting, with_on, ℕ, ◌&&◌, ◌==◌, ◌∙◌, ◌∷◌, ◌≡◌}
+use Rattle.vm_kernel.proofs.Common.{Bool, Command, Elsewhere, Event, HasWaiters, Header, HostParts, Ids, IsAt, List, LocalEffect, Matches, None, ObjectRow, ObjectTable, Option, Outside, PageKey, PageRow, Parts, Some, Suffice, Unlocks, Up, WaitTable, Waiting, Want, Works, [], absent_at, access_in, ap, arith, begun_at, entry, false, frames_held, frames_wired, host_id, if◌then◌else◌, inl, inr, live_control, live_in, local, local_after, named, nat_tests, object_at, place_of, refl, returns_out, reverse, slice_get, subst, sym, true, waiting, with_on, ℕ, ◌&&◌, ◌==◌, ◌∙◌, ◌∷◌, ◌≡◌}
+use Rattle.vm_state.proofs.Filling.{away_put, fills_turned, used_away, used_turned}
 use Rattle.vm_abroad.proofs.Home.{object_stays}
 use Rattle.vm_fault.specs.Faults.{KeepsPlan}
 use Rattle.vm_fault.specs.Walks.{Finds, is_storing, keeps_out, wanted_number}
@@ -75,7 +76,7 @@ matches_unlocked header h k ids past key row control access memory m here c plan
       uses = m.uses;
       controls = rw plan.objects (controls_stay (λ o home. object_stays o h e past home) m.controls);
       homeless = record { regions = m.homeless.regions; objects = m.homeless.objects; stay = m.homeless.stay; files = m.homeless.files; whole = m.homeless.whole; bare = m.homeless.bare; fills = m.homeless.fills };
-      settled = record { returned = refl; shut = λ region. refl };
+      settled = record { none_owed = refl; shut = λ region. refl };
       replied = replied_behind tt m.replied;
       laundry = laundry_changed key row.frame _ _ _ _ _ k.memory memory k.laundry (returns_out h past) m.laundry c;
       frames = frames_changed (slice_get (reverse header.frames.items) h) key row.frame _ _ _ _ _ k.memory memory (frames_held header.size h past) (frames_held header.size h past) (frames_wired h past) m.frames c (λ held. let same = c.claims in omega arith);
@@ -92,8 +93,8 @@ works_unlocked header h past k ids w key row object access memory waits2 works i
     let row2 : PageRow = record row { unlock_sent = true } in
     let m = matches_unlocked header h k ids past key row object.control access memory works.matches here c plan in
     record {
-      matches = matches_with memory.queues memory.buffers waits2 m.fits.parts refl m;
-      used = works.used;
+      matches = matches_with memory.queues memory.buffers waits2 (fills_turned w.task.0 w (on.Page key) k.waits.rows waits2.rows is put.entry) m.fits.parts refl m;
+      used = used_turned w.task.0 w (on.Page key) k.waits.rows waits2.rows (used_away k.memory.resident memory.resident works.used (away_put o p (Some row2) row k.memory.resident memory.resident c.found c.row)) is put.entry;
       referred = page_referred key row.frame _ _ _ _ _ k memory c plan (works.referred.pages o p row c.found) (λ r same. same_lock k.memory.objects o row row2 r refl same (works.referred.locks o p row c.found)) works.referred;
       waits = subst (λ (z : ObjectTable). HasWaiters k.maps k.chains memory.resident z waits2.rows (is_woken woken.Nobody) (λ u. waiting u past)) (sym plan.objects)
           (waiters_asked k.maps k.chains k.memory.resident memory.resident k.memory.objects k.waits.rows waits2.rows (λ u. waiting u past) w.task.0 w key row2 works.waits is (asks_none_now k w.on now) place (here_unawaited _ row c.found here unsent) c.row
@@ -135,14 +136,14 @@ unlock_follows header h outside doing past k task what top at steps key row obje
       consequence = tt;
       cause = record {
         task = task;
-        access = access_in what;
+        access = access_in k.maps.size to.destination what;
         waits = it_waits header h past k task what top at to;
         on_host = refl;
         comes = comes_at header h past k task what top at to s steps key finds.walks;
-        number = asks_for what steps;
+        number = asks_for k.maps.size to.destination what steps;
         live = controls.live o ∙ (ap live_in known ∙ ap (λ b. if b then Some object.control else None) lives);
         here = shows.here;
-        named = names_at s o p what row finds.found finds.here locked;
+        named = names_at s k.maps.size to.destination o p what row finds.found finds.here locked;
         none = shows.unlocking ∙ unsent;
         behind = replied_over past h o p replied;
       };

@@ -75,7 +75,7 @@ ran_wired header h outside doing past k ids wired rests few first done =
             homeless = homeless_after leaves m.homeless;
             homes = m.homes;
             files = m.files;
-            settled = record { returned = refl; shut = λ region. refl };
+            settled = record { none_owed = refl; shut = λ region. refl };
             replied = replied_behind tt m.replied;
             laundry = laundry_wired k.memory.frames k.memory.resident k.laundry (returns_out h past) wired m.laundry;
             frames = frames;

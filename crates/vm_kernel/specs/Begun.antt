@@ -108,7 +108,7 @@ pub record Grows (header : Header) (h : ℕ) (outside : Outside) (doing : Comman
   pub more : List Event
   pub head : head header past doing ≡ Some first
   pub is : events ≡ more ++ reverse first
-  pub follows : EachOf IsConsequence more
+  pub follows : EachIn IsConsequence more (reverse first ++ past)
   pub licensed : AllLicensed header outside doing events past
   pub own_bytes : EachIn (OwnBytes header) events past
   pub frames : MomentsIn (Suffice header h) events past
@@ -174,7 +174,7 @@ pub record IsInStep (header : Header) (h : ℕ) (outside : Outside) (doing : Com
 pub record LegalEvents (header : Header) (h : ℕ) (outside : Outside) (doing : Command) (past old new : List Event) : Type 0 where
   pub more : List Event
   pub is : new ≡ more ++ old
-  pub follows : EachOf IsConsequence more
+  pub follows : EachIn IsConsequence more (old ++ past)
   pub licensed : AllLicensed header outside doing more (old ++ past)
   pub own_bytes : EachIn (OwnBytes header) more (old ++ past)
   pub frames : MomentsIn (Suffice header h) more (old ++ past)

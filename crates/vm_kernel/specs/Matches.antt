@@ -14,16 +14,17 @@ use Rattle.vm_model.specs.Local.{local}
 use Rattle.vm_model.specs.Named.{named}
 use Rattle.vm_model.specs.Regions.{backing_of, marked_regions, next_object, next_region, region_of}
 use Rattle.vm_model.specs.Tasks.{entries_of, host_of}
-use Rattle.vm_model.specs.Waiting.{waiting}
+use Rattle.vm_model.specs.Waiting.{copy_target, next_page, waiting}
 use Rattle.vm_legal.specs.Accesses.{begun_at, is_ready}
 use Rattle.vm_legal.specs.Frames.{frames_held, frames_wired, returns_out}
-use Rattle.vm_legal.specs.Licences.{LockRequest, created, lock_taken}
+use Rattle.vm_legal.specs.Licences.{LockRequest, lock_taken, owed}
 use Rattle.vm_legal.specs.Living.{tasks as made_tasks}
 use Rattle.vm_legal.specs.Steps.{completes, since}
 use Rattle.vm_legal.specs.Used.{in_use}
 use Rattle.vm_abroad.specs.Home.{HaveHomes, home_of, object_home}
 use Rattle.vm_state.specs.References.{AllReferred}
-use Rattle.vm_state.specs.Stands.{AllUsed, AreShared, HasControls, HasEntries, HasFrames, HasHomes, HasKinds, HasLaundry, HasPages, HasRegions, HasTasks, HasUse, KnowsFiles}
+use Rattle.vm_state.specs.Filling.{AllUsed, HasCopies}
+use Rattle.vm_state.specs.Stands.{AreShared, HasControls, HasEntries, HasFrames, HasHomes, HasKinds, HasLaundry, HasPages, HasRegions, HasTasks, HasUse, KnowsFiles}
 use Rattle.vm_abroad.specs.Sound.{holds}
 use Rattle.vm_abroad.specs.Whose.{IsShut}
 use Rattle.vm_supply.specs.declared.woken.Woken.{Woken}
@@ -51,9 +52,9 @@ pub record IsRanged (header : Header) : Type 0 where
 abbrev pub first_ids : Header → Ids
 first_ids header = record { next_object = named header; next_region = named header; marks = 0 }
 
--- no create waits for its return, and no region for its entry
+-- nothing is owed behind the newest event, and no region waits for its entry
 pub record IsSettled (past : List Event) : Type 0 where
-  pub returned : created past ≡ None
+  pub none_owed : owed past ≡ None
   pub shut : IsShut past
 
 -- a lock request that the step took is done, where its pager wants to be told that
@@ -76,7 +77,7 @@ pub record Matches (header : Header) (h : ℕ) (k : Parts) (ids : Ids) (gone : L
   pub entries : HasEntries header.size k.maps k.chains gone
   pub shared : AreShared (named header) k.maps
   pub pages : HasPages k.memory.frames k.memory.resident k.memory.objects (λ o p. known_local header o p (local header.size h (place_of o p) past))
-  pub uses : HasUse header k.maps (λ r. in_use header h r past) (made_tasks past) (λ task r. holds header.size task r past) (next_region header past)
+  pub uses : HasUse header k.maps k.waits.rows (λ r. in_use header h r past) (made_tasks past) (λ task r. holds header.size task r past) (next_region header past)
   pub controls : HasControls (named header) h k.memory.objects (λ o. last_control h o past) (λ o. live_control h o past) (λ o. is_ready h o past) (λ o. object_home o past)
   pub homeless : HaveHomes header past
   pub settled : IsSettled past
@@ -88,6 +89,14 @@ pub record Matches (header : Header) (h : ℕ) (k : Parts) (ids : Ids) (gone : L
 abbrev pub HasWaits : Parts → Woken → List Event → Type 0
 HasWaits k who past = HasWaiters k.maps k.chains k.memory.resident k.memory.objects k.waits.rows (is_woken who) (λ task. waiting task past)
 
+-- each region has an entry or is filled by an access that waits
+abbrev pub UsesAll : Header → Parts → List Event → Type 0
+UsesAll header k past = AllUsed header k.maps k.chains k.memory.resident k.waits.rows (λ task. next_page task past) (λ task. copy_target task past)
+
+-- the slow copies that wait are as the history and the tables have them
+abbrev pub HasSlow : Header → Parts → List Event → Type 0
+HasSlow header k past = HasCopies header k.maps k.chains k.memory.resident k.waits.rows (λ task. next_page task past) (λ task. copy_target task past)
+
 -- their rows stand in the order in which they began
 abbrev pub HasOrder : Parts → List Event → Type 0
 HasOrder k past = BeganInOrder (λ task. begun_at task past) 0 k.waits.rows
@@ -95,7 +104,7 @@ HasOrder k past = BeganInOrder (λ task. begun_at task past) 0 k.waits.rows
 -- the kernel inside a step, with accesses that are to be run again, and whom an answer has woken
 pub record Works (header : Header) (h : ℕ) (k : Parts) (ids : Ids) (who : Woken) (past : List Event) : Type 0 where
   pub matches : Matches header h k ids [] past
-  pub used : AllUsed k.chains
+  pub used : UsesAll header k past
   pub referred : AllReferred k.chains k.memory.objects k.memory.resident
   pub waits : HasWaits k who past
   pub order : HasOrder k past
@@ -103,7 +112,7 @@ pub record Works (header : Header) (h : ℕ) (k : Parts) (ids : Ids) (who : Woke
 -- the kernel at the end of a step: no access is left that is to be run again
 pub record Rests (header : Header) (h : ℕ) (k : Parts) (ids : Ids) (past : List Event) : Type 0 where
   pub matches : Matches header h k ids [] past
-  pub used : AllUsed k.chains
+  pub used : UsesAll header k past
   pub referred : AllReferred k.chains k.memory.objects k.memory.resident
   pub waits : HasWaits k woken.Nobody past
   pub order : HasOrder k past

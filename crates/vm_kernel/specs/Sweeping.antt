@@ -1,5 +1,5 @@
 -- The counts of entries go up and down, and what no entry leads to goes.
-use Rattle.std.specs.Prelude.{ℕ, ◌≡◌, ◌≢◌, ◌+◌, ◌-◌, ◌<◌, true, List, Some}
+use Rattle.std.specs.Prelude.{ℕ, ◌≡◌, ◌≢◌, ◌+◌, ◌-◌, ◌<◌, ◌⊎◌, ◌++◌, false, true, List, Some}
 use Rattle.vm_base.specs.declared.entry.Entry.{Entry}
 use Rattle.vm_model.specs.declared.event.Event.{Event}
 use Rattle.vm_model.specs.declared.command.Command.{Command}
@@ -14,7 +14,9 @@ use Rattle.vm_shadow.specs.declared.region_row.RegionRow.{RegionRow}
 use Rattle.vm_kernel.specs.Begun.{IsInStep}
 use Rattle.vm_state.specs.Counts.{count_on}
 use Rattle.vm_state.specs.References.{AllReferred, AllReferredBut}
-use Rattle.vm_state.specs.Stands.{AllUsed}
+use Rattle.vm_state.specs.Filling.{IsFilledIn, fills_in}
+use Rattle.vm_waits.specs.Waits.{entry}
+use Rattle.vm_kernel.specs.Matches.{HasSlow, UsesAll}
 use Rattle.vm_state.specs.Places.{has_region, region_entries, with_entries}
 use Rattle.vm_kernel.specs.declared.parts.Parts.{Parts}
 
@@ -44,15 +46,17 @@ pub record Releasing : Type 0 where
 -- some entries have gone, but are still among the counts
 pub record Sweeps (header : Header) (h : ℕ) (outside : Outside) (doing : Command) (past : List Event) (k : Parts) (ids : Ids) (gone : List Entry) (events : List Event) : Type 0 where
   pub runs : IsInStep header h outside doing past k ids gone events
-  pub used : AllUsed k.chains
+  pub used : UsesAll header k (events ++ past)
   pub referred : AllReferred k.chains k.memory.objects k.memory.resident
 
--- a region has no entries left, and all others have some
+-- a region has no entries left, and each other one has some, or is filled by an access that waits
 pub record EndsRegion (header : Header) (h : ℕ) (outside : Outside) (doing : Command) (past : List Event) (k : Parts) (ids : Ids) (gone : List Entry) (region : ℕ) (events : List Event) : Type 0 where
   pub runs : IsInStep header h outside doing past k ids gone events
   pub there : has_region k.chains region ≡ true
   pub none : region_entries k.chains region ≡ 0
-  pub others : (r : ℕ) (row : RegionRow) → r ≢ region → region_at k.chains r ≡ Some row → 0 < row.entries
+  pub others : (r : ℕ) (row : RegionRow) → r ≢ region → region_at k.chains r ≡ Some row → (0 < row.entries) ⊎ IsFilledIn k.waits.rows r
+  pub copies : HasSlow header k (events ++ past)
+  pub unfilled : (task : ℕ) → fills_in region (entry k.waits.rows task) ≡ false
   pub referred : AllReferred k.chains k.memory.objects k.memory.resident
 
 -- where an object is declared, its control lives
@@ -62,7 +66,7 @@ IsKnownToPager header objects o = (known : ObjectRow) → object_at objects o �
 -- nothing refers to an object any more, and something to each other one that lives, has pages or is a shadow
 pub record EndsObject (header : Header) (h : ℕ) (outside : Outside) (doing : Command) (past : List Event) (k : Parts) (ids : Ids) (gone : List Entry) (object : ℕ) (events : List Event) : Type 0 where
   pub runs : IsInStep header h outside doing past k ids gone events
-  pub used : AllUsed k.chains
+  pub used : UsesAll header k (events ++ past)
   pub row : ObjectRow
   pub known : object_at k.memory.objects object ≡ Some row
   pub none : row.references ≡ 0

@@ -6,10 +6,10 @@ use Rattle.vm_base.specs.declared.ids.ObjectId.{ObjectId}
 use Rattle.vm_base.specs.declared.ids.PageKey.{PageKey}
 use Rattle.vm_base.specs.declared.ids.RegionId.{RegionId}
 use Rattle.vm_base.specs.declared.ids.TaskId.{TaskId}
+use Rattle.vm_fault.specs.Walks.{wanted_number}
 use Rattle.vm_legal.specs.Accesses.{Wants, begun_at}
 use Rattle.vm_legal.specs.Follows.{IsEnd}
 use Rattle.vm_legal.specs.Frames.{frames_free}
-use Rattle.vm_legal.specs.Licences.{desired_access}
 use Rattle.vm_legal.specs.Stretches.{EachOf}
 use Rattle.vm_model.specs.declared.event.Event.{Event}
 use Rattle.vm_model.specs.declared.event.Event.TheVariants as event
@@ -20,7 +20,6 @@ use Rattle.vm_waits.specs.Kept.{EachListedOnce}
 use Rattle.vm_waits.specs.Waits.{WaitTable, entry, is_again, is_frame, is_listed, queue_without}
 use Rattle.vm_waits.specs.declared.waiting.On.TheVariants as on
 use Rattle.vm_waits.specs.declared.waiting.Waiting.{Waiting}
-use Rattle.vm_state.specs.Waiters.{access_in}
 
 -- the event is of no access that was run: none loads or stores, no page comes as zeros or from a region below, and none is asked for, nor its unlock
 abbrev pub RunsNone : Event → Type 0
@@ -99,7 +98,7 @@ pub data Did (rows : List Waiting) (earlier : ℕ → Type 0) (task : TaskId) : 
       → Did rows earlier task true (end ∷ event.Raised host lower.object lower.page upper.object upper.page ∷ front)
   ForAsked : (front : List Event) → IsFront front → (host : HostId) → (key : PageKey) → (control steps : ℕ) → (row : Waiting) → entry rows task.0 ≡ Some row → row.on ≡ on.Page key
       → ((t : ℕ) (w : Waiting) → earlier t → entry rows t ≡ Some w → w.on ≢ on.Page key)
-      → Did rows earlier task true (event.Sent (Up host key.object) (message.Request control key.page (desired_access (access_in row.want) steps)) ∷ front)
+      → Did rows earlier task true (event.Sent (Up host key.object) (message.Request control key.page (wanted_number row.want steps)) ∷ front)
 
 -- Some accesses were run again, each once, in the order in which they began: from when on the next one began, the queue, and the events, which have the newest first.
 pub data Restarts (header : Header) (h : ℕ) (rows : List Waiting) (past : List Event) (old : List TaskId) : ℕ → List TaskId → List Event → Type 0 where

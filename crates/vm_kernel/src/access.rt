@@ -33,7 +33,7 @@ impl Parts {
             address,
             size,
         })?;
-        self.waits.begin(task, Want::Load { address, size });
+        self.waits.begin(task, Want::Load { address, size }, None);
         self.restart(ids, log)
     }
 
@@ -67,6 +67,7 @@ impl Parts {
                 size,
                 value,
             },
+            None,
         );
         self.restart(ids, log)
     }

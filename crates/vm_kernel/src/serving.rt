@@ -42,10 +42,11 @@ impl Parts {
         ensures plays { OnOk result (Plays given.header given.past log.old.items (paging self.old) log.new.items (paging self.new)) }
         ensures once { IfOk result (λ answer. RunsOnce waiting may_claim (wants_frame answer) self.old.waits self.new.waits log.old.items log.new.items) }
     {
+        let mut want = waiting.want;
         let step = fault(
             self.host,
             waiting.task,
-            waiting.want,
+            &mut want,
             may_claim,
             &mut self.memory,
             &mut self.chains,

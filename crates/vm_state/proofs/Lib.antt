@@ -5,6 +5,7 @@ pub mod Copying
 pub mod Counting
 pub mod Declared
 pub mod Files
+pub mod Filling
 pub mod Fresh
 pub mod Going
 pub mod Knowing

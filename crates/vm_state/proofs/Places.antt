@@ -45,6 +45,7 @@ waits_placed maps cs cs2 rs os rows who waiting_at has placed =
       is = has.is;
       allowed = has.allowed;
       sized = has.sized;
+      numbers = has.numbers;
       reasons = λ t w found apart. reason_placed maps cs cs2 rs os t w.want w.on (placed t w.want) (has.reasons t w found apart);
       aims = λ t w key found is. placed t w.want key (has.aims t w key found is);
       askers = has.askers;
@@ -86,7 +87,7 @@ place_shadowed maps old new region object row task what key there made below pla
     now = record row { top = object; shift = 0; marked = false }
 
     page : ℕ
-    page = page_at maps.size (address_in what) at.entry
+    page = page_at maps.size (address_in maps.size what) at.entry
 
     leads : LeadsTo new place.steps place.top key
     leads = leads_kept old new (shadows_shadowed old new region object row made below) place.steps place.top key place.leads
@@ -115,7 +116,7 @@ waits_shadowed maps old new rs os os2 rows who waiting_at region object row has 
 -- a region goes to which no entry leads
 
 -- what holds an address is an entry on its region
-on_its_region : (address : ℕ) (rows : List Entry) (found : Entry) → entry_at address rows ≡ Some found → has_entry found.region.0 rows ≡ true
+pub on_its_region : (address : ℕ) (rows : List Entry) (found : Entry) → entry_at address rows ≡ Some found → has_entry found.region.0 rows ≡ true
 on_its_region address [] found is = absurd (let bad : None ≡ Some found = is in cc)
 on_its_region address (row ∷ rows) found is = by_test (λ e. on_its_region address rows found e) (nat_le row.address address && nat_lt address (row.address + row.bytes)) is
   where
@@ -126,7 +127,7 @@ on_its_region address (row ∷ rows) found is = by_test (λ e. on_its_region add
 -- an access is about a page of another region
 pub apart_at : (maps : Mapped) (cs : ChainTable) (task : ℕ) (what : Want) (key : PageKey) (r : ℕ) → has_entry r (rows_in task maps) ≡ false → (at : IsAt maps cs task what key) → r ≢ at.entry.region.0
 apart_at maps cs task what key r none at same =
-    let has = on_its_region (address_in what) (rows_in task maps) at.entry at.found in
+    let has = on_its_region (address_in maps.size what) (rows_in task maps) at.entry at.found in
     let bad : false ≡ true = sym none ∙ (ap (λ z. has_entry z (rows_in task maps)) same ∙ has) in
     cc
 

@@ -1,5 +1,5 @@
 -- Who waits, while the maps of tasks that don't wait change, and regions count their entries anew.
-use Rattle.std.proofs.Common.{Bool, List, None, Option, Some, [], ap, inl, inr, refl, suc, sym, true, zero, ℕ, ◌∙◌, ◌≡◌}
+use Rattle.std.proofs.Common.{Bool, List, None, Option, Some, [], ap, inl, inr, refl, subst, suc, sym, true, zero, ℕ, ◌∙◌, ◌≡◌}
 use Rattle.std.proofs.lemmas.Bool.Decides.{eqb_tells}
 use Rattle.std.specs.Prelude.{is_some, unwrap_or}
 use Rattle.vm_base.specs.declared.entry.Entry.{Entry}
@@ -16,6 +16,7 @@ use Rattle.vm_shadow.specs.declared.region_row.RegionRow.{RegionRow}
 use Rattle.vm_shadow.specs.declared.shadow_row.ShadowRow.{ShadowRow}
 use Rattle.vm_state.specs.Waiters.{HasWaiters, IsPlaceOf, LeadsTo, Reason, waiting_in}
 use Rattle.vm_waits.specs.Waits.{entry}
+use Rattle.vm_waits.specs.Wants.{IsSizedWant, address_in, need_in}
 use Rattle.vm_waits.specs.declared.waiting.On.{On}
 use Rattle.vm_waits.specs.declared.waiting.On.TheVariants as on
 use Rattle.vm_waits.specs.declared.waiting.Waiting.{Waiting}
@@ -49,7 +50,7 @@ at_kept maps maps2 cs cs2 task what key same tops at =
     let now = tops.tops at.entry.region.0 at.row at.region in
     record {
       entry = at.entry;
-      found = rw (rows_same task maps maps2 same) at.found;
+      found = rw (rows_same task maps maps2 same, same.size) at.found;
       row = now.row_now;
       region = now.found;
       is = rw (now.top, now.shift, same.size) at.is;
@@ -88,14 +89,17 @@ reason_kept maps maps2 cs cs2 rs os task what on.Frame same tops reason = reason
 
 -- the rows of tasks here say who waits
 abbrev pub AreTold : Mapped → List Waiting → (ℕ → Option Access) → Type 0
-AreTold maps rows waiting_at = (t : ℕ) → is_some (entries_in t maps) ≡ true → waiting_at t ≡ waiting_in (entry rows t)
+AreTold maps rows waiting_at = (t : ℕ) → is_some (entries_in t maps) ≡ true → waiting_at t ≡ waiting_in maps.size (entry rows t)
 
 -- who has other entries now was here before
 pub told_changed : (maps maps2 : Mapped) (rows : List Waiting) (waiting_at : ℕ → Option Access) (task : ℕ) (was : List Entry) (made : Option (List Entry)) → AreTold maps rows waiting_at → ChangesOnly maps maps2 task made → entries_in task maps ≡ Some was → AreTold maps2 rows waiting_at
 told_changed maps maps2 rows waiting_at task was made told changes lives t here = elim (eqb_tells task t) [
-  | inl same ↦ told t (ap (λ z. is_some (entries_in z maps)) (sym same.1) ∙ ap is_some lives)
-  | inr apart ↦ told t (ap is_some (sym (changes.others t (λ e. apart.1 (sym e)))) ∙ here)
+  | inl same ↦ told t (ap (λ z. is_some (entries_in z maps)) (sym same.1) ∙ ap is_some lives) ∙ sized t
+  | inr apart ↦ told t (ap is_some (sym (changes.others t (λ e. apart.1 (sym e)))) ∙ here) ∙ sized t
 ]
+  where
+    sized : (u : ℕ) → waiting_in maps.size (entry rows u) ≡ waiting_in maps2.size (entry rows u)
+    sized u = ap (λ n. waiting_in n (entry rows u)) (sym changes.size)
 
 -- who waits has the entries that it had
 pub waits_kept : {waiting2 : ℕ → Option Access} (maps maps2 : Mapped) (cs cs2 : ChainTable) (rs : ResidentTable) (os : ObjectTable) (rows : List Waiting) (who : On → Bool) (waiting_at : ℕ → Option Access)
@@ -104,8 +108,10 @@ pub waits_kept : {waiting2 : ℕ → Option Access} (maps maps2 : Mapped) (cs cs
 waits_kept maps maps2 cs cs2 rs os rows who waiting_at has same tops told =
     record {
       is = told;
-      allowed = λ t w found. allowed_kept maps maps2 t _ _ (same t w found) (has.allowed t w found);
-      sized = has.sized;
+      allowed = λ t w found. subst (λ (n : ℕ). IsAllowed maps2 t (address_in n w.want) (need_in w.want)) (sym (same t w found).size)
+          (allowed_kept maps maps2 t (address_in maps.size w.want) (need_in w.want) (same t w found) (has.allowed t w found));
+      sized = λ t w found. subst (λ (n : ℕ). IsSizedWant n w.want) (sym (same t w found).size) (has.sized t w found);
+      numbers = has.numbers;
       reasons = λ t w found apart. reason_kept maps maps2 cs cs2 rs os t w.want w.on (same t w found) tops (has.reasons t w found apart);
       aims = λ t w key found is. place_kept maps maps2 cs cs2 t w.want key (same t w found) tops (has.aims t w key found is);
       askers = has.askers;

@@ -19,7 +19,7 @@ use Rattle.vm_state.specs.Waiters.{Asker, HasWaiters, IsAsked, IsLockedFor, IsPl
 use Rattle.vm_supply.specs.declared.woken.Woken.TheVariants as woken
 use Rattle.vm_waits.proofs.Entries.{puts_cases, puts_elsewhere, puts_here}
 use Rattle.vm_waits.specs.Waits.{PutsEntry, entry, is_again, is_frame, with_on}
-use Rattle.vm_waits.specs.Wants.{IsSizedWant, address_in, need_in}
+use Rattle.vm_waits.specs.Wants.{IsOfNumber, IsSizedWant, address_in, need_in}
 use Rattle.vm_waits.specs.declared.waiting.On.{On}
 use Rattle.vm_waits.specs.declared.waiting.On.TheVariants as on
 use Rattle.vm_waits.specs.declared.waiting.Waiting.{Waiting}
@@ -120,6 +120,7 @@ waiters_page maps chains rs rs2 os rows who at o p x has put before now =
       is = has.is;
       allowed = has.allowed;
       sized = has.sized;
+      numbers = has.numbers;
       reasons = λ t w is asleep. reason_kept maps chains rs rs2 os t w.want w.on (λ key same awaits. stays w.want key (ap who (sym same) ∙ asleep) awaits) (has.reasons t w is asleep);
       aims = has.aims;
       askers = λ o2 p2 row found awaits. elim (row_cases o p x rs rs2 put o2 p2) [
@@ -144,8 +145,9 @@ waiters_page maps chains rs rs2 os rows who at o p x has put before now =
 
 -- what the row of an access has to be, but for its reason
 pub record Suits (maps : Mapped) (task : ℕ) (w : Waiting) : Type 0 where
-  pub allowed : IsAllowed maps task (address_in w.want) (need_in w.want)
-  pub sized : IsSizedWant w.want
+  pub allowed : IsAllowed maps task (address_in maps.size w.want) (need_in w.want)
+  pub sized : IsSizedWant maps.size w.want
+  pub number : IsOfNumber w.want
 
 -- whom the others ask for is asked for still
 pub asker_kept : (rows rows2 : List Waiting) (t : ℕ) (was : Waiting) (x : Option Waiting) (o p : ℕ) → PutsEntry t x rows rows2 → entry rows t ≡ Some was → (was.on ≡ on.Page (page_key o p) → ⊥) → Asker rows o p → Asker rows2 o p
@@ -166,10 +168,11 @@ pub waiters_put : (maps : Mapped) (chains : ChainTable) (rs rs2 : ResidentTable)
 waiters_put maps chains rs rs2 os rows rows2 at at2 t x has put told suits reason kept askers ready =
     record {
       is = told;
-      allowed = λ u w is. puts_cases {P = IsAllowed maps u (address_in w.want) (need_in w.want)} t u x rows rows2 w put is
-          (λ same it. subst (λ (z : ℕ). IsAllowed maps z (address_in w.want) (need_in w.want)) same (suits w it).allowed)
+      allowed = λ u w is. puts_cases {P = IsAllowed maps u (address_in maps.size w.want) (need_in w.want)} t u x rows rows2 w put is
+          (λ same it. subst (λ (z : ℕ). IsAllowed maps z (address_in maps.size w.want) (need_in w.want)) same (suits w it).allowed)
           (λ apart was. has.allowed u w was);
-      sized = λ u w is. puts_cases {P = IsSizedWant w.want} t u x rows rows2 w put is (λ same it. (suits w it).sized) (λ apart was. has.sized u w was);
+      sized = λ u w is. puts_cases {P = IsSizedWant maps.size w.want} t u x rows rows2 w put is (λ same it. (suits w it).sized) (λ apart was. has.sized u w was);
+      numbers = λ u w is. puts_cases {P = IsOfNumber w.want} t u x rows rows2 w put is (λ same it. (suits w it).number) (λ apart was. has.numbers u w was);
       reasons = λ u w is asleep. puts_cases {P = Reason maps chains rs2 os u w.want w.on} t u x rows rows2 w put is
           (λ same it. subst (λ (z : ℕ). Reason maps chains rs2 os z w.want w.on) same (reason w it))
           (λ apart was. reason_kept maps chains rs rs2 os u w.want w.on (λ key why. kept w.want key.object.0 key.page.0) (has.reasons u w was refl));
@@ -185,8 +188,8 @@ waiters_put maps chains rs rs2 os rows rows2 at at2 t x has put told suits reaso
 
 pub over_is : (maps : Mapped) (rows rows2 : List Waiting) (t : ℕ) (at at2 : ℕ → Option Access) → AreTold maps rows at → PutsEntry t None rows rows2 → ((u : ℕ) → at2 u ≡ (if t == u then None else at u)) → AreTold maps rows2 at2
 over_is maps rows rows2 t at at2 is put ends u here = elim (eqb_tells t u) [
-  | inl same ↦ ends u ∙ (ap (λ b. if b then None else at u) same.0 ∙ sym (ap waiting_in (put.at u ∙ ap (λ b. if b then None else entry rows u) same.0)))
-  | inr apart ↦ ends u ∙ (ap (λ b. if b then None else at u) apart.0 ∙ (is u here ∙ sym (ap waiting_in (put.at u ∙ ap (λ b. if b then None else entry rows u) apart.0))))
+  | inl same ↦ ends u ∙ (ap (λ b. if b then None else at u) same.0 ∙ sym (ap (waiting_in maps.size) (put.at u ∙ ap (λ b. if b then None else entry rows u) same.0)))
+  | inr apart ↦ ends u ∙ (ap (λ b. if b then None else at u) apart.0 ∙ (is u here ∙ sym (ap (waiting_in maps.size) (put.at u ∙ ap (λ b. if b then None else entry rows u) apart.0))))
 ]
 
 -- an access is over that waits for no page of which a word is outstanding
@@ -205,14 +208,14 @@ pub turned_is : (maps : Mapped) (rows rows2 : List Waiting) (t : ℕ) (was : Wai
 turned_is maps rows rows2 t was reason at is there put u here = elim (eqb_tells t u) [
   | inl same ↦
       let it : entry rows u ≡ Some was = ap (λ z. entry rows z) (sym same.1) ∙ there in
-      is u here ∙ (ap waiting_in it ∙ sym (ap waiting_in (put.at u ∙ ap (λ b. if b then Some (with_on was reason) else entry rows u) same.0)))
-  | inr apart ↦ is u here ∙ sym (ap waiting_in (put.at u ∙ ap (λ b. if b then Some (with_on was reason) else entry rows u) apart.0))
+      is u here ∙ (ap (waiting_in maps.size) it ∙ sym (ap (waiting_in maps.size) (put.at u ∙ ap (λ b. if b then Some (with_on was reason) else entry rows u) same.0)))
+  | inr apart ↦ is u here ∙ sym (ap (waiting_in maps.size) (put.at u ∙ ap (λ b. if b then Some (with_on was reason) else entry rows u) apart.0))
 ]
 
 turned_suits : (maps : Mapped) (chains : ChainTable) (rs : ResidentTable) (os : ObjectTable) (rows : List Waiting) (who : On → Bool) (at : ℕ → Option Access) (t : ℕ) (was w : Waiting) (reason : On)
     → HasWaiters maps chains rs os rows who at → entry rows t ≡ Some was → Some (with_on was reason) ≡ Some w → Suits maps t w
 turned_suits maps chains rs os rows who at t was w reason has there same =
-    subst (λ (z : Waiting). Suits maps t z) (some_is (with_on was reason) w same) (record { allowed = has.allowed t was there; sized = has.sized t was there })
+    subst (λ (z : Waiting). Suits maps t z) (some_is (with_on was reason) w same) (record { allowed = has.allowed t was there; sized = has.sized t was there; number = has.numbers t was there })
 
 turned_reason : (maps : Mapped) (chains : ChainTable) (rs : ResidentTable) (os : ObjectTable) (t : ℕ) (was w : Waiting) (reason : On) → Reason maps chains rs os t was.want reason → Some (with_on was reason) ≡ Some w
     → Reason maps chains rs os t w.want w.on

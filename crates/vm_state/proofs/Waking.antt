@@ -1,6 +1,6 @@
 -- Who waits, once those are to be run again that were to be woken.
 use Rattle.std.proofs.Common.{Bool, List, None, Option, Some, ap, false, refl, subst, sym, true, ℕ, ◌∙◌, ◌≡◌}
-use Rattle.std.specs.Prelude.{if◌then◌else◌, option_map}
+use Rattle.std.specs.Prelude.{if◌then◌else◌}
 use Rattle.vm_maps.specs.Judge.{IsAllowed}
 use Rattle.vm_maps.specs.Maps.{Mapped}
 use Rattle.vm_model.specs.Waiting.{Access}
@@ -9,21 +9,24 @@ use Rattle.vm_parts.proofs.Rows.{some_is}
 use Rattle.vm_resident.specs.Resident.{ResidentTable, page_key, row_at}
 use Rattle.vm_resident.specs.declared.page_row.PageRow.{PageRow}
 use Rattle.vm_shadow.specs.Chains.{ChainTable}
-use Rattle.vm_state.specs.Waiters.{Asker, HasWaiters, IsPlaceOf, Reason, access_in, is_awaited, is_woken, waiting_in}
+use Rattle.vm_state.specs.Waiters.{Asker, HasWaiters, IsPlaceOf, Reason, is_awaited, is_woken, waiting_in}
 use Rattle.vm_supply.specs.declared.woken.Woken.TheVariants as woken
-use Rattle.vm_waits.proofs.Entries.{waked_cases, waked_wants}
+use Rattle.vm_waits.proofs.Entries.{waked_cases}
 use Rattle.vm_waits.specs.Waits.{Waked, entry, with_on}
 use Rattle.vm_waits.specs.Waits as waits
-use Rattle.vm_waits.specs.Wants.{IsSizedWant, address_in, need_in}
+use Rattle.vm_waits.specs.Wants.{IsOfNumber, IsSizedWant, address_in, need_in}
 use Rattle.vm_waits.specs.declared.waiting.On.{On}
 use Rattle.vm_waits.specs.declared.waiting.On.TheVariants as on
 use Rattle.vm_waits.specs.declared.waiting.Waiting.{Waiting}
 
-told_same : (x y : Option Waiting) → option_map (λ (w : Waiting). w.want) y ≡ option_map (λ (w : Waiting). w.want) x → waiting_in x ≡ waiting_in y
-told_same None None same = refl
-told_same None (Some w) same = absurd (let bad : Some w.want ≡ None = same in cc)
-told_same (Some v) None same = absurd (let bad : None ≡ Some v.want = same in cc)
-told_same (Some v) (Some w) same = let wants : w.want ≡ v.want = cc in ap (λ z. Some (access_in z)) (sym wants)
+-- what an access is to do, and where to, stands while it is woken
+told_same : (size : ℕ) (test : On → Bool) (old new : Option Waiting) → Waked test old new → waiting_in size old ≡ waiting_in size new
+told_same size test None new wakes = sym (ap (waiting_in size) wakes)
+told_same size test (Some w) new wakes = sym (ap (waiting_in size) wakes ∙ by (test w.on))
+  where
+    by : (b : Bool) → waiting_in size (Some (if b then with_on w on.Again else w)) ≡ waiting_in size (Some w)
+    by true = refl
+    by false = refl
 
 -- who isn't woken has its row still
 stays_waked : (test : On → Bool) (old new : Option Waiting) (w : Waiting) → Waked test old new → old ≡ Some w → test w.on ≡ false → new ≡ Some w
@@ -36,10 +39,11 @@ pub waits_woken : (maps : Mapped) (chains : ChainTable) (rs : ResidentTable) (os
     → ((o p : ℕ) (row : PageRow) → row_at rs o p ≡ Some row → is_awaited row ≡ true → who (on.Page (page_key o p)) ≡ false) → HasWaiters maps chains rs os rows2 (is_woken woken.Nobody) at
 waits_woken maps chains rs os rows rows2 who at has wakes apart =
     record {
-      is = λ t here. has.is t here ∙ told_same (entry rows t) (entry rows2 t) (waked_wants who (entry rows t) (entry rows2 t) (wakes t));
-      allowed = λ t v is. waked_cases {P = IsAllowed maps t (address_in v.want) (need_in v.want)} who (entry rows t) (entry rows2 t) v (wakes t) is (λ was asleep. has.allowed t v was)
-          (λ w was passes same. subst (λ (z : Waiting). IsAllowed maps t (address_in z.want) (need_in z.want)) same (has.allowed t w was));
-      sized = λ t v is. waked_cases {P = IsSizedWant v.want} who (entry rows t) (entry rows2 t) v (wakes t) is (λ was asleep. has.sized t v was) (λ w was passes same. subst (λ (z : Waiting). IsSizedWant z.want) same (has.sized t w was));
+      is = λ t here. has.is t here ∙ told_same maps.size who (entry rows t) (entry rows2 t) (wakes t);
+      allowed = λ t v is. waked_cases {P = IsAllowed maps t (address_in maps.size v.want) (need_in v.want)} who (entry rows t) (entry rows2 t) v (wakes t) is (λ was asleep. has.allowed t v was)
+          (λ w was passes same. subst (λ (z : Waiting). IsAllowed maps t (address_in maps.size z.want) (need_in z.want)) same (has.allowed t w was));
+      sized = λ t v is. waked_cases {P = IsSizedWant maps.size v.want} who (entry rows t) (entry rows2 t) v (wakes t) is (λ was asleep. has.sized t v was) (λ w was passes same. subst (λ (z : Waiting). IsSizedWant maps.size z.want) same (has.sized t w was));
+      numbers = λ t v is. waked_cases {P = IsOfNumber v.want} who (entry rows t) (entry rows2 t) v (wakes t) is (λ was asleep. has.numbers t v was) (λ w was passes same. subst (λ (z : Waiting). IsOfNumber z.want) same (has.numbers t w was));
       reasons = λ t v is asleep. waked_cases {P = Reason maps chains rs os t v.want v.on} who (entry rows t) (entry rows2 t) v (wakes t) is (λ was still. has.reasons t v was still)
           (λ w was passes same. subst (λ (z : Waiting). Reason maps chains rs os t z.want z.on) same tt);
       aims = λ t v key is waits. waked_cases {P = IsPlaceOf maps chains t v.want key} who (entry rows t) (entry rows2 t) v (wakes t) is (λ was asleep. has.aims t v key was waits)

@@ -1,4 +1,5 @@
 pub mod Counts
+pub mod Filling
 pub mod Pagers
 pub mod Places
 pub mod References

@@ -1,5 +1,5 @@
 -- What a kernel's tables say of a history: each table by itself, of the facts that it stands for.
-use Rattle.std.specs.Prelude.{ℕ, All, if◌then◌else◌, ◌≢◌, ◌≡◌, ◌+◌, ◌<◌, ◌≤◌, ◌^◌, ◌==◌, ◌||◌, nat_lt, is_some, ◌⊎◌, Bool, true, false, List, [], ◌∷◌, length, Option, Some, None, IsSome}
+use Rattle.std.specs.Prelude.{ℕ, All, if◌then◌else◌, ◌≢◌, ◌≡◌, ◌+◌, ◌<◌, ◌≤◌, ◌^◌, ◌==◌, ◌||◌, is_some, ◌⊎◌, Bool, true, false, List, [], ◌∷◌, length, Option, Some, None, IsSome}
 use Rattle.vm_base.specs.declared.entry.Entry.{Entry}
 use Rattle.vm_base.specs.declared.ids.FrameNo.{FrameNo}
 use Rattle.vm_base.specs.declared.ids.Inherit.TheVariants.{Copy}
@@ -29,9 +29,11 @@ use Rattle.vm_shadow.specs.declared.region_row.RegionRow.{RegionRow}
 use Rattle.vm_shadow.specs.declared.shadow_row.ShadowRow.{ShadowRow}
 use Rattle.vm_terminate.specs.Finishes.{IsReferred}
 use Rattle.vm_state.specs.Counts.{all_tasks, count_by, count_on}
+use Rattle.vm_state.specs.Filling.{IsUsed}
 use Rattle.vm_state.specs.Pagers.{has_pager, last_in, live_in, ready_in}
 use Rattle.vm_state.specs.Places.{has_region, local_of_row, region_pages}
 use Rattle.vm_state.specs.References.{references_to}
+use Rattle.vm_waits.specs.declared.waiting.Waiting.{Waiting}
 
 -- the tasks that live here, and their entries
 pub record HasTasks (h size : ℕ) (maps : Mapped) (host_at : ℕ → Option ℕ) (rows_at : ℕ → List Entry) : Type 0 where
@@ -124,10 +126,10 @@ abbrev pub is_among : ℕ → List ℕ → Bool
 is_among n [] = false
 is_among n (m ∷ more) = m == n || is_among n more
 
--- The temporary regions in use are those on which some task here has an entry, and a file's region is one of them if some has; all tasks that live here were
--- made. Tasks elsewhere hold none of the regions in use, and none that isn't made yet.
-pub record HasUse (header : Header) (maps : Mapped) (used_at : ℕ → Bool) (made : List ℕ) (held_at : ℕ → ℕ → Bool) (regions_made : ℕ) : Type 0 where
-  pub used : (r : ℕ) → named header ≤ r → used_at r ≡ nat_lt 0 (count_by all_tasks r maps)
+-- The temporary regions in use are those on which some task here has an entry, or that it fills by a slow copy that waits, and a file's region is one of them if
+-- some has an entry; all tasks that live here were made. Tasks elsewhere hold none of the regions in use, and none that isn't made yet.
+pub record HasUse (header : Header) (maps : Mapped) (rows : List Waiting) (used_at : ℕ → Bool) (made : List ℕ) (held_at : ℕ → ℕ → Bool) (regions_made : ℕ) : Type 0 where
+  pub used : (r : ℕ) → named header ≤ r → IsUsed maps rows r (used_at r)
   pub files : (r : ℕ) → is_file header r ≡ true → 0 < count_by all_tasks r maps → used_at r ≡ true
   pub among : (task : ℕ) (rows : List Entry) → entries_in task maps ≡ Some rows → is_among task made ≡ true
   pub apart : (task r : ℕ) → entries_in task maps ≡ None → (used_at r ≡ true) ⊎ (regions_made ≤ r) → held_at task r ≡ false
@@ -165,7 +167,3 @@ pub record HasFrames (most : Option ℕ) (frames : FrameTable) (held_now wired_n
   pub held : held_now ≡ claimed frames
   pub wired : wired_now ≡ frames.wired
   pub fits : claimed frames + frames.wired ≤ frame_count frames
-
--- each region has an entry
-abbrev pub AllUsed : ChainTable → Type 0
-AllUsed chains = (r : ℕ) (row : RegionRow) → region_at chains r ≡ Some row → 0 < row.entries

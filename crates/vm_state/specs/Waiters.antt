@@ -1,8 +1,8 @@
 -- The accesses that wait on a host, as its kernel keeps them, and what each waits for.
-use Rattle.std.specs.Prelude.{ℕ, zero, suc, ◌≤◌, ◌≡◌, ◌||◌, ◌⊎◌, not, Bool, true, false, List, [], ◌∷◌, Option, Some, None, is_some}
+use Rattle.std.specs.Prelude.{ℕ, zero, suc, ◌*◌, ◌≤◌, ◌≡◌, ◌||◌, ◌⊎◌, not, Bool, true, false, List, [], ◌∷◌, Option, Some, None, is_some}
 use Rattle.vm_base.specs.declared.ids.PageKey.{PageKey}
 use Rattle.vm_maps.specs.Maps.{Mapped, entries_in}
-use Rattle.vm_model.specs.Waiting.{Access, Loading, Storing}
+use Rattle.vm_model.specs.Waiting.{Access, Copying, Loading, Storing}
 use Rattle.vm_objects.specs.Objects.{ObjectTable, object_at}
 use Rattle.vm_objects.specs.declared.row.ObjectRow.{ObjectRow}
 use Rattle.vm_objects.specs.declared.row.PagerState.TheVariants as state
@@ -13,7 +13,8 @@ use Rattle.vm_shadow.specs.Chains.{ChainTable}
 use Rattle.vm_supply.specs.declared.woken.Woken.{Woken}
 use Rattle.vm_supply.specs.declared.woken.Woken.TheVariants as woken
 use Rattle.vm_waits.specs.Waits.{entry, woken_page, woken_ready}
-use Rattle.vm_waits.specs.Wants.{IsSizedWant, address_in, need_in}
+use Rattle.vm_waits.specs.Wants.{IsOfNumber, IsSizedWant, address_in, need_in}
+use Rattle.vm_waits.specs.declared.waiting.Destination.{Destination}
 use Rattle.vm_waits.specs.declared.waiting.On.{On}
 use Rattle.vm_waits.specs.declared.waiting.On.TheVariants as on
 use Rattle.vm_waits.specs.declared.waiting.Waiting.{Waiting}
@@ -22,14 +23,20 @@ use Rattle.vm_waits.specs.declared.waiting.Want.TheVariants as want
 use Rattle.vm_maps.specs.Judge.{IsAllowed}
 use Rattle.vm_state.specs.Pagers.{ready_in}
 
--- the access as the history has it
-abbrev pub access_in : Want → Access
-access_in (want.Load address size) = Loading address size
-access_in (want.Store address size value) = Storing address size value
+-- where a slow copy's pages are to be mapped
+abbrev pub copies_to : Option Destination → ℕ
+copies_to None = 0
+copies_to (Some destination) = destination.address
 
-abbrev pub waiting_in : Option Waiting → Option Access
-waiting_in None = None
-waiting_in (Some w) = Some (access_in w.want)
+-- the access as the history has it: pages are of this size, and a slow copy goes to this address
+abbrev pub access_in : ℕ → ℕ → Want → Access
+access_in size to (want.Load address bytes) = Loading address bytes
+access_in size to (want.Store address bytes value) = Storing address bytes value
+access_in size to (want.CopyTo address pages target next) = Copying address (pages * size) to
+
+abbrev pub waiting_in : ℕ → Option Waiting → Option Access
+waiting_in size None = None
+waiting_in size (Some w) = Some (access_in size (copies_to w.destination) w.want)
 
 -- so many places further down a chain stands another
 abbrev pub LeadsTo : ChainTable → ℕ → PageKey → PageKey → Type 0
@@ -93,12 +100,13 @@ is_woken (woken.ReadyOf object) reason = woken_ready object.0 reason
 is_woken (woken.Page key) reason = woken_page key reason
 is_woken (woken.Fails key) reason = woken_page key reason
 
--- The accesses of tasks here that wait in the history wait here, each with an entry that allows it, within a page; each has a reason, but those that are to be woken
--- may have lost theirs; and somebody waits for each page that is asked, whose pager is ready, and for each unlock that is outstanding.
+-- The accesses of tasks here that wait in the history wait here, each with an entry that allows it, within a page, and no slow copy waits; each has a reason, but those
+-- that are to be woken may have lost theirs; and somebody waits for each page that is asked, whose pager is ready, and for each unlock that is outstanding.
 pub record HasWaiters (maps : Mapped) (chains : ChainTable) (resident : ResidentTable) (objects : ObjectTable) (rows : List Waiting) (who : On → Bool) (waiting_at : ℕ → Option Access) : Type 0 where
-  pub is : (t : ℕ) → is_some (entries_in t maps) ≡ true → waiting_at t ≡ waiting_in (entry rows t)
-  pub allowed : (t : ℕ) (w : Waiting) → entry rows t ≡ Some w → IsAllowed maps t (address_in w.want) (need_in w.want)
-  pub sized : (t : ℕ) (w : Waiting) → entry rows t ≡ Some w → IsSizedWant w.want
+  pub is : (t : ℕ) → is_some (entries_in t maps) ≡ true → waiting_at t ≡ waiting_in maps.size (entry rows t)
+  pub allowed : (t : ℕ) (w : Waiting) → entry rows t ≡ Some w → IsAllowed maps t (address_in maps.size w.want) (need_in w.want)
+  pub sized : (t : ℕ) (w : Waiting) → entry rows t ≡ Some w → IsSizedWant maps.size w.want
+  pub numbers : (t : ℕ) (w : Waiting) → entry rows t ≡ Some w → IsOfNumber w.want
   pub reasons : (t : ℕ) (w : Waiting) → entry rows t ≡ Some w → who w.on ≡ false → Reason maps chains resident objects t w.want w.on
   pub aims : (t : ℕ) (w : Waiting) (key : PageKey) → entry rows t ≡ Some w → w.on ≡ on.Page key → IsPlaceOf maps chains t w.want key
   pub askers : (o p : ℕ) (row : PageRow) → row_at resident o p ≡ Some row → is_awaited row ≡ true → Asker rows o p

@@ -1,8 +1,7 @@
 use Rattle.vm_kernel.proofs.Common.{ap, count_again, refl, ◌∙◌}
 use Rattle.vm_kernel.proofs.Growing.{on_ok}
 use Rattle.vm_kernel.proofs.Playing.{plays_both, plays_told}
-use Rattle.vm_waits.specs.declared.waiting.Want.TheVariants as want
-use Rattle.vm_kernel.proofs.Beginning.{begun_next, begun_ran, begun_works}
+use Rattle.vm_kernel.proofs.Beginning.{Loads, begun_next, begun_ran, begun_works}
 use Rattle.vm_kernel.proofs.Served.{three_ok}
 use Rattle.vm_model.specs.declared.event.Event.TheVariants as event
 use Rattle.vm_kernel.proofs.Turning.{quiet_more, restarts_behind}
@@ -10,15 +9,15 @@ use Rattle.vm_kernel.proofs.parts.Parts.load.Goals as goal
 
 pub restart-requires : goal.restart-requires
 restart-requires g c =
-    begun_works g.given.header g.given.host g.given.command c.args.task (want.Load c.args.address c.args.size) g.given.past c.args.self.now c.args.ids.now c.args.log.now.items c.push.new.self.items c.reserve.new.self c.begin.new.self
+    begun_works g.given.header g.given.host g.given.command c.args.task (Loads c.args.address c.args.size) g.given.past c.args.self.now c.args.ids.now c.args.log.now.items c.push.new.self.items c.reserve.new.self c.begin.new.self
     c.requires.0 c.requires.1 c.in_ok-push.ensures.ok c.reserve.ensures.rows c.begin.ensures.entry c.begin.ensures.rows
 
 pub returns-clause-ran : goal.returns-clause-ran
 returns-clause-ran g c =
     let next =
-    begun_next c.args.task (want.Load c.args.address c.args.size) c.reserve.new.self.rows c.begin.new.self.rows (ap count_again c.reserve.ensures.rows ∙ c.requires.1.rests.idle) c.begin.ensures.again c.begin.ensures.entry in
+    begun_next c.args.task (Loads c.args.address c.args.size) c.reserve.new.self.rows c.begin.new.self.rows (ap count_again c.reserve.ensures.rows ∙ c.requires.1.rests.idle) c.begin.ensures.again c.begin.ensures.entry in
     three_ok c.restart.result _ _ _ _
-    (begun_ran g.given.header g.given.host g.given.outside g.given.command c.args.task (want.Load c.args.address c.args.size) g.given.past c.args.self.now c.restart.new.self c.args.ids.now c.restart.new.ids c.args.log.now.items c.push.new.self.items c.restart.new.log.items
+    (begun_ran g.given.header g.given.host g.given.outside g.given.command c.args.task (Loads c.args.address c.args.size) g.given.past c.args.self.now c.restart.new.self c.args.ids.now c.restart.new.ids c.args.log.now.items c.push.new.self.items c.restart.new.log.items
     c.begin.new.self.rows c.requires.0 c.requires.1 c.in_ok-push.ensures.ok next)
     c.restart.ensures.rests c.restart.ensures.goes c.restart.ensures.first
 

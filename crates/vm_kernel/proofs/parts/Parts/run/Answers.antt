@@ -1,5 +1,5 @@
 use Rattle.vm_kernel.proofs.Common.{Command, Ran, subst, sym}
-use Rattle.vm_kernel.proofs.Built.{none_unknown, pageout_of}
+use Rattle.vm_kernel.proofs.Built.{none_unknown, pageout_of, task_of}
 use Rattle.vm_kernel.proofs.Growing.{on_ok}
 use Rattle.vm_kernel.proofs.Turning.{restarts_quiet}
 use Rattle.vm_kernel.proofs.parts.Parts.run.Goals as goal
@@ -22,6 +22,11 @@ returns-in_default-clause-ran g c =
       wire = c.in_default.not-Wire;
       unwire = c.in_default.not-Unwire;
     }))
+
+pub returns-in-Task-clause-ran : goal.returns-in-Task-clause-ran
+returns-in-Task-clause-ran g c =
+    let is = task_of g.given.header g.given.host c.args.command.now g.given.past c.args.self.now c.args.ids.now c.args.log.now.items c.in-Task.task c.in-Task.host c.requires.0 c.in-Task.is in
+    on_ok c.make_task.result _ _ (λ ran. subst (λ (z : Command). Ran g.given.header g.given.host g.given.outside z g.given.past c.make_task.new.self c.args.ids.now c.make_task.new.log.items) (sym is) ran) c.make_task.ensures.ran
 
 pub returns-in-Pageout-clause-ran : goal.returns-in-Pageout-clause-ran
 returns-in-Pageout-clause-ran g c =

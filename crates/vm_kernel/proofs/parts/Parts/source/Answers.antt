@@ -6,7 +6,7 @@ use Rattle.vm_kernel.proofs.parts.Parts.source.Goals as goal
 pub source-requires : goal.source-requires
 source-requires g c =
     walks_down g.given.header g.given.host c.args.self.now c.args.ids.now (c.args.log.now.items ++ g.given.past) [] c.in_ok-waiting.waiting.task.0 c.in_ok-waiting.waiting.want c.requires.matches
-    (c.requires.waits.allowed c.in_ok-waiting.waiting.task.0 c.in_ok-waiting.waiting c.in_ok-waiting.ensures.row.0)
+    (c.requires.waits.allowed c.in_ok-waiting.waiting.task.0 c.in_ok-waiting.waiting c.in_ok-waiting.ensures.row.0) (c.requires.waits.sized c.in_ok-waiting.waiting.task.0 c.in_ok-waiting.waiting c.in_ok-waiting.ensures.row.0)
 
 pub returns : goal.returns
 returns g c =

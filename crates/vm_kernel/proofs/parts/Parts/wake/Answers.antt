@@ -1,13 +1,15 @@
 use Rattle.vm_kernel.proofs.Common.{Still, [], refl, rules, woken_page, woken_ready}
 use Rattle.vm_kernel.proofs.Ordering.{woken_keeps}
+use Rattle.vm_kernel.proofs.Untold.{matches_with}
+use Rattle.vm_state.proofs.Filling.{fills_waked, used_waked}
 use Rattle.vm_state.proofs.Waking.{waits_woken}
 use Rattle.vm_kernel.proofs.parts.Parts.wake.Goals as goal
 
 pub returns-in-ReadyOf-clause-works : goal.returns-in-ReadyOf-clause-works
 returns-in-ReadyOf-clause-works g c =
     record {
-      matches = search rules;
-      used = search rules;
+      matches = matches_with _ _ c.wake_ready.new.self (fills_waked _ c.args.self.now.waits.rows c.wake_ready.new.self.rows c.wake_ready.ensures.entry) c.requires.0.matches.fits.parts refl c.requires.0.matches;
+      used = used_waked _ c.args.self.now.waits.rows c.wake_ready.new.self.rows c.requires.0.used c.wake_ready.ensures.entry;
       referred = search rules;
       waits = waits_woken _ _ _ _ c.args.self.now.waits.rows c.wake_ready.new.self.rows _ _ (rw c.in-ReadyOf.is at c.requires.0).waits c.wake_ready.ensures.entry (λ o p row found awaits. refl);
       order = (woken_keeps (woken_ready c.in-ReadyOf.object.0) c.args.self.now.waits.rows c.wake_ready.new.self.rows c.wake_ready.ensures.rows).keeps _ 0 c.requires.0.order;
@@ -16,8 +18,8 @@ returns-in-ReadyOf-clause-works g c =
 pub returns-in-Page-clause-works : goal.returns-in-Page-clause-works
 returns-in-Page-clause-works g c =
     record {
-      matches = search rules;
-      used = search rules;
+      matches = matches_with _ _ c.wake_page.new.self (fills_waked _ c.args.self.now.waits.rows c.wake_page.new.self.rows c.wake_page.ensures.entry) c.requires.0.matches.fits.parts refl c.requires.0.matches;
+      used = used_waked _ c.args.self.now.waits.rows c.wake_page.new.self.rows c.requires.0.used c.wake_page.ensures.entry;
       referred = search rules;
       waits = waits_woken _ _ _ _ c.args.self.now.waits.rows c.wake_page.new.self.rows _ _ (rw c.in-Page.is at c.requires.0).waits c.wake_page.ensures.entry (rw c.in-Page.is at c.requires.1.1.1.1).at;
       order = (woken_keeps (woken_page c.in-Page.key) c.args.self.now.waits.rows c.wake_page.new.self.rows c.wake_page.ensures.rows).keeps _ 0 c.requires.0.order;
