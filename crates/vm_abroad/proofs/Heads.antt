@@ -1,5 +1,5 @@
 -- Behind each region that the commands make stands its entry.
-use Rattle.std.proofs.Common.{length, ◌≡◌, ℕ, ◌+◌, ◌-◌, ◌/◌, ◌==◌, Bool, true, false, not, List, [], ◌∷◌, ◌++◌, reverse, Option, Some, None, MatchOption, append_assoc, refl, ap, sym, ◌∙◌, subst}
+use Rattle.std.proofs.Common.{length, ◌≡◌, ℕ, ◌+◌, ◌-◌, ◌/◌, ◌==◌, ◌&&◌, Bool, true, false, not, List, [], ◌∷◌, ◌++◌, reverse, Option, Some, None, MatchOption, append_assoc, refl, ap, sym, ◌∙◌, subst}
 use mathlib.Core.List.{reverse_aux}
 use Rattle.std.specs.Prelude.{if◌then◌else◌, nat_lt}
 use Rattle.vm_base.specs.declared.code.Code.{Code}
@@ -96,17 +96,35 @@ forked size next child None rows first past is was = no_head first past is
 forked size next child (Some host) rows first past is was =
     plain (event.TaskMade child (record { 0 = host }) ∷ inherits_all size child next rows) first past ((λ r h. refl), all_none size child next rows) is was
 
-copied : (declared size next address bytes : ℕ) (target : TaskId) (to : ℕ) (x : Option Entry) (first past : List Event) → copy_head declared size next address bytes target to x ≡ Some first → Paired past → Paired (reverse first ++ past)
-copied declared size next address bytes target to None first past is was = no_head first past is
-copied declared size next address bytes target to (Some row) first past is was = by (nat_lt row.region.0 declared) is
+none_left : (b : Bool) → (b && false) ≡ false
+none_left true = refl
+none_left false = refl
+
+-- a region behind the beginning of a slow copy waits for no entry
+begun_and_made : (begun made : Event) (first past : List Event) → Some (begun ∷ made ∷ []) ≡ Some first → MakesNone begun → ((region : ℕ) → is_open region (made ∷ begun ∷ past) ≡ false) → Paired past → Paired (reverse first ++ past)
+begun_and_made begun made first past is none shut was =
+    let same : begun ∷ made ∷ [] ≡ first = cc in
+    let front : Paired (begun ∷ past) = paired (begun ∷ []) past (none, tt) was in
+    subst (λ (z : List Event). Paired (reverse z ++ past)) same (record { each = (next_shut made (begun ∷ past) front.shut, front.each); shut = shut })
+
+copied : (declared size next object : ℕ) (task : TaskId) (address bytes : ℕ) (target : TaskId) (to : ℕ) (x : Option Entry) (first past : List Event) → copy_head declared size next object task address bytes target to x ≡ Some first → Paired past
+    → Paired (reverse first ++ past)
+copied declared size next object task address bytes target to None first past is was = no_head first past is
+copied declared size next object task address bytes target to (Some row) first past is was = by (nat_lt row.region.0 declared) is
   where
+    begun : Event
+    begun = event.BegunCopy task address bytes to
+
+    made : Event
+    made = event.RegionMade (record { 0 = next }) (record { 0 = object }) (bytes / size)
+
     events : List Event
     events =
         event.RegionCopied (record { 0 = next }) row.region (page_at size address row) (bytes / size)
         ∷ event.Entered target to bytes (record { 0 = next }) 0 (record { read = true; write = true }) Copy ∷ []
 
-    by : (b : Bool) → (if b then None else Some events) ≡ Some first → Paired (reverse first ++ past)
-    by true is = no_head first past is
+    by : (b : Bool) → Some (if b then begun ∷ made ∷ [] else events) ≡ Some first → Paired (reverse first ++ past)
+    by true is = begun_and_made begun made first past is (λ region front. refl) (λ region. none_left (region == next)) was
     by false is = plain events first past ((λ r h. refl), ((λ r h. refl), tt)) is was
 
 taken : (channel : Channel) (x : Option Message) (first past : List Event) → take_head channel x ≡ Some first → Paired past → Paired (reverse first ++ past)
@@ -152,7 +170,7 @@ head_paired header before past (command.Load task address size) first is was = p
 head_paired header before past (command.Store task address size value) first is was = plain (event.BegunStore task address size value ∷ []) first past ((λ r h. refl), tt) is was
 head_paired header before past (command.Fork task child) first is was = forked header.size (next_region header before) child (host_of task.0 before) (entries_of header.size task.0 before) first past is was
 head_paired header before past (command.Copy task address bytes target to) first is was =
-    copied (named header) header.size (next_region header before) address bytes target to (entry_at address (entries_of header.size task.0 before)) first past is was
+    copied (named header) header.size (next_region header before) (next_object header before) task address bytes target to (entry_at address (entries_of header.size task.0 before)) first past is was
 head_paired header before past (command.Exit task) first is was = plain (event.TaskEnded task ∷ []) first past ((λ r h. refl), tt) is was
 head_paired header before past (command.Deallocate task address bytes) first is was = plain (event.Removed task address bytes ∷ []) first past ((λ r h. refl), tt) is was
 head_paired header before past (command.Protect task address bytes prot) first is was = plain (event.Protected task address bytes prot ∷ []) first past ((λ r h. refl), tt) is was

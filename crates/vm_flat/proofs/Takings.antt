@@ -108,17 +108,20 @@ forked : (size next : ℕ) (child : TaskId) (x : Option ℕ) (rows : List Entry)
 forked size next child None rows first is = no_head first is
 forked size next child (Some host) rows first is = plain (event.TaskMade child (record { 0 = host }) ∷ inherits_all size child next rows) first (tt, all_inner size child next rows) is
 
-copied : (declared size next address bytes : ℕ) (target : TaskId) (to : ℕ) (x : Option Entry) (first : List Event) → copy_head declared size next address bytes target to x ≡ Some first → IsHead first
-copied declared size next address bytes target to None first is = no_head first is
-copied declared size next address bytes target to (Some row) first is = by (nat_lt row.region.0 declared) is
+copied : (declared size next object : ℕ) (task : TaskId) (address bytes : ℕ) (target : TaskId) (to : ℕ) (x : Option Entry) (first : List Event) → copy_head declared size next object task address bytes target to x ≡ Some first → IsHead first
+copied declared size next object task address bytes target to None first is = no_head first is
+copied declared size next object task address bytes target to (Some row) first is = by (nat_lt row.region.0 declared) is
   where
+    slow : List Event
+    slow = event.BegunCopy task address bytes to ∷ event.RegionMade (record { 0 = next }) (record { 0 = object }) (bytes / size) ∷ []
+
     events : List Event
     events =
         event.RegionCopied (record { 0 = next }) row.region (page_at size address row) (bytes / size)
         ∷ event.Entered target to bytes (record { 0 = next }) 0 (record { read = true; write = true }) Copy ∷ []
 
-    by : (b : Bool) → (if b then None else Some events) ≡ Some first → IsHead first
-    by true is = no_head first is
+    by : (b : Bool) → Some (if b then slow else events) ≡ Some first → IsHead first
+    by true is = plain slow first (tt, (tt, tt)) is
     by false is = plain events first (tt, (tt, tt)) is
 
 taken : (channel : Channel) (x : Option Message) (first : List Event) → take_head channel x ≡ Some first → IsHead first
@@ -156,7 +159,7 @@ is_head header before (command.Task task host) first is = plain (event.TaskMade 
 is_head header before (command.Load task address size) first is = plain (event.BegunLoad task address size ∷ []) first (tt, tt) is
 is_head header before (command.Store task address size value) first is = plain (event.BegunStore task address size value ∷ []) first (tt, tt) is
 is_head header before (command.Fork task child) first is = forked header.size (next_region header before) child (host_of task.0 before) (entries_of header.size task.0 before) first is
-is_head header before (command.Copy task address bytes target to) first is = copied (named header) header.size (next_region header before) address bytes target to (entry_at address (entries_of header.size task.0 before)) first is
+is_head header before (command.Copy task address bytes target to) first is = copied (named header) header.size (next_region header before) (next_object header before) task address bytes target to (entry_at address (entries_of header.size task.0 before)) first is
 is_head header before (command.Exit task) first is = plain (event.TaskEnded task ∷ []) first (tt, tt) is
 is_head header before (command.Deallocate task address bytes) first is = plain (event.Removed task address bytes ∷ []) first (tt, tt) is
 is_head header before (command.Protect task address bytes prot) first is = plain (event.Protected task address bytes prot ∷ []) first (tt, tt) is

@@ -2,6 +2,7 @@ pub mod Answering
 pub mod Completing
 pub mod Files
 pub mod Groups
+pub mod Heads
 pub mod Inside
 pub mod LockNames
 pub mod Locks

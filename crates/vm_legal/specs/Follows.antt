@@ -61,14 +61,16 @@ abbrev pub fork_head : ℕ → ℕ → TaskId → Option ℕ → List Entry → 
 fork_head size next child None rows = None
 fork_head size next child (Some host) rows = Some (event.TaskMade child (record { 0 = host }) ∷ inherits_all size child next rows)
 
--- a task gets a range on a copy of pages of a temporary region, those at an address of an entry; of a declared object's region no copy is run
-abbrev pub copy_head : ℕ → ℕ → ℕ → ℕ → ℕ → TaskId → ℕ → Option Entry → Option (List Event)
-copy_head declared size next address bytes target to None = None
-copy_head declared size next address bytes target to (Some row) =
-    if nat_lt row.region.0 declared then None
-    else
+-- a task gets a range on a copy of pages of a temporary region, those at an address of an entry; a copy of a declared object's region begins
+-- with a region of its own, into which its pages come later
+abbrev pub copy_head : ℕ → ℕ → ℕ → ℕ → TaskId → ℕ → ℕ → TaskId → ℕ → Option Entry → Option (List Event)
+copy_head declared size next object task address bytes target to None = None
+copy_head declared size next object task address bytes target to (Some row) =
     Some
-    (event.RegionCopied (record { 0 = next }) row.region (page_at size address row) (bytes / size)
+    (if nat_lt row.region.0 declared
+    then event.BegunCopy task address bytes to ∷ event.RegionMade (record { 0 = next }) (record { 0 = object }) (bytes / size) ∷ []
+    else
+    event.RegionCopied (record { 0 = next }) row.region (page_at size address row) (bytes / size)
     ∷ event.Entered target to bytes (record { 0 = next }) 0 (record { read = true; write = true }) Copy ∷ [])
 
 -- the oldest message of a channel is taken, where there is one
@@ -124,7 +126,7 @@ head header past (command.FailPaging count) = Some []
 head header past (command.Say host object m) = say_head host object m (live_control host.0 object.0 past)
 head header past (command.Map task address bytes object offset) = map_head header task address bytes object offset past (host_of task.0 past)
 head header past (command.Copy task address bytes target to) =
-    copy_head (named header) header.size (next_region header past) address bytes target to (entry_at address (entries_of header.size task.0 past))
+    copy_head (named header) header.size (next_region header past) (next_object header past) task address bytes target to (entry_at address (entries_of header.size task.0 past))
 head header past (command.Clean object page count flush) = Some (clean_head object page count flush (known_below (length header.frames.items) object.0 past))
 
 -- the event is no part of a head, nor a line; an entry is none where it is owed
