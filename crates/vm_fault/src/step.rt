@@ -5,7 +5,7 @@ use vm_base::{ObjectId, PageKey};
 /// waits was taken, or with a frame.
 #[derive(Clone, Copy, Debug, PartialEq, Eq)]
 pub enum FaultStep {
-    /// It has ended, with the number that it loaded or stored.
+    /// It has ended, with the number that it loaded or stored; a slow copy ends with 0.
     Done { value: u64 },
     /// A page was asked for (memory_object_data_request).
     Ask { key: PageKey },

@@ -200,7 +200,6 @@ module _ (header : Header) (h : ℕ) (k : Parts) (ids next : Ids) (past new : Li
         is = λ t here. (same.task t (living t here)).waiting ∙ has.is t here;
         allowed = has.allowed;
         sized = has.sized;
-        numbers = has.numbers;
         reasons = has.reasons;
         aims = has.aims;
         askers = has.askers;

@@ -23,6 +23,7 @@ use Rattle.vm_kernel.proofs.After.{controls_stay, regions_behind}
 use Rattle.vm_kernel.proofs.Untold.{matches_with}
 use Rattle.vm_kernel.proofs.Replied.{replied_behind}
 use Rattle.vm_state.specs.References.{MayLock}
+use Rattle.vm_waits.specs.Wants.{IsOfNumber}
 
 -- who is run waits for no page of which a word is outstanding
 pub asks_none_now : (k : Parts) (reason : On) → runs_now reason ≡ true → AsksNone k.memory.resident reason
@@ -169,17 +170,17 @@ works_touched header h past k ids who frame memory touched works = subst (λ (z 
 -- an access ends
 
 -- a load or a store fills nothing
-fills_none : (header : Header) (h : ℕ) (past : List Event) (k : Parts) (ids : Ids) (w : Waiting) → Works header h k ids woken.Nobody past → entry k.waits.rows w.task.0 ≡ Some w → w.destination ≡ None
-fills_none header h past k ids w works is =
-    number_fills header k.maps k.chains k.memory.resident w.task.0 w.want w.destination (next_page w.task.0 past) (copy_target w.task.0 past) (works.waits.numbers w.task.0 w is) (works.used.copies.each w.task.0 w is)
+fills_none : (header : Header) (h : ℕ) (past : List Event) (k : Parts) (ids : Ids) (w : Waiting) → IsOfNumber w.want → Works header h k ids woken.Nobody past → entry k.waits.rows w.task.0 ≡ Some w → w.destination ≡ None
+fills_none header h past k ids w number works is =
+    number_fills header k.maps k.chains k.memory.resident w.task.0 w.want w.destination (next_page w.task.0 past) (copy_target w.task.0 past) number (works.used.copies.each w.task.0 w is)
 
 -- with a load
-pub works_loaded : (header : Header) (h : ℕ) (past : List Event) (k : Parts) (ids : Ids) (w : Waiting) (key : PageKey) (value : ℕ) (waits2 : WaitTable) → Works header h k ids woken.Nobody past → entry k.waits.rows w.task.0 ≡ Some w → runs_now w.on ≡ true
+pub works_loaded : (header : Header) (h : ℕ) (past : List Event) (k : Parts) (ids : Ids) (w : Waiting) (key : PageKey) (value : ℕ) (waits2 : WaitTable) → IsOfNumber w.want → Works header h k ids woken.Nobody past → entry k.waits.rows w.task.0 ≡ Some w → runs_now w.on ≡ true
     → PutsInOrder w.task.0 None k.waits.rows waits2.rows → Works header h (record k { waits = waits2 }) ids woken.Nobody (event.Loaded w.task key.object key.page value ∷ past)
-works_loaded header h past k ids w key value waits2 works is now put =
+works_loaded header h past k ids w key value waits2 number works is now put =
     let m = works.matches in
     let e : Event = event.Loaded w.task key.object key.page value in
-    let none_filled = fills_none header h past k ids w works is in
+    let none_filled = fills_none header h past k ids w number works is in
     let there = (works.waits.allowed w.task.0 w is).lives in
     record {
       matches = record {
@@ -212,17 +213,17 @@ works_loaded header h past k ids w key value waits2 works is now put =
     }
 
 -- with a store
-pub works_stored : (header : Header) (h : ℕ) (past : List Event) (k : Parts) (ids : Ids) (w : Waiting) (key : PageKey) (frame : FrameNo) (at size value : ℕ) (row : PageRow) (memory : HostParts) (waits2 : WaitTable) → Works header h k ids woken.Nobody past
+pub works_stored : (header : Header) (h : ℕ) (past : List Event) (k : Parts) (ids : Ids) (w : Waiting) (key : PageKey) (frame : FrameNo) (at size value : ℕ) (row : PageRow) (memory : HostParts) (waits2 : WaitTable) → IsOfNumber w.want → Works header h k ids woken.Nobody past
     → entry k.waits.rows w.task.0 ≡ Some w → runs_now w.on ≡ true → PutsInOrder w.task.0 None k.waits.rows waits2.rows → WritesPage key frame at size value k.memory memory
     → row_at k.memory.resident key.object.0 key.page.0 ≡ Some row → row.here ≡ true → keeps_out row.lock true ≡ false → Works header h (record k { memory = memory; waits = waits2 }) ids woken.Nobody (event.Stored w.task key.object key.page at size value ∷ past)
-works_stored header h past k ids w key frame at size value row memory waits2 works is now put wrote found here open_to =
+works_stored header h past k ids w key frame at size value row memory waits2 number works is now put wrote found here open_to =
     let m = works.matches in
     let c = wrote.page in
     let plan = wrote.plan in
     let o = key.object.0 in
     let p = key.page.0 in
     let e : Event = event.Stored w.task key.object key.page at size value in
-    let none_filled = fills_none header h past k ids w works is in
+    let none_filled = fills_none header h past k ids w number works is in
     let there = (works.waits.allowed w.task.0 w is).lives in
     let lives : host_of w.task.0 past ≡ Some h = lives_here m.tasks there in
     let bytes = little_endian_bytes size value in

@@ -1,5 +1,5 @@
 -- An access is run: what holds after each thing that it may come to.
-use Rattle.vm_kernel.proofs.Common.{Bool, Command, Event, Header, HostId, HostParts, Ids, IfSome, IsAt, IsOfNumber, JoinsQueue, LegalEvents, List, Matches, None, ObjectId, Option, Outside, PageKey, PageRow, Parts, RegionRow, Some, Up, WaitTable, Waiting, Want, Wants, WantsFrame, Works, [], access_in, address_in, ap, append_assoc, claimed, clean_row, count_again, entry, entry_at, false, free, host_id, if◌then◌else◌, inl, inr, named, one_again, one_frame, page_at, page_of, queued, refl, region_at, row_put, rows_in, some_is, subst, suc, sym, true, unlocked, with_on, zero, ℕ, ◌%◌, ◌&&◌, ◌++◌, ◌+◌, ◌-◌, ◌∙◌, ◌∷◌, ◌≡◌, ◌≤◌, ◌⊎◌}
+use Rattle.vm_kernel.proofs.Common.{Bool, Command, Event, Header, HostId, HostParts, Ids, IfSome, IsAt, IsOfNumber, LegalEvents, List, Matches, None, ObjectId, Option, Outside, PageKey, PageRow, Parts, RegionRow, Some, Up, WaitTable, Waiting, Want, Wants, WantsFrame, Works, [], access_in, address_in, ap, clean_row, entry, entry_at, false, free, host_id, if◌then◌else◌, inl, inr, named, page_at, page_of, refl, region_at, row_put, rows_in, some_is, subst, suc, sym, true, unlocked, with_on, zero, ℕ, ◌%◌, ◌&&◌, ◌++◌, ◌∙◌, ◌∷◌, ◌≡◌, ◌≤◌, ◌⊎◌}
 use Rattle.vm_kernel.proofs.Filled.{at_unfilled, entry_some}
 use Rattle.vm_state.proofs.Places.{on_its_region}
 use Rattle.vm_base.specs.declared.entry.Entry.{Entry}
@@ -12,12 +12,11 @@ use Rattle.vm_kernel.proofs.Asking.{works_asked, works_joined, works_turned}
 use Rattle.vm_kernel.proofs.Follows.{comes_at, loaded_follows, raised_follows, request_follows, shadowed_follows, stored_follows, zeroed_follows}
 use Rattle.vm_kernel.proofs.Growing.{goes_both, goes_none, goes_one, suffices}
 use Rattle.vm_kernel.proofs.Leading.{Leads, it_waits, leads_of, top_at}
-use Rattle.vm_kernel.proofs.Numbers.{no_copy}
 use Rattle.vm_kernel.proofs.Ordering.{PutsInOrder}
 use Rattle.vm_kernel.proofs.Own.{named_host, own_host}
 use Rattle.vm_kernel.proofs.Shadows.{works_shadowed}
+pub use Rattle.vm_kernel.proofs.States.{state_of, with_state}
 use Rattle.vm_kernel.specs.Serving.{IsToCopy, runs_now}
-use Rattle.vm_kernel.specs.Turns.{Bare, IsFront, Shadow}
 use Rattle.vm_legal.specs.Accesses as legal
 use Rattle.vm_model.specs.declared.event.Event.TheVariants as event
 use Rattle.vm_model.specs.declared.message.Message.TheVariants as message
@@ -35,14 +34,10 @@ use Rattle.std.proofs.lemmas.Bool.{and_parts}
 use Rattle.vm_kernel.proofs.Returning.{untold_temporary}
 use Rattle.vm_state.proofs.Declared.{kind_cases}
 use Rattle.std.specs.Prelude.{◌==◌}
-
--- what a fault may change of a kernel, and a kernel with that changed
-
-abbrev pub state_of : Parts → Ids → List Event → FaultState
-state_of k ids events = record { parts = k.memory; chains = k.chains; ids = ids; events = events }
-
-abbrev pub with_state : Parts → FaultState → Parts
-with_state k s = record k { memory = s.parts; chains = s.chains }
+use Rattle.vm_kernel.proofs.Sources.{wants_copy}
+use Rattle.std.proofs.lemmas.Bool.{or_right}
+use Rattle.std.specs.Prelude.{nat_lt}
+use Rattle.vm_fault.specs.Walks.{is_copying}
 
 -- the kernel behind some more events, which follow from what stood there
 pub record Reaches (header : Header) (h : ℕ) (outside : Outside) (doing : Command) (past events : List Event) (k : Parts) (ids : Ids) (after : List Event) : Type 0 where
@@ -58,7 +53,7 @@ pub record Tries (header : Header) (h : ℕ) (past : List Event) (k : Parts) (id
   pub clear : is_storing w.want ≡ true → at.row.marked ≡ false
 
 pub leads_there : (header : Header) (h : ℕ) (past : List Event) (k : Parts) (ids : Ids) (w : Waiting) (top : PageKey) → (t : Tries header h past k ids w top) → Leads header h past k w.task.0 w.want top t.at
-leads_there header h past k ids w top t = leads_of header h k ids past woken.Nobody w.task.0 w top t.works.matches t.works.waits t.is t.at
+leads_there header h past k ids w top t = leads_of header h k ids past woken.Nobody w.task.0 w top t.works.matches t.works.waits t.works.used.copies t.is t.at
 
 -- a want that stores
 pub record IsStore (what : Want) : Type 0 where
@@ -80,7 +75,7 @@ hit_load : (header : Header) (h : ℕ) (outside : Outside) (doing : Command) (pa
 hit_load header h outside doing past k ids w top events steps key row address size value e m2 waits2 t is finds out hits put =
     let moment = events ++ past in
     let loaded : Event = event.Loaded w.task key.object key.page value in
-    let works = works_loaded header h moment k ids w key value waits2 t.works t.is t.now put in
+    let works = works_loaded header h moment k ids w key value waits2 (subst IsOfNumber (sym is) tt) t.works t.is t.now put in
     let to = leads_there header h moment k ids w top t in
     let s = shown_at t.works.matches in
     let enough = suffices header h k.memory.frames (loaded ∷ moment) works.matches.frames in
@@ -98,7 +93,7 @@ hit_store header h outside doing past k ids w top events row address size number
     let moment = events ++ past in
     let mid : HostParts = hits.1.0 in
     let stored : Event = event.Stored w.task top.object top.page (address % header.size) size number in
-    let works = works_stored header h moment k ids w top row.frame (address % header.size) size number row mid waits2 t.works t.is t.now put hits.1.1 finds.found finds.here out in
+    let works = works_stored header h moment k ids w top row.frame (address % header.size) size number row mid waits2 (subst IsOfNumber (sym is) tt) t.works t.is t.now put hits.1.1 finds.found finds.here out in
     let to = leads_there header h moment k ids w top t in
     let s = shown_at t.works.matches in
     let enough = suffices header h mid.frames (stored ∷ moment) works.matches.frames in
@@ -156,11 +151,11 @@ top_temporary header h past k ids w top t sinks = elim (over.none) [
 
 -- it ends with its page, after a copy or zeros came, or at once
 ended : (header : Header) (h : ℕ) (outside : Outside) (doing : Command) (past : List Event) (k : Parts) (ids : Ids) (w : Waiting) (top : PageKey) (events : List Event) (value : ℕ) (m2 : HostParts) (after : List Event) (waits2 : WaitTable)
-    → Tries header h (events ++ past) k ids w top → Ended (host_id h) w.task w.want top (address_in k.maps.size w.want % header.size) value k.memory m2 k.chains events after
+    → IsOfNumber w.want → Tries header h (events ++ past) k ids w top → Ended (host_id h) w.task w.want top (address_in k.maps.size w.want % header.size) value k.memory m2 k.chains events after
     → PutsInOrder w.task.0 None k.waits.rows waits2.rows → Reaches header h outside doing past events (record k { memory = m2; waits = waits2 }) ids after
-ended header h outside doing past k ids w top events value m2 after waits2 t (AtOnce steps key row finds none out e hits told) put =
+ended header h outside doing past k ids w top events value m2 after waits2 number t (AtOnce steps key row finds none out e hits told) put =
     subst (λ (z : List Event). Reaches header h outside doing past events (record k { memory = m2; waits = waits2 }) ids z) (sym told) (hit header h outside doing past k ids w top events steps key row value e m2 waits2 t finds none out hits put)
-ended header h outside doing past k ids w top events value m2 after waits2 t (Raised steps key row finds stores out frame copied with_hit raises keeps e hits touched told) put =
+ended header h outside doing past k ids w top events value m2 after waits2 number t (Raised steps key row finds stores out frame copied with_hit raises keeps e hits touched told) put =
     let moment = events ++ past in
     let raised : Event = event.Raised (host_id h) key.object key.page top.object top.page in
     let to = leads_there header h moment k ids w top t in
@@ -179,7 +174,7 @@ ended header h outside doing past k ids w top events value m2 after waits2 t (Ra
       works = works_touched header h (e ∷ raised ∷ moment) (record k { memory = with_hit; waits = waits2 }) ids woken.Nobody row.frame m2 touched two.works;
       goes = goes_both header h outside doing past events (raised ∷ events) (e ∷ raised ∷ events) one two.goes;
     })
-ended header h outside doing past k ids w top events value m2 after waits2 t (AfterZeros sinks frame brought brings keeps e hits told) put =
+ended header h outside doing past k ids w top events value m2 after waits2 number t (AfterZeros sinks frame brought brings keeps e hits told) put =
     let moment = events ++ past in
     let zeros : Event = event.Zeroed (host_id h) top.object top.page in
     let to = leads_there header h moment k ids w top t in
@@ -193,8 +188,8 @@ ended header h outside doing past k ids w top events value m2 after waits2 t (Af
     let two = hit header h outside doing past (record k { memory = brought }) ids w top (zeros ∷ events) 0 top row2 value e m2 waits2 t1 there (λ is. refl) (plain_open row2.lock (writes_at w.want 0) refl) hits put in
     subst (λ (z : List Event). Reaches header h outside doing past events (record k { memory = m2; waits = waits2 }) ids z) (sym told)
     (record { works = two.works; goes = goes_both header h outside doing past events (zeros ∷ events) (e ∷ zeros ∷ events) one two.goes })
-ended header h outside doing past k ids w top events value m2 after waits2 t (Copied address pages next target is steps key row finds out is_none copies) put =
-    absurd (subst IsOfNumber is (t.works.waits.numbers w.task.0 w t.is))
+ended header h outside doing past k ids w top events value m2 after waits2 number t (Copied address pages next target is steps key row finds out is_none copies) put =
+    absurd (subst IsOfNumber is number)
 
 -- a place to which its walk leads is one of its places
 abbrev place_of_walk : (k : Parts) (w : Waiting) (top key : PageKey) (steps : ℕ) → IsAt k.maps k.chains w.task.0 w.want top → WalksTo k.memory k.chains steps top key → IsPlaceOf k.maps k.chains w.task.0 w.want key
@@ -245,10 +240,6 @@ unlocked_by header h outside doing past k ids w top key events m2 after waits2 t
 pub record Prepared (header : Header) (h : ℕ) (outside : Outside) (doing : Command) (past : List Event) (k : Parts) (ids : Ids) (w : Waiting) (events : List Event) (mid : FaultState) (top : PageKey) : Type 0 where
   pub tries : Tries header h (mid.events ++ past) (with_state k mid) mid.ids w top
   pub goes : LegalEvents header h outside doing past events mid.events
-  pub front : List Event
-  pub is_front : IsFront front
-  pub told : mid.events ≡ front ++ events
-  pub frames : mid.parts.frames ≡ k.memory.frames
 
 not_both : (a b : Bool) → (a && b) ≡ false → a ≡ true → b ≡ false
 not_both true b is one = is
@@ -274,7 +265,7 @@ prepared header h outside doing past k ids w may answer events new works is now 
     bare : (mid : FaultState) → state_of k ids events ≡ mid → (at : IsAt k.maps mid.chains w.task.0 w.want f.top) → (is_storing w.want ≡ true → at.row.marked ≡ false) → Prepared header h outside doing past k ids w events mid f.top
     bare mid same at clear =
         subst (λ (z : FaultState). (at2 : IsAt k.maps z.chains w.task.0 w.want f.top) → (is_storing w.want ≡ true → at2.row.marked ≡ false) → Prepared header h outside doing past k ids w events z f.top) same
-        (λ at2 clear2. record { tries = record { works = works; is = is; now = now; at = at2; clear = clear2 }; goes = goes_none header h outside doing past events; front = []; is_front = Bare; told = refl; frames = refl }) at clear
+        (λ at2 clear2. record { tries = record { works = works; is = is; now = now; at = at2; clear = clear2 }; goes = goes_none header h outside doing past events }) at clear
 
     by : (b : Bool) → (is_storing w.want && f.row.marked) ≡ b → Prepares b f.entry.region f.row (state_of k ids events) f.mid → Prepared header h outside doing past k ids w events f.mid f.top
     by false test same =
@@ -287,7 +278,7 @@ prepared header h outside doing past k ids w may answer events new works is now 
         let at : IsAt k.maps k.chains w.task.0 w.want before = record { entry = f.entry; found = f.found; row = f.row; region = f.region; is = refl } in
         let shadow : Event = event.Shadowed f.entry.region made.object f.row.top in
         let works1 = works_shadowed header h moment k ids f.entry.region f.row (state_of k ids events) f.mid works refl refl refl f.region (entry_some header.size f.entry.region.0 w.task.0 k.maps k.chains [] f.row works.matches.entries f.region (on_its_region (address_in k.maps.size w.want) (rows_in w.task.0 k.maps) f.entry f.found)) both.1 made in
-        let to = leads_of header h k ids moment woken.Nobody w.task.0 w before works.matches works.waits is at in
+        let to = leads_of header h k ids moment woken.Nobody w.task.0 w before works.matches works.waits works.used.copies is at in
         let follows = shadowed_follows header h outside doing moment k ids w.task w.want before at made.object store.address store.size store.value works.matches to store.is both.1 made.next
         (suffices header h f.mid.parts.frames (shadow ∷ moment) works1.matches.frames) in
         let row2 : RegionRow = record f.row { top = made.object; shift = 0; marked = false } in
@@ -302,10 +293,6 @@ prepared header h outside doing past k ids w may answer events new works is now 
             clear = λ stores. its_mark k f.mid.chains w f.top row2 f.entry f.at f.found region refl;
           };
           goes = subst (λ (z : List Event). LegalEvents header h outside doing past events z) (sym made.told) (goes_one header h outside doing past events shadow works.matches.settled follows);
-          front = shadow ∷ [];
-          is_front = Shadow f.entry.region made.object f.row.top;
-          told = made.told;
-          frames = ap (λ (z : HostParts). z.frames) made.parts;
         }
 
 -- the chains and the next numbers are those behind the shadow
@@ -333,14 +320,14 @@ stays header h outside doing past k mid new waits2 same works =
 
 -- it has ended
 pub done_reaches : (header : Header) (h : ℕ) (outside : Outside) (doing : Command) (past : List Event) (k : Parts) (ids : Ids) (w : Waiting) (may : Bool) (value : ℕ) (events : List Event) (new : FaultState) (waits2 : WaitTable)
-    → Works header h k ids woken.Nobody (events ++ past) → entry k.waits.rows w.task.0 ≡ Some w → runs_now w.on ≡ true → Faulted k.maps k.host w.task w.want may (step.Done value) (state_of k ids events) new
+    → IsOfNumber w.want → Works header h k ids woken.Nobody (events ++ past) → entry k.waits.rows w.task.0 ≡ Some w → runs_now w.on ≡ true → Faulted k.maps k.host w.task w.want may (step.Done value) (state_of k ids events) new
     → PutsInOrder w.task.0 None k.waits.rows waits2.rows → Reaches header h outside doing past events (record (with_state k new) { waits = waits2 }) new.ids new.events
-done_reaches header h outside doing past k ids w may value events new waits2 works is now f put =
+done_reaches header h outside doing past k ids w may value events new waits2 number works is now f put =
     let p = prepared header h outside doing past k ids w may (step.Done value) events new works is now f in
     let address = address_in k.maps.size w.want in
     let named = subst (λ (z : HostId). Ended z w.task w.want f.top (address % k.memory.buffers.size) value f.mid.parts new.parts f.mid.chains f.mid.events new.events) (named_host k.host h works.matches.host) f.comes in
     let sized = subst (λ (z : ℕ). Ended (host_id h) w.task w.want f.top (address % z) value f.mid.parts new.parts f.mid.chains f.mid.events new.events) (works.matches.fits.buffers ∙ works.matches.size) named in
-    settle header h outside doing past k events f.mid new waits2 p.goes (ended header h outside doing past (with_state k f.mid) f.mid.ids w f.top f.mid.events value new.parts new.events waits2 p.tries sized put) f.chains f.ids
+    settle header h outside doing past k events f.mid new waits2 p.goes (ended header h outside doing past (with_state k f.mid) f.mid.ids w f.top f.mid.events value new.parts new.events waits2 number p.tries sized put) f.chains f.ids
 
 -- it waits for its object's pager
 pub ready_reaches : (header : Header) (h : ℕ) (outside : Outside) (doing : Command) (past : List Event) (k : Parts) (ids : Ids) (w : Waiting) (may : Bool) (object : ObjectId) (events : List Event) (new : FaultState) (waits2 : WaitTable)
@@ -423,7 +410,10 @@ frame_why : (header : Header) (h : ℕ) (past : List Event) (k : Parts) (ids : I
     → WantsFrame header h w.task.0 (access_in k.maps.size to.destination w.want) t.at.entry.region.0 (page_of header w.task.0 (access_in k.maps.size to.destination w.want) past t.at.entry) past
 frame_why header h past k ids w top t to (Nowhere sinks) =
     legal.Nowhere top.object.0 top.page.0 sinks.steps (top_at header h past k w.task.0 w.want top t.at to) (sinks_of (shown_at t.works.matches) top to.referred sinks)
-frame_why header h past k ids w top t to (ToCopy steps key row finds copying out) = absurd (no_copy w.want to.number copying)
+frame_why header h past k ids w top t to (ToCopy steps key row finds copying out) =
+    let s = shown_at t.works.matches in
+    wants_copy header h k.maps.size w.task.0 to.destination t.at.entry.region.0 (page_of header w.task.0 (access_in k.maps.size to.destination w.want) past t.at.entry) past w.want steps top.object.0 top.page.0 key.object.0 key.page.0
+    (or_right (is_storing w.want && nat_lt 0 steps) (is_copying w.want) copying) (top_at header h past k w.task.0 w.want top t.at to) (walks_of s steps top key finds.walks) (shows_row s key.object.0 key.page.0 row finds.found finds.here).here
 frame_why header h past k ids w top t to (ToAsk steps key object comes ready) =
     let s = shown_at t.works.matches in
     let may = may_ask s steps top key object comes ready in
@@ -434,11 +424,10 @@ frame_why header h past k ids w top t to (ToRaise steps key row finds stores out
     (storing_is k.maps.size to.destination w.want ∙ stores)
 
 -- and what it is to copy
-frame_source : (header : Header) (h : ℕ) (past : List Event) (k : Parts) (ids : Ids) (w : Waiting) (top : PageKey) {source : Option PageKey} → Tries header h past k ids w top → Needs w.want top k.memory k.chains source → IsToCopy header h k source past
-frame_source header h past k ids w top t (Nowhere sinks) = tt
-frame_source header h past k ids w top t (ToCopy steps key row finds copying out) = absurd (no_copy w.want (t.works.waits.numbers w.task.0 w t.is) copying)
-frame_source header h past k ids w top t (ToAsk steps key object comes ready) = tt
-frame_source header h past k ids w top t (ToRaise steps key row finds stores out) =
+
+found_source : (header : Header) (h : ℕ) (past : List Event) (k : Parts) (ids : Ids) (w : Waiting) (top : PageKey) → Tries header h past k ids w top → (steps : ℕ) (key : PageKey) (row : PageRow) → Finds k.memory k.chains steps top key row → Needs w.want top k.memory k.chains (Some key)
+    → IsToCopy header h k (Some key) past
+found_source header h past k ids w top t steps key row finds needs =
     let to = leads_there header h past k ids w top t in
     let s = shown_at t.works.matches in (
       record {
@@ -446,18 +435,29 @@ frame_source header h past k ids w top t (ToRaise steps key row finds stores out
         access = access_in k.maps.size to.destination w.want;
         waits = it_waits header h past k w.task.0 w.want top t.at to;
         on_host = refl;
-        comes = comes_at header h past k w.task.0 w.want top t.at to s (suc steps) key finds.walks;
-        wants = frame_why header h past k ids w top t to (ToRaise steps key row finds stores out);
+        comes = comes_at header h past k w.task.0 w.want top t.at to s steps key finds.walks;
+        wants = frame_why header h past k ids w top t to needs;
       },
       (row, finds.found, finds.here),
     )
 
--- it stands in the queue, and the counts say so
-pub queues_of : (header : Header) (h : ℕ) (outside : Outside) (doing : Command) (past : List Event) (k : Parts) (ids : Ids) (w : Waiting) (may : Bool) (source : Option PageKey) (events : List Event) (new : FaultState) (waits2 : WaitTable)
+frame_source : (header : Header) (h : ℕ) (past : List Event) (k : Parts) (ids : Ids) (w : Waiting) (top : PageKey) {source : Option PageKey} → Tries header h past k ids w top → Needs w.want top k.memory k.chains source → IsToCopy header h k source past
+frame_source header h past k ids w top t (Nowhere sinks) = tt
+frame_source header h past k ids w top t (ToAsk steps key object comes ready) = tt
+frame_source header h past k ids w top t (ToCopy steps key row finds copying out) = found_source header h past k ids w top t steps key row finds (ToCopy steps key row finds copying out)
+frame_source header h past k ids w top t (ToRaise steps key row finds stores out) = found_source header h past k ids w top t (suc steps) key row finds (ToRaise steps key row finds stores out)
+
+-- and so it wants one
+pub record Wanting (header : Header) (h : ℕ) (w : Waiting) (may : Bool) (source : Option PageKey) (k : Parts) (after : List Event) : Type 0 where
+  pub wants : Wants header h after
+  pub mine : wants.task ≡ w.task.0
+  pub to_copy : IsToCopy header h k source after
+  pub none : may ≡ true → free k.memory.frames ≡ 0
+
+pub wanting_of : (header : Header) (h : ℕ) (outside : Outside) (doing : Command) (past : List Event) (k : Parts) (ids : Ids) (w : Waiting) (may : Bool) (source : Option PageKey) (events : List Event) (new : FaultState) (waits2 : WaitTable)
     → Works header h k ids woken.Nobody (events ++ past) → entry k.waits.rows w.task.0 ≡ Some w → runs_now w.on ≡ true → Faulted k.maps k.host w.task w.want may (step.NeedFrame source) (state_of k ids events) new
-    → count_again waits2.rows + one_again w.on ≡ count_again k.waits.rows → queued waits2.rows ≡ queued k.waits.rows + (1 - one_frame w.on)
-    → JoinsQueue header h w may source k (record (with_state k new) { waits = waits2 }) (events ++ past) (new.events ++ past)
-queues_of header h outside doing past k ids w may source events new waits2 works is now f agains queues =
+    → Wanting header h w may source (record (with_state k new) { waits = waits2 }) (new.events ++ past)
+wanting_of header h outside doing past k ids w may source events new waits2 works is now f =
     let p = prepared header h outside doing past k ids w may (step.NeedFrame source) events new works is now f in
     let moment = f.mid.events ++ past in
     let mid = with_state k f.mid in
@@ -469,19 +469,11 @@ queues_of header h outside doing past k ids w may source events new waits2 works
     let later = subst (λ (z : List Event). (wants : Wants header h (z ++ past)) × (wants.task ≡ w.task.0)) (sym same.told) wants in
     let copies = frame_source header h moment mid f.mid.ids w f.top t f.comes.0 in
     let here = subst (λ (z : HostParts). IsToCopy header h (record mid { memory = z }) source moment) (sym same.parts) copies in
-    let frames : new.parts.frames ≡ k.memory.frames = ap (λ (z : HostParts). z.frames) same.parts ∙ p.frames in
     record {
-      front = p.front;
-      prepared = p.is_front;
-      same = ap (λ z. z ++ past) (same.told ∙ p.told) ∙ append_assoc p.front events past;
       wants = later.0;
       mine = later.1;
       to_copy = to_copy_same source (subst (λ (z : List Event). IsToCopy header h (record mid { memory = new.parts }) source (z ++ past)) (sym same.told) here);
       none = λ so. ap (λ (z : HostParts). free z.frames) same.parts ∙ f.comes.1 so;
-      again = agains;
-      queued = queues;
-      claimed = ap claimed frames;
-      laundry = refl;
     }
   where
     to_copy_same : (source2 : Option PageKey) → IsToCopy header h (record (with_state k f.mid) { memory = new.parts }) source2 (new.events ++ past) → IsToCopy header h (record (with_state k new) { waits = waits2 }) source2 (new.events ++ past)

@@ -1,5 +1,5 @@
 -- A load or store begins: its task waits, and the access is to be run.
-use Rattle.vm_kernel.proofs.Common.{Access, AllUsed, Asker, BeganInOrder, Bool, ChainTable, Code, Command, EndsNext, Entry, Event, FindsPage, Grows, HasWaiters, Header, Ids, IsAllowed, IsDone, IsLined, IsNextAccess, IsOfNumber, IsSizedWant, LegalEvents, List, Mapped, Matches, None, ObjectTable, Option, Outside, Parts, PutsEntry, Ran, Reason, ResidentTable, Rests, RunsFirst, Some, Starts, TaskId, WaitTable, Waiting, Want, Works, [], access_in, access_refusal, acting, acts_on, address_in, allows, ap, arith, begun_at, code_where, copy_target, count_again, entries_in, entries_of, entry, entry_at, eqb_tells, false, fills_in, host_of, if◌then◌else◌, inl, inr, is_none, is_some, is_woken, length, lives_on, need_in, next_page, none_again, not, puts_cases, puts_elsewhere, refl, refusal, rows_in, some_is, subst, sym, true, waiting, waiting_in, ℕ, ◌%◌, ◌++◌, ◌+◌, ◌<◌, ◌==◌, ◌∙◌, ◌∷◌, ◌≡◌}
+use Rattle.vm_kernel.proofs.Common.{Access, AllUsed, Asker, BeganInOrder, Bool, ChainTable, Code, Command, EndsNext, Entry, Event, FindsPage, Grows, HasWaiters, Header, Ids, IsAllowed, IsDone, IsLined, IsNextAccess, IsOfNumber, IsSizedWant, LegalEvents, List, Mapped, Matches, None, ObjectTable, On, Option, Outside, Parts, PutsEntry, Ran, Reason, ResidentTable, Rests, RunsFirst, Some, Starts, TaskId, WaitTable, Waiting, Want, Works, [], access_in, access_refusal, acting, acts_on, address_in, allows, ap, arith, begun_at, code_where, copies_to, copy_target, count_again, entries_in, entries_of, entry, entry_at, eqb_tells, false, fills_in, host_of, if◌then◌else◌, inl, inr, is_none, is_some, is_woken, length, lives_on, need_in, next_page, none_again, not, puts_cases, puts_elsewhere, refl, refusal, rows_in, some_is, subst, sym, true, waiting, waiting_in, ℕ, ◌%◌, ◌++◌, ◌+◌, ◌<◌, ◌==◌, ◌∙◌, ◌∷◌, ◌≡◌}
 use Rattle.vm_state.proofs.Filling.{SameFills, copies_put, fills_put, regions_filled, uses_refilled}
 use Rattle.vm_state.specs.Filling.{FitsCopy}
 use Rattle.vm_base.specs.declared.code.Code.TheVariants as code
@@ -178,7 +178,7 @@ begun_when : (task : TaskId) (what : Number) (past : List Event) (t : ℕ) → b
 begun_when task (Loads address size) past t = refl
 begun_when task (Stores address size value) past t = refl
 
-lined_below : (t : ℕ) (past : List Event) → IsLined past → begun_at t past < length past
+pub lined_below : (t : ℕ) (past : List Event) → IsLined past → begun_at t past < length past
 lined_below t past is = subst (λ (z : List Event). begun_at t z < length z) (sym is.is) (begun_below t (event.Line is.line) is.before)
 
 begun_grows : (header : Header) (h : ℕ) (outside : Outside) (k : Parts) (ids : Ids) (past : List Event) (task : TaskId) (what : Number) → Matches header h k ids [] past → refusal header past (asks task what) ≡ None → acts_on h (asks task what) past ≡ true → Grows header h outside (asks task what) past (begun task what ∷ [])
@@ -190,27 +190,24 @@ begun_grows header h outside k ids past task (Stores address size value) m fine 
     (record { settled = m.settled; cause = acts task.0 past _ fine; own_bytes = tt; frames = suffices header h k.memory.frames past m.frames; inner = tt; said = tt; own = own_task h task.0 past here; creates = tt })
 
 -- a task that didn't wait waits with an access that is to be run
-pub waits_begun : (maps : Mapped) (chains : ChainTable) (resident : ResidentTable) (objects : ObjectTable) (rows new : List Waiting) (task : TaskId) (what : Number) (was : ℕ → Option Access) (now : ℕ → Option Access)
-    → HasWaiters maps chains resident objects rows (is_woken woken.Nobody) was → PutsEntry task.0 (Some (begun_row task what)) rows new → entry rows task.0 ≡ None → IsAllowed maps task.0 (address_in maps.size (want_of what)) (need_in (want_of what)) → IsSizedWant maps.size (want_of what)
-    → ((t : ℕ) → now t ≡ (if task.0 == t then Some (access_in maps.size 0 (want_of what)) else was t)) → HasWaiters maps chains resident objects new (is_woken woken.Nobody) now
-waits_begun maps chains resident objects rows new task what was now has puts none allowed sized is =
+pub waits_added : (maps : Mapped) (chains : ChainTable) (resident : ResidentTable) (objects : ObjectTable) (rows new : List Waiting) (w : Waiting) (was : ℕ → Option Access) (now : ℕ → Option Access)
+    → HasWaiters maps chains resident objects rows (is_woken woken.Nobody) was → PutsEntry w.task.0 (Some w) rows new → entry rows w.task.0 ≡ None → w.on ≡ on.Again → IsAllowed maps w.task.0 (address_in maps.size w.want) (need_in w.want) → IsSizedWant maps.size w.want
+    → ((t : ℕ) → now t ≡ (if w.task.0 == t then Some (access_in maps.size (copies_to w.destination) w.want) else was t)) → HasWaiters maps chains resident objects new (is_woken woken.Nobody) now
+waits_added maps chains resident objects rows new w was now has puts none again allowed sized is =
     record {
-      is = λ t here. is t ∙ (both (task.0 == t) t here ∙ ap (waiting_in maps.size) (sym (puts.at t)));
-      allowed = λ t w found. puts_cases task.0 t (Some (begun_row task what)) rows new w puts found
-          (λ same row. subst (λ (z : Waiting). IsAllowed maps t (address_in maps.size z.want) (need_in z.want)) (some_is (begun_row task what) w row) (subst (λ (z : ℕ). IsAllowed maps z (address_in maps.size (want_of what)) (need_in (want_of what))) same allowed))
-          (λ apart old. has.allowed t w old);
-      sized = λ t w found. puts_cases task.0 t (Some (begun_row task what)) rows new w puts found
-          (λ same row. subst (λ (z : Waiting). IsSizedWant maps.size z.want) (some_is (begun_row task what) w row) sized)
-          (λ apart old. has.sized t w old);
-      numbers = λ t w found. puts_cases task.0 t (Some (begun_row task what)) rows new w puts found
-          (λ same row. subst (λ (z : Waiting). IsOfNumber z.want) (some_is (begun_row task what) w row) (of_number what))
-          (λ apart old. has.numbers t w old);
-      reasons = λ t w found unwoken. puts_cases task.0 t (Some (begun_row task what)) rows new w puts found
-          (λ same row. subst (λ (z : Waiting). Reason maps chains resident objects t z.want z.on) (some_is (begun_row task what) w row) tt)
-          (λ apart old. has.reasons t w old unwoken);
-      aims = λ t w key found on_page. puts_cases task.0 t (Some (begun_row task what)) rows new w puts found
-          (λ same row. absurd (let bad : on.Again ≡ on.Page key = ap (λ (z : Waiting). z.on) (some_is (begun_row task what) w row) ∙ on_page in cc))
-          (λ apart old. has.aims t w key old on_page);
+      is = λ t here. is t ∙ (both (w.task.0 == t) t here ∙ ap (waiting_in maps.size) (sym (puts.at t)));
+      allowed = λ t v found. puts_cases w.task.0 t (Some w) rows new v puts found
+          (λ same row. subst (λ (z : Waiting). IsAllowed maps t (address_in maps.size z.want) (need_in z.want)) (some_is w v row) (subst (λ (z : ℕ). IsAllowed maps z (address_in maps.size w.want) (need_in w.want)) same allowed))
+          (λ apart old. has.allowed t v old);
+      sized = λ t v found. puts_cases w.task.0 t (Some w) rows new v puts found
+          (λ same row. subst (λ (z : Waiting). IsSizedWant maps.size z.want) (some_is w v row) sized)
+          (λ apart old. has.sized t v old);
+      reasons = λ t v found unwoken. puts_cases w.task.0 t (Some w) rows new v puts found
+          (λ same row. subst (λ (z : On). Reason maps chains resident objects t v.want z) (sym again ∙ ap (λ (z : Waiting). z.on) (some_is w v row)) tt)
+          (λ apart old. has.reasons t v old unwoken);
+      aims = λ t v key found on_page. puts_cases w.task.0 t (Some w) rows new v puts found
+          (λ same row. absurd (let bad : on.Again ≡ on.Page key = sym again ∙ (ap (λ (z : Waiting). z.on) (some_is w v row) ∙ on_page) in cc))
+          (λ apart old. has.aims t v key old on_page);
       askers = λ o p row found away. asks_still o p (has.askers o p row found away);
       ready = has.ready;
     }
@@ -218,7 +215,7 @@ waits_begun maps chains resident objects rows new task what was now has puts non
     some_is : (x y : Waiting) → Some x ≡ Some y → x ≡ y
     some_is x y e = cc
 
-    both : (b : Bool) (t : ℕ) → is_some (entries_in t maps) ≡ true → (if b then Some (access_in maps.size 0 (want_of what)) else was t) ≡ waiting_in maps.size (if b then Some (begun_row task what) else entry rows t)
+    both : (b : Bool) (t : ℕ) → is_some (entries_in t maps) ≡ true → (if b then Some (access_in maps.size (copies_to w.destination) w.want) else was t) ≡ waiting_in maps.size (if b then Some w else entry rows t)
     both true t here = refl
     both false t here = has.is t here
 
@@ -227,9 +224,14 @@ waits_begun maps chains resident objects rows new task what was now has puts non
         record {
           task = asker.task;
           row = asker.row;
-          is = puts_elsewhere task.0 asker.task (Some (begun_row task what)) rows new puts (λ same. let bad : None ≡ Some asker.row = sym none ∙ (ap (entry rows) same ∙ asker.is) in cc) ∙ asker.is;
+          is = puts_elsewhere w.task.0 asker.task (Some w) rows new puts (λ same. let bad : None ≡ Some asker.row = sym none ∙ (ap (entry rows) same ∙ asker.is) in cc) ∙ asker.is;
           waits = asker.waits;
         }
+
+pub waits_begun : (maps : Mapped) (chains : ChainTable) (resident : ResidentTable) (objects : ObjectTable) (rows new : List Waiting) (task : TaskId) (what : Number) (was : ℕ → Option Access) (now : ℕ → Option Access)
+    → HasWaiters maps chains resident objects rows (is_woken woken.Nobody) was → PutsEntry task.0 (Some (begun_row task what)) rows new → entry rows task.0 ≡ None → IsAllowed maps task.0 (address_in maps.size (want_of what)) (need_in (want_of what)) → IsSizedWant maps.size (want_of what)
+    → ((t : ℕ) → now t ≡ (if task.0 == t then Some (access_in maps.size 0 (want_of what)) else was t)) → HasWaiters maps chains resident objects new (is_woken woken.Nobody) now
+waits_begun maps chains resident objects rows new task what was now has puts none allowed sized is = waits_added maps chains resident objects rows new (begun_row task what) was now has puts none refl allowed sized is
 
 -- a load or a store that begins fills nothing
 begun_fills : (rows new : List Waiting) (task : TaskId) (what : Number) → PutsEntry task.0 (Some (begun_row task what)) rows new → entry rows task.0 ≡ None → SameFills rows new

@@ -1,15 +1,16 @@
 -- What running an access once claims.
-use Rattle.std.specs.Prelude.{◌≡◌, ◌≢◌, ◌⊎◌, ◌&&◌, ℕ, Bool, true, false, List, [], ◌∷◌, ◌++◌, Option, Some, None}
+use Rattle.std.specs.Prelude.{◌≡◌, ◌≢◌, ◌⊎◌, ◌&&◌, ◌<◌, ◌≤◌, ◌==◌, ℕ, Bool, true, false, List, [], ◌∷◌, ◌++◌, length, Option, Some, None, if◌then◌else◌}
 use Rattle.std.proofs.Common.{◌∙◌, ap, arith, inl, inr, refl, subst, sym}
 use Rattle.std.proofs.lemmas.Bool.Decides.{eqb_tells}
 use Rattle.vm_base.specs.declared.ids.FrameNo.{FrameNo}
 use Rattle.vm_base.specs.declared.ids.HostId.{HostId}
+use Rattle.vm_base.specs.declared.ids.Inherit.TheVariants.{Copy}
 use Rattle.vm_base.specs.declared.ids.ObjectId.{ObjectId}
 use Rattle.vm_base.specs.declared.ids.PageKey.{PageKey}
 use Rattle.vm_base.specs.declared.ids.RegionId.{RegionId}
 use Rattle.vm_base.specs.declared.ids.TaskId.{TaskId}
-use Rattle.vm_fault.specs.Faults.{AfterZeros, AtOnce, Copied, Ended, Faulted, FaultState, Hits, Prepares, Raised, References}
-use Rattle.vm_fault.specs.Walks.{is_storing, wanted_number}
+use Rattle.vm_fault.specs.Faults.{AfterZeros, AtOnce, Copied, Ended, FaultState, Hits, Prepares, Raised, References, Runs}
+use Rattle.vm_fault.specs.Walks.{is_copying, is_storing, wanted_number}
 use Rattle.vm_fault.specs.declared.step.FaultStep.{FaultStep}
 use Rattle.vm_fault.specs.declared.step.FaultStep.TheVariants as step
 use Rattle.vm_frames.specs.Frames.{free}
@@ -30,41 +31,77 @@ use Rattle.vm_state.proofs.Waiting.{awaited_row}
 use Rattle.vm_state.specs.Waiters.{HasWaiters, Reason, is_woken}
 use Rattle.vm_supply.specs.declared.woken.Woken.TheVariants as woken
 use Rattle.vm_waits.proofs.Entries.{puts_here}
-use Rattle.vm_waits.specs.Waits.{PutsEntry, WaitTable, entry, is_again, is_frame, queue_without, with_on}
-use Rattle.vm_waits.specs.Wants.{IsOfNumber}
+use Rattle.vm_waits.specs.Waits.{PutsEntry, WaitTable, entry, is_again, is_frame, queue_without, with_on, with_want}
 use Rattle.vm_waits.specs.declared.waiting.On.{On}
 use Rattle.vm_waits.specs.declared.waiting.On.TheVariants as on
 use Rattle.vm_waits.specs.declared.waiting.Waiting.{Waiting}
 use Rattle.vm_waits.specs.declared.waiting.Want.{Want}
 use Rattle.vm_waits.specs.declared.waiting.Want.TheVariants as want
-use Rattle.vm_kernel.specs.Turns.{Bare, Did, ForAsked, ForCopy, ForUnlock, ForZeros, Found, IsFront, Nothing, QueueAfter, RunsOnce, Shadow}
+use Rattle.vm_kernel.specs.Turns.{AreCopied, Did, Filled, ForAsked, ForCopy, ForUnlock, ForZeros, Found, IsFront, NoPage, Nothing, OnePage, Pages, QueueAfter, RunsOnce, Shadow}
+use Rattle.vm_kernel.proofs.Pagewise.{PageDone, Pagewise, page_done, pagewise}
 
--- what stands first: the pages, their frames and their lists are as they were
-pub record Front (s mid : FaultState) : Type 0 where
+-- what stands first: a shadow claims no frame, and each page of a slow copy one; and no row of a page has gone
+pub record Front (task : TaskId) (copying : Bool) (s mid : FaultState) : Type 0 where
+  pub claims : Bool
   pub front : List Event
-  pub is : IsFront front
+  pub is : IsFront task claims front
   pub told : mid.events ≡ front ++ s.events
-  pub rows : mid.parts.resident ≡ s.parts.resident
-  pub frames : mid.parts.frames ≡ s.parts.frames
-  pub queues : mid.parts.queues ≡ s.parts.queues
+  pub spent : claims ≡ true → free mid.parts.frames < free s.parts.frames
+  pub frames : free mid.parts.frames ≤ free s.parts.frames
+  pub plain : copying ≡ false → claims ≡ false
+  pub rows : (o p : ℕ) → row_at mid.parts.resident o p ≡ None → row_at s.parts.resident o p ≡ None
 
-pub front_of : (is : Bool) (region : RegionId) (row : RegionRow) (s mid : FaultState) → Prepares is region row s mid → Front s mid
-front_of true region row s mid makes = record {
-  front = event.Shadowed region makes.object row.top ∷ [];
-  is = Shadow region makes.object row.top;
-  told = makes.told;
-  rows = ap (λ (z : HostParts). z.resident) makes.parts;
-  frames = ap (λ (z : HostParts). z.frames) makes.parts;
-  queues = ap (λ (z : HostParts). z.queues) makes.parts;
-}
-front_of false region row s mid same = record {
-  front = [];
-  is = Bare;
-  told = ap (λ (z : FaultState). z.events) same;
-  rows = ap (λ (z : FaultState). z.parts.resident) same;
-  frames = ap (λ (z : FaultState). z.parts.frames) same;
-  queues = ap (λ (z : FaultState). z.parts.queues) same;
-}
+some_copied : {task : TaskId} {front : List Event} (some : Bool) → AreCopied task some front → some ≡ true → 0 < length front
+some_copied false NoPage bad = absurd (let clash : false ≡ true = bad in cc)
+some_copied true (OnePage page object_page object target some front copied) is = omega arith
+
+not_some : (some copying : Bool) → (some ≡ true → copying ≡ true) → copying ≡ false → some ≡ false
+not_some false copying copies other = refl
+not_some true copying copies other = absurd (let bad : true ≡ false = sym (copies refl) ∙ other in cc)
+
+stores_plain : (what : Want) (marked : Bool) → (is_storing what && marked) ≡ true → is_copying what ≡ false
+stores_plain (want.Load address n) marked bad = absurd (let clash : false ≡ true = bad in cc)
+stores_plain (want.Store address n number) marked stores = refl
+stores_plain (want.CopyTo address pages target next) marked bad = absurd (let clash : false ≡ true = bad in cc)
+
+front_of : {maps : Mapped} {host : HostId} {task : TaskId} {may : Bool} {answer : FaultStep} {what last : Want} {s new : FaultState} (p : Pagewise maps host task may answer what last s new) (is : Bool) (region : RegionId) (row : RegionRow) (mid : FaultState)
+    → (is ≡ true → is_copying p.at ≡ false) → Prepares is region row p.mid mid → Front task (is_copying what) s mid
+front_of {s = s} p true region row mid plain makes =
+    let start : p.mid ≡ s = (p.so.none (not_some p.so.some (is_copying p.at) p.so.copies (plain refl))).0 in
+    let frames : mid.parts.frames ≡ s.parts.frames = ap (λ (z : HostParts). z.frames) makes.parts ∙ ap (λ (z : FaultState). z.parts.frames) start in
+    let rows : mid.parts.resident ≡ s.parts.resident = ap (λ (z : HostParts). z.resident) makes.parts ∙ ap (λ (z : FaultState). z.parts.resident) start in
+    let even : free mid.parts.frames ≡ free s.parts.frames = ap free frames in
+    let e : Event = event.Shadowed region makes.object row.top in
+    record {
+      claims = false;
+      front = e ∷ [];
+      is = Shadow region makes.object row.top;
+      told = makes.told ∙ ap (λ (z : FaultState). e ∷ z.events) start;
+      spent = λ bad. absurd (let clash : false ≡ true = bad in cc);
+      frames = omega (arith, even);
+      plain = λ other. refl;
+      rows = λ o q none. ap (λ z. row_at z o q) (sym rows) ∙ none;
+    }
+front_of {s = s} p false region row mid plain same =
+    let frames = p.so.frames in
+    let even : free mid.parts.frames ≡ free p.mid.parts.frames = ap (λ (z : FaultState). free z.parts.frames) same in
+    record {
+      claims = p.so.some;
+      front = p.so.front;
+      is = Pages p.so.some p.so.front p.so.copied;
+      told = ap (λ (z : FaultState). z.events) same ∙ p.so.told;
+      spent = λ is. let some = some_copied p.so.some p.so.copied is in omega (arith, frames, even, some);
+      frames = omega (arith, frames, even);
+      plain = λ other. not_some p.so.some (is_copying p.at) p.so.copies (p.so.kind ∙ other);
+      rows = λ o q none. p.so.rows o q (ap (λ (z : FaultState). row_at z.parts.resident o q) (sym same) ∙ none);
+    }
+
+-- the front of a run, by whatever it came to
+pub front_in : {maps : Mapped} {host : HostId} {task : TaskId} {may : Bool} {answer : FaultStep} {what last : Want} {s new : FaultState} (p : Pagewise maps host task may answer what last s new) → Front task (is_copying what) s p.ran.mid
+front_in p = front_of p (is_storing p.at && p.ran.row.marked) p.ran.entry.region p.ran.row p.ran.mid (stores_plain p.at p.ran.row.marked) p.ran.prepares
+
+plain_front : {task : TaskId} {s mid : FaultState} (f : Front task false s mid) → IsFront task false f.front
+plain_front {task = task} f = subst (λ (z : Bool). IsFront task z f.front) (f.plain refl) f.is
 
 -- its events, and whether it claims a frame
 record RanBy (rows : List Waiting) (task : TaskId) (may : Bool) (before after : List Event) : Type 0 where
@@ -91,44 +128,45 @@ hits_free task (want.Store address n number) key frame at value e old new hits =
     let wrote : free hits.1.0.frames ≡ free old.frames = omega (arith, left) in
     touched ∙ wrote
 
-ended_by : (rows : List Waiting) (host : HostId) (task : TaskId) (what : Want) (may : Bool) (top : PageKey) (at value : ℕ) (s mid new : FaultState) → IsOfNumber what → Front s mid → Ended host task what top at value mid.parts new.parts mid.chains mid.events new.events
-    → (may ≡ false → free new.parts.frames ≡ free s.parts.frames) → RanBy rows task may s.events new.events
-ended_by rows host task what may top at value s mid new number f (Copied address pages next target is steps key row finds out is_none copies) kept = absurd (subst IsOfNumber is number)
-ended_by rows host task what may top at value s mid new number f (AtOnce steps key row finds stores opens e hits told) kept =
+-- a load or a store has ended
+ended_by : (rows : List Waiting) (host : HostId) (task : TaskId) (what : Want) (may : Bool) (top : PageKey) (at value : ℕ) (s mid new : FaultState) → is_copying what ≡ false → Front task false s mid
+    → Ended host task what top at value mid.parts new.parts mid.chains mid.events new.events → (may ≡ false → free new.parts.frames ≡ free s.parts.frames) → RanBy rows task may s.events new.events
+ended_by rows host task what may top at value s mid new other f (Copied address pages next target is steps key row finds out is_none copies) kept = absurd (let bad : true ≡ false = sym (ap is_copying is) ∙ other in cc)
+ended_by rows host task what may top at value s mid new other f (AtOnce steps key row finds stores opens e hits told) kept =
     record {
       more = e ∷ f.front;
       told = told ∙ ap (λ z. e ∷ z) f.told;
       claims = false;
-      did = Found f.front f.is e (end_of task what key row.frame at value e mid.parts new.parts hits);
+      did = Found f.front (plain_front f) e (end_of task what key row.frame at value e mid.parts new.parts hits);
       none = λ bar. refl;
     }
-ended_by rows host task what may top at value s mid new number f (Raised steps key row finds stores opens frame copied hit raises plan e hits refers told) kept =
+ended_by rows host task what may top at value s mid new other f (Raised steps key row finds stores opens frame copied hit raises plan e hits refers told) kept =
     let raised = event.Raised host key.object key.page top.object top.page in
     record {
       more = e ∷ raised ∷ f.front;
       told = told ∙ ap (λ z. e ∷ raised ∷ z) f.told;
       claims = true;
-      did = ForCopy f.front f.is e host key top (end_of task what top frame at value e copied hit hits);
+      did = ForCopy f.front (plain_front f) e host key top (end_of task what top frame at value e copied hit hits);
       none = λ bar.
           let even = kept bar in
           let less = raises.left in
           let same = hits_free task what top frame at value e copied hit hits in
           let last = refers_free row.frame hit new.parts refers in
-          let was : free mid.parts.frames ≡ free s.parts.frames = ap free f.frames in
+          let was = f.frames in
           absurd (omega (arith, even, less, same, last, was));
     }
-ended_by rows host task what may top at value s mid new number f (AfterZeros sinks frame brought brings plan e hits told) kept =
+ended_by rows host task what may top at value s mid new other f (AfterZeros sinks frame brought brings plan e hits told) kept =
     let zeroed = event.Zeroed host top.object top.page in
     record {
       more = e ∷ zeroed ∷ f.front;
       told = told ∙ ap (λ z. e ∷ zeroed ∷ z) f.told;
       claims = true;
-      did = ForZeros f.front f.is e host top (end_of task what top frame at value e brought new.parts hits);
+      did = ForZeros f.front (plain_front f) e host top (end_of task what top frame at value e brought new.parts hits);
       none = λ bar.
           let even = kept bar in
           let less = brings.left in
           let same = hits_free task what top frame at value e brought new.parts hits in
-          let was : free mid.parts.frames ≡ free s.parts.frames = ap free f.frames in
+          let was = f.frames in
           absurd (omega (arith, even, less, same, was));
     }
 
@@ -139,6 +177,14 @@ puts_rest task x old new put t apart = elim (eqb_tells task.0 t) [
   | inr other ↦ put.at t ∙ rw other.0 refl
 ]
 
+-- a task's row has changed twice
+pub puts_again : (t : ℕ) (x y : Option Waiting) (old mid new : List Waiting) → PutsEntry t x old mid → PutsEntry t y mid new → PutsEntry t y old new
+puts_again t x y old mid new one two = record { at = λ u. both (t == u) (entry old u) (entry mid u) (entry new u) (one.at u) (two.at u) }
+  where
+    both : (b : Bool) (was there now : Option Waiting) → there ≡ (if b then x else was) → now ≡ (if b then y else there) → now ≡ (if b then y else was)
+    both true was there now first second = second
+    both false was there now first second = second ∙ first
+
 -- it is not to be run again
 done_by : (t : ℕ) (x : Option Waiting) (old new : List Waiting) → PutsEntry t x old new → ((v : Waiting) → x ≡ Some v → is_again v.on ≡ false) → (v : Waiting) → entry new t ≡ Some v → is_again v.on ≡ false
 done_by t x old new put none v is = none v (sym (puts_here t x old new put) ∙ is)
@@ -146,15 +192,13 @@ done_by t x old new put none v is = none v (sym (puts_here t x old new put) ∙ 
 turned_done : (w v : Waiting) (reason : On) → is_again reason ≡ false → Some (with_on w reason) ≡ Some v → is_again v.on ≡ false
 turned_done w v reason none is = subst (λ (z : Waiting). is_again z.on ≡ false) (some_is (with_on w reason) v is) none
 
--- the front of a run, by whatever it came to
-pub front_in : {maps : Mapped} {host : HostId} {task : TaskId} {what : Want} {may : Bool} {answer : FaultStep} {s new : FaultState} → (f : Faulted maps host task what may answer s new) → Front s f.mid
-front_in {what = what} {s = s} f = front_of (is_storing what && f.row.marked) f.entry.region f.row s f.mid f.prepares
-
--- an access has ended
-pub once_done : (w : Waiting) (may : Bool) (value : ℕ) (maps : Mapped) (host : HostId) (s new : FaultState) (waits waits2 : WaitTable) → IsOfNumber w.want → Faulted maps host w.task w.want may (step.Done value) s new → (may ≡ false → free new.parts.frames ≡ free s.parts.frames)
-    → PutsEntry w.task.0 None waits.rows waits2.rows → waits2.queue ≡ queue_without w.task.0 waits.queue → RunsOnce w may false waits waits2 s.events new.events
-once_done w may value maps host s new waits waits2 number f kept put queue =
-    let r = ended_by waits2.rows host w.task w.want may f.top _ value s f.mid new number (front_in f) f.comes kept in
+-- a load or a store has ended
+pub once_done : (w : Waiting) (may : Bool) (value : ℕ) {maps : Mapped} {host : HostId} {last : Want} {s new : FaultState} (waits waits2 : WaitTable) → is_copying w.want ≡ false → Runs maps host w.task may (step.Done value) w.want last s new
+    → (may ≡ false → free new.parts.frames ≡ free s.parts.frames) → PutsEntry w.task.0 None waits.rows waits2.rows → waits2.queue ≡ queue_without w.task.0 waits.queue → RunsOnce w may false waits waits2 s.events new.events
+once_done w may value {host = host} {s = s} {new = new} waits waits2 other runs kept put queue =
+    let p = pagewise runs in
+    let f : Front w.task false s p.ran.mid = subst (λ (z : Bool). Front w.task z s p.ran.mid) other (front_in p) in
+    let r = ended_by waits2.rows host w.task p.at may p.ran.top _ value s p.ran.mid new (p.so.kind ∙ other) f p.ran.comes kept in
     record {
       more = r.more;
       told = r.told;
@@ -167,26 +211,75 @@ once_done w may value maps host s new waits waits2 number f kept put queue =
       queue = queue;
     }
 
--- no more than a shadow was made
-stayed : (w : Waiting) (may wants : Bool) (s mid new : FaultState) (waits waits2 : WaitTable) → Front s mid → new.events ≡ mid.events → ((t : ℕ) → t ≢ w.task.0 → entry waits2.rows t ≡ entry waits.rows t) → QueueAfter w wants waits.queue waits2.queue
-    → ((v : Waiting) → entry waits2.rows w.task.0 ≡ Some v → is_again v.on ≡ false) → RunsOnce w may wants waits waits2 s.events new.events
-stayed w may wants s mid new waits waits2 f told rest queue done =
-    record { more = f.front; told = told ∙ f.told; claims = false; did = Nothing f.front f.is; none = λ bar. refl; nothing = λ want. f.is; done = done; rest = rest; queue = queue }
+-- a slow copy has copied its last page, and what it made is entered
+pub once_filled : (w : Waiting) (may : Bool) (value : ℕ) {maps : Mapped} {host : HostId} {last : Want} {s new : FaultState} (waits waits2 : WaitTable) (address bytes : ℕ) (region : RegionId) (after : List Event) → is_copying w.want ≡ true
+    → Runs maps host w.task may (step.Done value) w.want last s new → (may ≡ false → free new.parts.frames ≡ free s.parts.frames)
+    → after ≡ event.Entered w.task address bytes region 0 (record { read = true; write = true }) Copy ∷ event.CopyEnded w.task ∷ new.events → PutsEntry w.task.0 None waits.rows waits2.rows → waits2.queue ≡ queue_without w.task.0 waits.queue
+    → RunsOnce w may false waits waits2 s.events after
+once_filled w may value {s = s} {new = new} waits waits2 address bytes region after copying runs kept told put queue =
+    let p = pagewise runs in
+    let one : PageDone w.task p.mid new = page_done (p.so.kind ∙ copying) p.ran in
+    let page : Event = event.CopiedPage w.task one.page one.object one.object_page one.target in
+    let enters : Event = event.Entered w.task address bytes region 0 (record { read = true; write = true }) Copy in
+    record {
+      more = enters ∷ event.CopyEnded w.task ∷ page ∷ p.so.front;
+      told = told ∙ ap (λ (z : List Event). enters ∷ event.CopyEnded w.task ∷ z) (one.told ∙ ap (λ z. page ∷ z) p.so.told);
+      claims = true;
+      did = Filled (page ∷ p.so.front) (OnePage one.page one.object_page one.object one.target p.so.some p.so.front p.so.copied) address bytes region;
+      none = λ bar.
+          let even = kept bar in
+          let less = one.frames in
+          let was = p.so.frames in
+          absurd (omega (arith, even, less, was));
+      nothing = λ bad. absurd (let clash : false ≡ true = bad in cc);
+      done = done_by w.task.0 None waits.rows waits2.rows put (λ v bad. absurd (let clash : None ≡ Some v = bad in cc));
+      rest = puts_rest w.task None waits.rows waits2.rows put;
+      queue = queue;
+    }
+
+-- who claims no frame has copied no page
+front_bar : {task : TaskId} {copying : Bool} {s mid : FaultState} (f : Front task copying s mid) (claims : Bool) → f.claims ≡ claims → free s.parts.frames ≤ free mid.parts.frames → claims ≡ false
+front_bar f false is even = refl
+front_bar f true is even = let spent = f.spent is in absurd (omega (arith, even, spent))
+
+-- no more than a shadow was made, or pages were copied
+stayed : (w : Waiting) (copying may wants : Bool) (s mid new : FaultState) (waits waits2 : WaitTable) → Front w.task copying s mid → new.events ≡ mid.events → new.parts ≡ mid.parts → (may ≡ false → free new.parts.frames ≡ free s.parts.frames)
+    → ((t : ℕ) → t ≢ w.task.0 → entry waits2.rows t ≡ entry waits.rows t) → QueueAfter w wants waits.queue waits2.queue → ((v : Waiting) → entry waits2.rows w.task.0 ≡ Some v → is_again v.on ≡ false)
+    → RunsOnce w may wants waits waits2 s.events new.events
+stayed w copying may wants s mid new waits waits2 f told parts kept rest queue done =
+    record {
+      more = f.front;
+      told = told ∙ f.told;
+      claims = f.claims;
+      did = Nothing f.claims f.front f.is;
+      none = λ bar.
+          let even = kept bar in
+          let same : free new.parts.frames ≡ free mid.parts.frames = ap (λ (z : HostParts). free z.frames) parts in
+          front_bar f f.claims refl (omega (arith, even, same));
+      nothing = λ want. f.is;
+      done = done;
+      rest = rest;
+      queue = queue;
+    }
 
 -- an access joins the queue
-pub once_joins : (w : Waiting) (may : Bool) (source : Option PageKey) (maps : Mapped) (host : HostId) (s new : FaultState) (waits waits2 : WaitTable) → Faulted maps host w.task w.want may (step.NeedFrame source) s new → is_frame w.on ≡ false
-    → PutsEntry w.task.0 (Some (with_on w on.Frame)) waits.rows waits2.rows → waits2.queue ≡ waits.queue ++ w.task ∷ [] → RunsOnce w may true waits waits2 s.events new.events
-once_joins w may source maps host s new waits waits2 f other put queue =
-    stayed w may true s f.mid new waits waits2 (front_in f) f.comes.2.told (puts_rest w.task (Some (with_on w on.Frame)) waits.rows waits2.rows put) (rw other queue)
-    (done_by w.task.0 (Some (with_on w on.Frame)) waits.rows waits2.rows put (λ v. turned_done w v on.Frame refl))
+pub once_joins : (w : Waiting) (may : Bool) (source : Option PageKey) {maps : Mapped} {host : HostId} {last : Want} {s new : FaultState} (waits waits2 : WaitTable) → Runs maps host w.task may (step.NeedFrame source) w.want last s new
+    → (may ≡ false → free new.parts.frames ≡ free s.parts.frames) → is_frame w.on ≡ false → PutsEntry w.task.0 (Some (with_on (with_want w last) on.Frame)) waits.rows waits2.rows → waits2.queue ≡ waits.queue ++ w.task ∷ []
+    → RunsOnce w may true waits waits2 s.events new.events
+once_joins w may source {last = last} {s = s} {new = new} waits waits2 runs kept other put queue =
+    let p = pagewise runs in
+    let row = with_on (with_want w last) on.Frame in
+    stayed w (is_copying w.want) may true s p.ran.mid new waits waits2 (front_in p) p.ran.comes.2.told p.ran.comes.2.parts kept (puts_rest w.task (Some row) waits.rows waits2.rows put) (rw other queue)
+    (done_by w.task.0 (Some row) waits.rows waits2.rows put (λ v. turned_done (with_want w last) v on.Frame refl))
 
 -- or stands there already
-pub once_queued : (w : Waiting) (may : Bool) (source : Option PageKey) (maps : Mapped) (host : HostId) (s new : FaultState) (waits : WaitTable) → Faulted maps host w.task w.want may (step.NeedFrame source) s new → entry waits.rows w.task.0 ≡ Some w → w.on ≡ on.Frame
-    → RunsOnce w may true waits waits s.events new.events
-once_queued w may source maps host s new waits f found frame =
+pub once_queued : (w : Waiting) (may : Bool) (source : Option PageKey) {maps : Mapped} {host : HostId} {last : Want} {s new : FaultState} (waits waits2 : WaitTable) → Runs maps host w.task may (step.NeedFrame source) w.want last s new
+    → (may ≡ false → free new.parts.frames ≡ free s.parts.frames) → w.on ≡ on.Frame → PutsEntry w.task.0 (Some (with_want w last)) waits.rows waits2.rows → waits2.queue ≡ waits.queue → RunsOnce w may true waits waits2 s.events new.events
+once_queued w may source {last = last} {s = s} {new = new} waits waits2 runs kept frame put queue =
+    let p = pagewise runs in
     let is : is_frame w.on ≡ true = ap is_frame frame in
-    stayed w may true s f.mid new waits waits (front_in f) f.comes.2.told (λ t apart. refl) (rw is refl)
-    (λ v there. subst (λ (z : Waiting). is_again z.on ≡ false) (some_is w v (sym found ∙ there)) (ap is_again frame))
+    stayed w (is_copying w.want) may true s p.ran.mid new waits waits2 (front_in p) p.ran.comes.2.told p.ran.comes.2.parts kept (puts_rest w.task (Some (with_want w last)) waits.rows waits2.rows put) (rw is queue)
+    (done_by w.task.0 (Some (with_want w last)) waits.rows waits2.rows put (λ v there. subst (λ (z : Waiting). is_again z.on ≡ false) (some_is (with_want w last) v there) (ap is_again frame)))
 
 -- what an access waits for that neither ended nor wants a frame
 abbrev pub WaitsOn : FaultStep → On → Type 0
@@ -213,52 +306,67 @@ unasked maps chains resident objects rows waiting_at key t v has absent found wa
     awaited_row resident v.want key.object.0 key.page.0 reason.1 (λ row there is. let bad : None ≡ Some row = sym absent ∙ there in absurd (cc))
 
 -- an access waits for a word of a pager
-pub once_turned : (w : Waiting) (may : Bool) (answer : FaultStep) (reason : On) (maps : Mapped) (host : HostId) (s new : FaultState) (objects : ObjectTable) (waits waits2 : WaitTable) (waiting_at : ℕ → Option Access) → WaitsOn answer reason
-    → HasWaiters maps s.chains s.parts.resident objects waits.rows (is_woken woken.Nobody) waiting_at → Faulted maps host w.task w.want may answer s new → (may ≡ false → free new.parts.frames ≡ free s.parts.frames)
-    → PutsEntry w.task.0 (Some (with_on w reason)) waits.rows waits2.rows → waits2.queue ≡ queue_without w.task.0 waits.queue → RunsOnce w may false waits waits2 s.events new.events
-once_turned w may (step.Done value) reason maps host s new objects waits waits2 waiting_at why has f kept put queue = absurd why
-once_turned w may (step.NeedFrame source) reason maps host s new objects waits waits2 waiting_at why has f kept put queue = absurd why
-once_turned w may (step.WaitReady object) reason maps host s new objects waits waits2 waiting_at why has f kept put queue =
-    stayed w may false s f.mid new waits waits2 (front_in f) f.comes.1.told (puts_rest w.task (Some (with_on w reason)) waits.rows waits2.rows put) queue
-    (done_by w.task.0 (Some (with_on w reason)) waits.rows waits2.rows put (λ v. turned_done w v reason (ap is_again why)))
-once_turned w may (step.WaitAnswer key) reason maps host s new objects waits waits2 waiting_at why has f kept put queue =
-    stayed w may false s f.mid new waits waits2 (front_in f) f.comes.1.told (puts_rest w.task (Some (with_on w reason)) waits.rows waits2.rows put) queue
-    (done_by w.task.0 (Some (with_on w reason)) waits.rows waits2.rows put (λ v. turned_done w v reason (ap is_again why)))
-once_turned w may (step.Unlock key) reason maps host s new objects waits waits2 waiting_at why has f kept put queue =
-    let first = front_in f in
-    let asks = f.comes in
-    let e : Event = event.Sent (Up host key.object) (message.Unlock asks.object.control key.page (wanted_number w.want asks.steps)) in
+pub once_turned : (w : Waiting) (may : Bool) (answer : FaultStep) (reason : On) {maps : Mapped} {host : HostId} {last : Want} {s new : FaultState} (objects : ObjectTable) (waits waits2 : WaitTable) (waiting_at : ℕ → Option Access) → WaitsOn answer reason
+    → HasWaiters maps s.chains s.parts.resident objects waits.rows (is_woken woken.Nobody) waiting_at → Runs maps host w.task may answer w.want last s new → (may ≡ false → free new.parts.frames ≡ free s.parts.frames)
+    → PutsEntry w.task.0 (Some (with_on (with_want w last) reason)) waits.rows waits2.rows → waits2.queue ≡ queue_without w.task.0 waits.queue → RunsOnce w may false waits waits2 s.events new.events
+once_turned w may (step.Done value) reason objects waits waits2 waiting_at why has runs kept put queue = absurd why
+once_turned w may (step.NeedFrame source) reason objects waits waits2 waiting_at why has runs kept put queue = absurd why
+once_turned w may (step.WaitReady object) reason {last = last} {s = s} {new = new} objects waits waits2 waiting_at why has runs kept put queue =
+    let p = pagewise runs in
+    let row = with_on (with_want w last) reason in
+    stayed w (is_copying w.want) may false s p.ran.mid new waits waits2 (front_in p) p.ran.comes.1.told p.ran.comes.1.parts kept (puts_rest w.task (Some row) waits.rows waits2.rows put) queue
+    (done_by w.task.0 (Some row) waits.rows waits2.rows put (λ v. turned_done (with_want w last) v reason (ap is_again why)))
+once_turned w may (step.WaitAnswer key) reason {last = last} {s = s} {new = new} objects waits waits2 waiting_at why has runs kept put queue =
+    let p = pagewise runs in
+    let row = with_on (with_want w last) reason in
+    stayed w (is_copying w.want) may false s p.ran.mid new waits waits2 (front_in p) p.ran.comes.1.told p.ran.comes.1.parts kept (puts_rest w.task (Some row) waits.rows waits2.rows put) queue
+    (done_by w.task.0 (Some row) waits.rows waits2.rows put (λ v. turned_done (with_want w last) v reason (ap is_again why)))
+once_turned w may (step.Unlock key) reason {host = host} {last = last} {s = s} {new = new} objects waits waits2 waiting_at why has runs kept put queue =
+    let p = pagewise runs in
+    let row = with_on (with_want w last) reason in
+    let first = front_in p in
+    let asks = p.ran.comes in
+    let number = wanted_number p.at asks.steps in
+    let e : Event = event.Sent (Up host key.object) (message.Unlock asks.object.control key.page number) in
     record {
       more = e ∷ first.front;
       told = asks.told ∙ ap (λ (z : List Event). e ∷ z) first.told;
-      claims = false;
-      did = ForUnlock first.front first.is host key asks.object.control (wanted_number w.want asks.steps);
-      none = λ bar. refl;
+      claims = first.claims;
+      did = ForUnlock first.claims first.front first.is host key asks.object.control number;
+      none = λ bar.
+          let even = kept bar in
+          let noted = asks.page.left in
+          front_bar first first.claims refl (omega (arith, even, noted));
       nothing = λ bad. absurd (let clash : false ≡ true = bad in cc);
-      done = done_by w.task.0 (Some (with_on w reason)) waits.rows waits2.rows put (λ v. turned_done w v reason (ap is_again why));
-      rest = puts_rest w.task (Some (with_on w reason)) waits.rows waits2.rows put;
+      done = done_by w.task.0 (Some row) waits.rows waits2.rows put (λ v. turned_done (with_want w last) v reason (ap is_again why));
+      rest = puts_rest w.task (Some row) waits.rows waits2.rows put;
       queue = queue;
     }
-once_turned w may (step.Ask key) reason maps host s new objects waits waits2 waiting_at why has f kept put queue =
-    let first = front_in f in
-    let asked = f.comes in
-    let absent : row_at s.parts.resident key.object.0 key.page.0 ≡ None = ap (λ z. row_at z key.object.0 key.page.0) (sym first.rows) ∙ asked.comes.absent in
-    let rest = puts_rest w.task (Some (with_on w reason)) waits.rows waits2.rows put in
-    let row : entry waits2.rows w.task.0 ≡ Some (with_on w reason) = puts_here w.task.0 (Some (with_on w reason)) waits.rows waits2.rows put in
-    let e : Event = event.Sent (Up host key.object) (message.Request asked.object.control key.page (wanted_number w.want asked.steps)) in
+once_turned w may (step.Ask key) reason {maps = maps} {host = host} {last = last} {s = s} {new = new} objects waits waits2 waiting_at why has runs kept put queue =
+    let p = pagewise runs in
+    let first = front_in p in
+    let asked = p.ran.comes in
+    let absent : row_at s.parts.resident key.object.0 key.page.0 ≡ None = first.rows key.object.0 key.page.0 asked.comes.absent in
+    let row : Waiting = with_on (with_want w last) reason in
+    let rest = puts_rest w.task (Some row) waits.rows waits2.rows put in
+    let there : entry waits2.rows w.task.0 ≡ Some row = puts_here w.task.0 (Some row) waits.rows waits2.rows put in
+    let number = wanted_number row.want asked.steps in
+    let e : Event = event.Sent (Up host key.object) (message.Request asked.object.control key.page number) in
+    let told : new.events ≡ e ∷ p.ran.mid.events =
+    subst (λ (z : Want). new.events ≡ event.Sent (Up host key.object) (message.Request asked.object.control key.page (wanted_number z asked.steps)) ∷ p.ran.mid.events) (sym p.last_is) asked.told in
     record {
       more = e ∷ first.front;
-      told = asked.told ∙ ap (λ (z : List Event). e ∷ z) first.told;
+      told = told ∙ ap (λ (z : List Event). e ∷ z) first.told;
       claims = true;
-      did = ForAsked first.front first.is host key asked.object.control asked.steps (with_on w reason) row why
+      did = ForAsked first.claims first.front first.is host key asked.object.control asked.steps row there why
           (λ t v apart is. unasked maps s.chains s.parts.resident objects waits.rows waiting_at key t v has absent (sym (rest t apart) ∙ is));
       none = λ bar.
           let even = kept bar in
           let less = asked.page.left in
-          let was : free f.mid.parts.frames ≡ free s.parts.frames = ap free first.frames in
+          let was = first.frames in
           absurd (omega (arith, even, less, was));
       nothing = λ bad. absurd (let clash : false ≡ true = bad in cc);
-      done = done_by w.task.0 (Some (with_on w reason)) waits.rows waits2.rows put (λ v. turned_done w v reason (ap is_again why));
+      done = done_by w.task.0 (Some row) waits.rows waits2.rows put (λ v. turned_done (with_want w last) v reason (ap is_again why));
       rest = rest;
       queue = queue;
     }

@@ -7,6 +7,7 @@ use Rattle.vm_state.proofs.Filling.{KeepsFilled, copies_kept, rows_unmade, top_u
 use Rattle.vm_state.specs.Filling.{filled_row}
 use Rattle.std.proofs.Common.{nat_lt, not}
 use Rattle.std.specs.Prelude.{IsSome}
+use Rattle.vm_base.specs.declared.ids.ObjectId.{ObjectId}
 use Rattle.vm_base.specs.declared.code.Code.TheVariants as code
 use Rattle.vm_base.specs.declared.ids.RegionId.{RegionId}
 use Rattle.vm_base.specs.Limits.{most_objects, most_pages, most_regions}
@@ -558,19 +559,9 @@ is_full_copy header source past true b declared mark = rw declared refl
 is_full_copy header source past false true declared mark = rw (declared, mark) refl
 is_full_copy header source past false false declared mark = rw (declared, mark) refl
 
--- a copy that is run is of a temporary region
-
-some_head : (b : Bool) (first : List Event) → IsSome (if b then None else Some first) → b ≡ false
-some_head true first is = absurd (let bad : false ≡ true = is in cc)
-some_head false first is = refl
-
-temporary_source : (count size next address bytes : ℕ) (target : TaskId) (to : ℕ) (x : Option Entry) (row : Entry) → x ≡ Some row → IsSome (copy_head count size next address bytes target to x) → nat_lt row.region.0 count ≡ false
-temporary_source count size next address bytes target to x row is built =
-    some_head (nat_lt row.region.0 count) _ (subst (λ (z : Option Entry). IsSome (copy_head count size next address bytes target to z)) is built)
-
 -- the numbers of a range
 
-range_of : (size address bytes : ℕ) → is_range size address bytes ≡ true → (bytes % size ≡ 0) × (0 < bytes)
+pub range_of : (size address bytes : ℕ) → is_range size address bytes ≡ true → (bytes % size ≡ 0) × (0 < bytes)
 range_of size address bytes is = (grind (arith, nat_tests), grind (arith, nat_tests))
 
 -- an entry from which a range can be copied, to a task with these entries
@@ -606,13 +597,21 @@ source_of header address bytes target to past (Some entry) fine =
       full = both.1;
     }
 
--- what a copy that may be run has
+-- what a copy that may be run has: a symmetric one is of a temporary region
 pub record MayPlace (header : Header) (task address bytes : ℕ) (target : ℕ) (to : ℕ) (past : List Event) (k : Parts) : Type 0 where
   pub entry : Entry
   pub lives : entries_in task k.maps ≡ Some (rows_in task k.maps)
   pub found : entry_at address (rows_in task k.maps) ≡ Some entry
   pub allowed : IsAllowed k.maps task address need.Load
-  pub may : MayCopy header target entry.region (page_at k.maps.size address entry) (whole_entry to bytes entry.region) past k
+  pub from : is_range header.size address bytes ≡ true
+  pub range : is_range header.size to bytes ≡ true
+  pub short : bytes / header.size ≤ most_pages
+  pub ends : address + bytes ≤ entry.address + entry.bytes
+  pub idle : waiting target past ≡ None
+  pub free : meets_range to bytes (rows_in target k.maps) ≡ false
+  pub few : nat_lt most_entries (length (rows_in target k.maps) + 1) ≡ false
+  pub full : refusing.is_copy_full header entry.region.0 past ≡ false
+  pub may : nat_lt entry.region.0 (named header) ≡ false → MayCopy header target entry.region (page_at k.maps.size address entry) (whole_entry to bytes entry.region) past k
 
 pub may_place : (header : Header) (h : ℕ) (task : TaskId) (address bytes : ℕ) (target : TaskId) (to : ℕ) (past : List Event) (k : Parts) (ids : Ids) (events : List Event) → Starts header h (command.Copy task address bytes target to) past k ids events
     → MayPlace header task.0 address bytes target.0 to past k
@@ -644,11 +643,6 @@ may_place header h task address bytes target to past k ids events s =
     let pages : region_pages k.chains entry.region.0 ≡ region.0.pages = ap pages_in region.1 in
     let free : meets_range to bytes (rows_in target.0 k.maps) ≡ false = ap (meets_range to bytes) (sym (rows_here m.tasks there)) ∙ source.free in
     let few : nat_lt most_entries (length (rows_in target.0 k.maps) + 1) ≡ false = ap (λ (z : List Entry). nat_lt most_entries (length z + 1)) (sym (rows_here m.tasks there)) ∙ source.few in
-    let unnamed : nat_lt entry.region.0 (named header) ≡ false = temporary_source (named header) size (next_region header past) address bytes target to (entry_at address own) entry source.is s.built in
-    let full = sym (is_full_copy header entry.region.0 past false (region_of header entry.region.0 past).mark unnamed refl) ∙ source.full in
-    let counts = or_parts (nat_le most_regions (next_region header past)) (nat_lt most_objects (next_object header past + marked_regions header past + (if (region_of header entry.region.0 past).mark then 1 else 2))) full in
-    let regions : nat_le most_regions (next_region header past) ≡ false = counts.0 in
-    let objects = counts.1 in
     let short : nat_lt most_pages (bytes / size) ≡ false = sized.0 in
     let some = range_of size to bytes ranges.1 in
     let sum = div_sum size (address - entry.address) bytes in
@@ -661,7 +655,19 @@ may_place header h task address bytes target to past k ids events s =
       lives = lives;
       found = found;
       allowed = record { entry = entry; lives = lives; found = found; allowed = source.allowed };
-      may =
+      from = ranges.0;
+      range = ranges.1;
+      short = grind (arith, nat_tests);
+      ends = ends;
+      idle = idle_both (waiting task.0 past) (waiting target.0 past) two.0;
+      free = free;
+      few = few;
+      full = source.full;
+      may = λ unnamed.
+          let full = sym (is_full_copy header entry.region.0 past false (region_of header entry.region.0 past).mark unnamed refl) ∙ source.full in
+          let counts = or_parts (nat_le most_regions (next_region header past)) (nat_lt most_objects (next_object header past + marked_regions header past + (if (region_of header entry.region.0 past).mark then 1 else 2))) full in
+          let regions : nat_le most_regions (next_region header past) ≡ false = counts.0 in
+          let objects = counts.1 in
           record {
             lives = there;
             idle = idle_both (waiting task.0 past) (waiting target.0 past) two.0;
@@ -693,22 +699,36 @@ may_place header h task address bytes target to past k ids events s =
     idle_both None None e = refl
     idle_both None (Some y) e = absurd (let bad : true ≡ false = e in cc)
 
+-- the region that the code found is no declared object's
+plain_source : {header : Header} {h : ℕ} {k : Parts} {ids : Ids} {past : List Event} (address : ℕ) (entry : Entry) (place : Place) → Rests header h k ids past → place ≡ place_at k.maps.size address entry → length k.declared.items ≤ place.region.0 → nat_lt entry.region.0 (named header) ≡ false
+plain_source {header = header} {k = k} address entry place rests is least =
+    let same : place.region.0 ≡ entry.region.0 = ap (λ z. z.region.0) is in
+    let all : length k.declared.items ≡ named header = ap length rests.matches.declared in
+    let temporary : named header ≤ entry.region.0 = omega (arith, same, all, least) in
+    grind (arith, nat_tests)
+
 -- both are in place
 pub can_place : (header : Header) (h : ℕ) (task : TaskId) (address bytes : ℕ) (target : TaskId) (to : ℕ) (past : List Event) (k : Parts) (ids : Ids) (events : List Event) (place : Place) (range : Entry) → Starts header h (command.Copy task address bytes target to) past k ids events
-    → ((entry : Entry) → entry_at address (rows_in task.0 k.maps) ≡ Some entry → place ≡ place_at k.maps.size address entry) → range ≡ whole_entry to bytes place.region → CanCopy target.0 place.region place.page.0 range k ids
-can_place header h task address bytes target to past k ids events place range s is made =
+    → ((entry : Entry) → entry_at address (rows_in task.0 k.maps) ≡ Some entry → place ≡ place_at k.maps.size address entry) → length k.declared.items ≤ place.region.0 → range ≡ whole_entry to bytes place.region → CanCopy target.0 place.region place.page.0 range k ids
+can_place header h task address bytes target to past k ids events place range s is least made =
     let p = may_place header h task address bytes target to past k ids events s in
     subst (λ (z : Entry). CanCopy target.0 place.region place.page.0 z k ids) (sym made)
     (subst (λ (z : Place). CanCopy target.0 z.region z.page.0 (whole_entry to bytes z.region) k ids) (sym (is p.entry p.found))
-    (can_copy header h target.0 p.entry.region (page_at k.maps.size address p.entry) (whole_entry to bytes p.entry.region) past k ids s.rests p.may))
+    (can_copy header h target.0 p.entry.region (page_at k.maps.size address p.entry) (whole_entry to bytes p.entry.region) past k ids s.rests (p.may (plain_source address p.entry place s.rests (is p.entry p.found) least))))
+
+-- the two events with which a slow copy begins
+abbrev pub begun_copy : TaskId → ℕ → ℕ → ℕ → RegionId → ObjectId → ℕ → List Event
+begun_copy task address bytes to region object pages = event.BegunCopy task address bytes to ∷ event.RegionMade region object pages ∷ []
 
 pub ran_copy : (header : Header) (h : ℕ) (outside : Outside) (task : TaskId) (address bytes : ℕ) (target : TaskId) (to : ℕ) (past : List Event) (k k2 : Parts) (ids ids2 : Ids) (before after : List Event) (place : Place) (range : Entry)
-    → Starts header h (command.Copy task address bytes target to) past k ids before → ((entry : Entry) → entry_at address (rows_in task.0 k.maps) ≡ Some entry → place ≡ place_at k.maps.size address entry) → range ≡ whole_entry to bytes place.region
+    → Starts header h (command.Copy task address bytes target to) past k ids before → ((entry : Entry) → entry_at address (rows_in task.0 k.maps) ≡ Some entry → place ≡ place_at k.maps.size address entry) → length k.declared.items ≤ place.region.0 → range ≡ whole_entry to bytes place.region
     → EntersCopy target place.region place.page.0 range k k2 ids ids2 before after → Ran header h outside (command.Copy task address bytes target to) past k2 ids2 after
-ran_copy header h outside task address bytes target to past k k2 ids ids2 before after place range s is made entered_copy =
+ran_copy header h outside task address bytes target to past k k2 ids ids2 before after place range s is least made entered_copy =
     let m = s.rests.matches in
     let doing = command.Copy task address bytes target to in
     let p = may_place header h task address bytes target to past k ids before s in
+    let unnamed = plain_source address p.entry place s.rests (is p.entry p.found) least in
+    let may = p.may unnamed in
     let source = p.entry.region in
     let page = page_at k.maps.size address p.entry in
     let row = whole_entry to bytes source in
@@ -722,11 +742,11 @@ ran_copy header h outside task address bytes target to past k k2 ids ids2 before
     let told : after ≡ events = told_copied header h target source page row past k k2 ids ids2 before after s.rests c ∙ ap (λ z. got target (entry_on row c.copy) ∷ copied c.copy source page (bytes / header.size) ∷ z) s.nothing in
     let same : entry_at address (entries_of header.size task.0 past) ≡ Some p.entry = ap (entry_at address) (rows_here m.tasks p.lives) ∙ p.found in
     let written : head header past doing ≡ Some first =
-    ap (copy_head (named header) header.size (next_region header past) address bytes target to) same
-    ∙ (ap (λ b. if b then None else Some (copied (record { 0 = next_region header past }) source (page_at header.size address p.entry) (bytes / header.size) ∷ got target (entry_on row (record { 0 = next_region header past })) ∷ [])) (let least = p.may.temporary in let unnamed : nat_lt source.0 (named header) ≡ false = grind (arith, nat_tests) in unnamed)
+    ap (copy_head (named header) header.size (next_region header past) (next_object header past) task address bytes target to) same
+    ∙ (ap (λ b. Some (if b then begun_copy task address bytes to (record { 0 = next_region header past }) (record { 0 = next_object header past }) (bytes / header.size) else copied (record { 0 = next_region header past }) source (page_at header.size address p.entry) (bytes / header.size) ∷ got target (entry_on row (record { 0 = next_region header past })) ∷ [])) unnamed
     ∙ (ap (λ (z : ℕ). Some (copied (record { 0 = next_region header past }) source (page_at z address p.entry) (bytes / header.size) ∷ got target (entry_on row (record { 0 = next_region header past })) ∷ [])) (sym m.tasks.sized)
     ∙ ap (λ (z : RegionId). Some (copied z source page (bytes / header.size) ∷ got target (entry_on row z) ∷ [])) (sym named_copy))) in
     subst (λ (z : List Event). Ran header h outside doing past k2 ids2 z) (sym told)
     (ran_head header h outside doing past k2 ids2 events first written refl
-    (heads_copied header h outside doing target c.copy source page row past [] k ids s.rests p.may number (record { licensed = tt; own_bytes = tt; frames = tt; inner = tt; said = tt; mine = tt })) tt
-    (rests_copied header h outside doing target source page row past k k2 ids ids2 before after s.rests p.may c))
+    (heads_copied header h outside doing target c.copy source page row past [] k ids s.rests may number (record { licensed = tt; own_bytes = tt; frames = tt; inner = tt; said = tt; mine = tt })) tt
+    (rests_copied header h outside doing target source page row past k k2 ids ids2 before after s.rests may c))

@@ -46,7 +46,6 @@ waits_ended maps cs rs os rows who waiting_at task has none =
       ];
       allowed = has.allowed;
       sized = has.sized;
-      numbers = has.numbers;
       reasons = has.reasons;
       aims = has.aims;
       askers = has.askers;

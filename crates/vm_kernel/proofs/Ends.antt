@@ -1,8 +1,12 @@
 -- Entries that have gone leave the counts.
-use Rattle.vm_kernel.proofs.Common.{ChainTable, Command, EndsRegion, Entry, Event, HasEntries, HasSlow, Header, Ids, IsFilledIn, IsInStep, List, Mapped, Outside, Parts, PutsEntries, RegionRow, Some, Sweeps, Waiting, ap, arith, backing_of, count_on, drop, entries_in_row, eqb_tells, home_of, if◌then◌else◌, inl, inr, is_woken, marked_regions, next_object, next_region, refl, region_at, region_entries, region_of, rows_in, slice_get, subst, suc, sym, waiting, zero, ℕ, ◌++◌, ◌+◌, ◌-◌, ◌<◌, ◌==◌, ◌∙◌, ◌∷◌, ◌≡◌, ◌≢◌, ◌≤◌, ◌⊎◌}
+use Rattle.vm_kernel.proofs.Common.{ChainTable, Command, EachOf, EndsOnly, EndsRegion, Entry, Event, HasEntries, HasSlow, Header, Ids, IsEnding, IsFilledIn, IsInStep, IsWhole, LegalEvents, List, Mapped, Outside, Parts, PutsEntries, QueueIsStill, RegionRow, RunsNobody, RunsNone, Some, Sweeps, TaskId, WaitTable, Waiting, [], ap, append_assoc, arith, backing_of, count_again, count_on, drop, entries_in_row, eqb_tells, home_of, if◌then◌else◌, inl, inr, is_woken, marked_regions, next_object, next_region, of_both, refl, region_at, region_entries, region_of, rows_in, slice_get, subst, suc, sym, waiting, zero, ℕ, ◌++◌, ◌+◌, ◌-◌, ◌<◌, ◌==◌, ◌∙◌, ◌∷◌, ◌≡◌, ◌≢◌, ◌≤◌, ◌⊎◌}
 use Rattle.vm_kernel.proofs.Filled.{counted_unfilled, recount_filled}
 use Rattle.vm_state.proofs.Filling.{copies_kept, rows_unmade}
+use Rattle.vm_model.specs.declared.event.Event.TheVariants as event
+use Rattle.vm_model.specs.declared.message.Channel.TheVariants.{Up}
+use Rattle.vm_model.specs.declared.message.Message.TheVariants as message
 use Rattle.vm_supply.specs.declared.woken.Woken.TheVariants as woken
+use Rattle.vm_kernel.proofs.Growing.{grows_goes}
 use Rattle.vm_kernel.proofs.Pages.{itself}
 use Rattle.vm_kernel.proofs.Recounts.{Recounts, entries_are, has_same, next_row, recounts_put, row_before}
 use Rattle.vm_kernel.proofs.Regions.{region_row, tops_recounted}
@@ -133,15 +137,16 @@ sweeps_less header h outside doing past k ids entry rest events chains s put mor
 
 -- it was the last of its region
 pub ends_less : (header : Header) (h : ℕ) (outside : Outside) (doing : Command) (past : List Event) (k : Parts) (ids : Ids) (entry : Entry) (rest : List Entry) (events : List Event) (chains : ChainTable) → Sweeps header h outside doing past k ids (entry ∷ rest) events
-    → PutsEntries entry.region.0 (region_entries k.chains entry.region.0 - 1) k.chains chains → region_entries k.chains entry.region.0 ≡ 1 → EndsRegion header h outside doing past (record k { chains = chains }) ids rest entry.region.0 events
+    → PutsEntries entry.region.0 (region_entries k.chains entry.region.0 - 1) k.chains chains → region_entries k.chains entry.region.0 ≡ 1 → EndsRegion header h woken.Nobody (record k { chains = chains }) ids rest entry.region.0 (events ++ past)
 ends_less header h outside doing past k ids entry rest events chains s put last =
     let count = count_less k.chains entry.region.0 in
     let is : Recounts count k.chains chains = recounts_put entry.region.0 (region_entries k.chains entry.region.0 - 1) k.chains chains put in
     let there = has_same count k.chains chains is entry.region.0 ∙ s.runs.matches.entries.known.0 in
     let are = entries_are count k.chains chains is entry.region.0 s.runs.matches.entries.known.0 in
     let less : count entry.region.0 ≡ region_entries k.chains entry.region.0 - 1 = rw (itself entry.region.0) refl in
+    let runs = runs_less header h outside doing past k ids entry rest events chains s.runs put in
     record {
-      runs = runs_less header h outside doing past k ids entry rest events chains s.runs put;
+      runs = record { matches = runs.matches; waits = runs.waits; order = runs.order };
       there = there;
       none = omega arith;
       others = others_less k.chains chains entry.region.0 put k.waits.rows s.used.regions;
@@ -155,3 +160,48 @@ pub sweeps_next : (header : Header) (h : ℕ) (outside : Outside) (doing : Comma
     → Sweeps header h outside doing past k ids (drop i rows) events → Sweeps header h outside doing past k ids (entry ∷ rest) events
 sweeps_next header h outside doing past k ids rows rest i entry events found is s =
     subst (λ (z : List Entry). Sweeps header h outside doing past k ids z events) (next_row rows i entry found ∙ ap (λ z. entry ∷ z) (sym is)) s
+
+-- its region has ended
+pub sweeps_on : {header : Header} {h : ℕ} {outside : Outside} {doing : Command} {past : List Event} {k k2 : Parts} {ids : Ids} {gone rest : List Entry} {old new : List Event} → Sweeps header h outside doing past k ids gone old → IsWhole header h woken.Nobody k2 ids rest (new ++ past)
+    → LegalEvents header h outside doing past old new → k2.waits ≡ k.waits → Sweeps header h outside doing past k2 ids rest new
+sweeps_on {header = header} {h = h} {outside = outside} {doing = doing} {past = past} {old = old} {new = new} s whole goes same =
+    record {
+      runs = record {
+        begins = s.runs.begins;
+        matches = whole.runs.matches;
+        waits = whole.runs.waits;
+        order = whole.runs.order;
+        idle = ap (λ z. count_again z.rows) same ∙ s.runs.idle;
+        grows = grows_goes header h outside doing past old new s.runs.grows goes;
+      };
+      used = whole.used;
+      referred = whole.referred;
+    }
+
+-- what ends something runs nobody
+
+ending_quiet : (e : Event) → IsEnding e → RunsNone e
+ending_quiet (event.Dropped host object page) is = tt
+ending_quiet (event.Sent (Up host object) (message.Return control page dirty keep bytes)) is = tt
+ending_quiet (event.Sent (Up host object) (message.Terminate control)) is = tt
+ending_quiet other is = absurd is
+
+each_quiet : (events : List Event) → EachOf IsEnding events → EachOf RunsNone events
+each_quiet [] all = tt
+each_quiet (e ∷ events) all = (ending_quiet e all.0, each_quiet events all.1)
+
+pub ends_nobody : (old new : WaitTable) (before after : List Event) → new ≡ old → EndsOnly before after → RunsNobody old.queue new.queue before after
+ends_nobody old new before after same only = record { queue = ap (λ z. z.queue) same; more = only.more; told = only.is; none = each_quiet only.more only.each }
+
+pub ends_still : (old new : WaitTable) (before after : List Event) → new ≡ old → EndsOnly before after → QueueIsStill old.queue new.queue before after
+ends_still old new before after same only = let nobody = ends_nobody old new before after same only in record { queue = nobody.queue; none = λ all. subst (EachOf RunsNone) (sym nobody.told) (of_both RunsNone nobody.more before nobody.none all) }
+
+-- one stretch behind another
+pub nobody_both : (a b c : List TaskId) (before mid after : List Event) → RunsNobody a b before mid → RunsNobody b c mid after → RunsNobody a c before after
+nobody_both a b c before mid after one two =
+    record {
+      queue = two.queue ∙ one.queue;
+      more = two.more ++ one.more;
+      told = two.told ∙ (ap (λ z. two.more ++ z) one.told ∙ sym (append_assoc two.more one.more before));
+      none = of_both RunsNone two.more one.more two.none one.none;
+    }

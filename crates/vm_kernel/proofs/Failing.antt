@@ -1,22 +1,28 @@
 -- Those who wait for a page that its pager can't give are ended.
-use Rattle.vm_kernel.proofs.Common.{AllInner, Asked, Asker, BeganInOrder, Command, EndsEach, EndsNobody, Event, Fails, FailsNow, HasEnded, HasFailed, HasUse, HasWaits, Header, Ids, IfSome, IsAbsencePaid, IsAnswered, IsErrorPaid, IsFilledIn, LegalEvents, List, Mapped, Matches, None, On, Outside, PageKey, Parts, PutsEntry, Some, TaskId, WaitTable, Waiting, Woken, Works, [], absence_more, absence_taken, access_in, address_in, ap, append_assoc, begun_at, copies_to, copy_target, entries_in, entries_of, entry, entry_at, eqb_tells, error_more, error_taken, fails_access, fails_task, false, holds, homes_next, if◌then◌else◌, in_use, inl, inr, next_page, next_region, oldest_row, or_true, page_key, puts_cases, refl, rows_in, since, since_more, some_is, subst, sym, true, waiting, waiting_in, woken_page, ℕ, ◌++◌, ◌<◌, ◌==◌, ◌||◌, ◌∙◌, ◌∷◌, ◌≡◌, ◌⊎◌}
+use Rattle.vm_kernel.proofs.Common.{AllInner, AllReferred, Asked, Asker, BeganInOrder, Bool, ChainTable, Command, EachOf, EndsEach, EndsNobody, EndsOnly, EndsRegion, Event, Fails, FailsNow, HasCopies, HasEnded, HasFailed, HasSlow, HasUse, HasWaits, Header, Ids, IfSome, IsAbsencePaid, IsAmid, IsAnswered, IsEnding, IsErrorPaid, IsFilledIn, IsWhole, LegalEvents, List, Mapped, Matches, None, On, OnlyLoses, Option, Outside, PageKey, Parts, PutsEntry, ResidentTable, Some, TaskId, WaitTable, Waiting, Woken, Works, [], absence_more, absence_taken, access_in, address_in, ap, append_assoc, begun_at, copies_to, copy_target, entries_in, entries_in_row, entries_of, entry, entry_at, eqb_tells, error_more, error_taken, fails_access, fails_task, false, fills_in, holds, homes_next, if◌then◌else◌, in_use, inl, inr, next_page, next_region, oldest_row, or_true, page_key, puts_cases, refl, rows_in, since, since_more, some_is, subst, sym, true, waiting, waiting_in, woken_page, ℕ, ◌++◌, ◌<◌, ◌==◌, ◌||◌, ◌∙◌, ◌∷◌, ◌≡◌, ◌≢◌, ◌⊎◌}
 use Rattle.vm_kernel.proofs.Uses.{FillsHere, fills_here, holds_waits, uses_none}
-use Rattle.vm_state.proofs.Filling.{fills_over, filled_before, number_fills, used_over}
+use Rattle.vm_state.proofs.Filling.{Filled, filled_there, used_over}
 use Rattle.vm_legal.specs.Licences.{zeroes}
 use Rattle.std.proofs.Common.{is_some}
 use Rattle.vm_abroad.proofs.Home.{object_stays}
+use Rattle.vm_model.specs.Waiting.{Target}
 use Rattle.vm_model.specs.declared.event.Event.TheVariants as event
+use Rattle.vm_model.specs.declared.message.Channel.TheVariants.{Up}
+use Rattle.vm_model.specs.declared.message.Message.TheVariants as message
+use Rattle.vm_state.specs.Filling.{is_destination}
+use Rattle.vm_waits.specs.declared.waiting.Destination.{Destination}
 use Rattle.vm_legal.specs.Living.{tasks as made_tasks}
 use Rattle.vm_supply.specs.declared.woken.Woken.TheVariants as who
 use Rattle.vm_waits.specs.declared.waiting.On.TheVariants as on
 use Rattle.vm_kernel.proofs.After.{controls_stay, regions_moved}
-use Rattle.vm_kernel.proofs.Growing.{goes_more, suffices}
+use Rattle.vm_kernel.proofs.Growing.{goes_both, goes_more, suffices}
 use Rattle.vm_kernel.proofs.Ordering.{PutsInOrder, oldest_first}
 use Rattle.vm_kernel.proofs.Shown.{place_at, want_address}
 use Rattle.vm_kernel.proofs.Own.{lives_here, rows_here}
 use Rattle.vm_state.proofs.Waited.{AreTold}
 use Rattle.vm_kernel.proofs.Mine.{own_lives}
 use Rattle.vm_kernel.proofs.Replied.{replied_behind}
+use Rattle.vm_state.proofs.Filling.{copies_next}
 
 -- who waits for the page
 pub waits_for : (key : PageKey) (reason : On) → woken_page key reason ≡ true → reason ≡ on.Page key
@@ -51,7 +57,7 @@ fails_cause header h k ids past key w works fails found waits before =
     let place = works.waits.aims w.task.0 w key found waits in
     let at = place.at in
     let allowed = works.waits.allowed w.task.0 w found in
-    let number = works.waits.numbers w.task.0 w found in
+    let agrees = copies_next works.used.copies w.task.0 w found in
     record {
       access = access_in k.maps.size (copies_to w.destination) w.want;
       waits =
@@ -62,11 +68,11 @@ fails_cause header h k ids past key w works fails found waits before =
                   host = h;
                   entry = at.entry;
                   lives = lives_here was.tasks allowed.lives;
-                  found = ap (λ z. entry_at z (entries_of header.size w.task.0 past)) (want_address k.maps.size header.size (next_page w.task.0 past) (copies_to w.destination) w.want number) ∙ (ap (entry_at (address_in k.maps.size w.want)) (rows_here was.tasks allowed.lives) ∙ at.found);
+                  found = ap (λ z. entry_at z (entries_of header.size w.task.0 past)) (want_address k.maps.size header.size (next_page w.task.0 past) (copies_to w.destination) w.want was.tasks.sized agrees) ∙ (ap (entry_at (address_in k.maps.size w.want)) (rows_here was.tasks allowed.lives) ∙ at.found);
                 };
           };
       error = fails;
-      place = place_at was (copies_to w.destination) number place;
+      place = place_at was (copies_to w.destination) agrees place;
       order = λ other ended. before other w.task.0 w ended found (ap (woken_page key) waits ∙ itself key);
     }
 
@@ -117,6 +123,28 @@ uses_failed header h k ids past key task rows works filled back lives =
     was : Matches header h k ids [] past
     was = works.matches
 
+-- what the others fill
+
+pub fills_apart : (task t r : ℕ) (rows rows2 : List Waiting) → PutsEntry task None rows rows2 → fills_in r (entry rows2 t) ≡ true → (task ≡ t → ⊥) × (fills_in r (entry rows t) ≡ true)
+fills_apart task t r rows rows2 puts is = elim (eqb_tells task t) [
+  | inl same ↦ absurd (let bad : false ≡ true = sym (ap (fills_in r) (puts.at t ∙ ap (λ b. if b then None else entry rows t) same.0)) ∙ is in cc)
+  | inr apart ↦ (apart.1, sym (ap (fills_in r) (puts.at t ∙ ap (λ b. if b then None else entry rows t) apart.0)) ∙ is)
+]
+
+fills_still : (task t r : ℕ) (rows rows2 : List Waiting) → PutsEntry task None rows rows2 → (task ≡ t → ⊥) → fills_in r (entry rows t) ≡ true → fills_in r (entry rows2 t) ≡ true
+fills_still task t r rows rows2 puts apart is = elim (eqb_tells task t) [
+  | inl same ↦ absurd (apart same.1)
+  | inr other ↦ ap (fills_in r) (puts.at t ∙ ap (λ b. if b then None else entry rows t) other.0) ∙ is
+]
+
+copies_without : {header : Header} {maps : Mapped} {cs : ChainTable} {rs : ResidentTable} {next_at : ℕ → ℕ} {target_at : ℕ → Option Target} (task : ℕ) (rows rows2 : List Waiting) → HasCopies header maps cs rs rows next_at target_at → PutsEntry task None rows rows2
+    → HasCopies header maps cs rs rows2 next_at target_at
+copies_without task rows rows2 copies puts =
+    record {
+      each = λ t w found. copies.each t w (stood task t rows rows2 w puts found);
+      apart = λ t u r one two. copies.apart t u r (fills_apart task t r rows rows2 puts one).1 (fills_apart task u r rows rows2 puts two).1;
+    }
+
 -- what holds while they are ended
 pub record Failing (header : Header) (h : ℕ) (outside : Outside) (doing : Command) (past old events : List Event) (key : PageKey) (k : Parts) (ids : Ids) : Type 0 where
   pub works : Works header h k ids (who.Fails key) (events ++ past)
@@ -125,10 +153,20 @@ pub record Failing (header : Header) (h : ℕ) (outside : Outside) (doing : Comm
   pub before : EndsBefore key k.waits.rows (events ++ past)
   pub goes : LegalEvents header h outside doing past old events
 
+-- and behind the end of one, while the region that it filled may be left
+pub record FailedOne (header : Header) (h : ℕ) (outside : Outside) (doing : Command) (past old events : List Event) (key : PageKey) (k : Parts) (ids : Ids) : Type 0 where
+  pub runs : IsAmid header h (who.Fails key) k ids [] (events ++ past)
+  pub copies : HasSlow header k (events ++ past)
+  pub referred : AllReferred k.chains k.memory.objects k.memory.resident
+  pub fails : FailsNow header h (who.Fails key) (events ++ past)
+  pub answered : IsAnswered (who.Fails key) k.memory.resident
+  pub before : EndsBefore key k.waits.rows (events ++ past)
+  pub goes : LegalEvents header h outside doing past old events
+
 -- one is ended
 pub failed_one : (header : Header) (h : ℕ) (outside : Outside) (doing : Command) (past old events : List Event) (key : PageKey) (k : Parts) (ids : Ids) (w : Waiting) (waits : WaitTable)
     → Failing header h outside doing past old events key k ids → entry k.waits.rows w.task.0 ≡ Some w → woken_page key w.on ≡ true → oldest_row (woken_page key) k.waits.rows ≡ Some w → PutsInOrder w.task.0 None k.waits.rows waits.rows
-    → Failing header h outside doing past old (event.Failed w.task key.object key.page ∷ events) key (record k { waits = waits }) ids
+    → FailedOne header h outside doing past old (event.Failed w.task key.object key.page ∷ events) key (record k { waits = waits }) ids
 failed_one header h outside doing past old events key k ids w waits f found passes first both =
     let puts = both.entry in
     let was = f.works.matches in
@@ -137,53 +175,48 @@ failed_one header h outside doing past old events key k ids w waits f found pass
     let rows = k.waits.rows in
     let has = f.works.waits in
     let is : AreTold k.maps waits.rows (λ t. waiting t (e ∷ moment)) = waits_less k.maps w.task.0 rows waits.rows moment has.is puts in
-    let numbers = λ (t : ℕ) (v : Waiting) (at : entry waits.rows t ≡ Some v). has.numbers t v (stood w.task.0 t rows waits.rows v puts at) in
     let cause = fails_cause header h k ids moment key w f.works f.fails found (waits_for key w.on passes) f.before in
-    let copies = f.works.used.copies in
-    let none : w.destination ≡ None = number_fills header k.maps k.chains k.memory.resident w.task.0 w.want w.destination (next_page w.task.0 moment) (copy_target w.task.0 moment) (has.numbers w.task.0 w found) (copies.each w.task.0 w found) in
-    let used2 = used_over w.task.0 w rows waits.rows f.works.used found none puts in
+    let copies = copies_without w.task.0 rows waits.rows f.works.used.copies puts in
     let has2 : HasWaits (record k { waits = waits }) (who.Fails key) (e ∷ moment) = record {
       is = is;
       allowed = λ t v at. has.allowed t v (stood w.task.0 t rows waits.rows v puts at);
       sized = λ t v at. has.sized t v (stood w.task.0 t rows waits.rows v puts at);
-      numbers = numbers;
       reasons = λ t v at still. has.reasons t v (stood w.task.0 t rows waits.rows v puts at) still;
       aims = λ t v other at waits_on. has.aims t v other (stood w.task.0 t rows waits.rows v puts at) waits_on;
       askers = λ o p row at away. asker_stays o p (has.askers o p row at away) (f.answered.at o p row at away);
       ready = has.ready;
     } in
     record {
-      works =
-          record {
-            matches =
-                record {
-                  ranged = was.ranged;
-                  declared = was.declared;
-                  kinds = was.kinds;
-                  shared = was.shared;
-                  known = was.known;
-                  size = was.size;
-                  host = was.host;
-                  fits = record { parts = was.fits.parts; plain = was.fits.plain; buffers = was.fits.buffers };
-                  tasks = was.tasks;
-                  regions = regions_moved header moment (e ∷ moment) refl refl (λ r. refl) (λ o. refl) was.regions;
-                  entries = was.entries;
-                  pages = was.pages;
-                  uses = uses_failed header h k ids moment key w.task waits.rows f.works (fills_here {past = e ∷ moment} has2 used2.copies) (λ r filled. filled_before {rows = rows} {rows2 = waits.rows} (fills_over w.task.0 w rows waits.rows found none puts) filled) (has.allowed w.task.0 w found).lives;
-                  controls = controls_stay (λ o held. object_stays o h e moment held) was.controls;
-                  homeless = homes_next header outside e moment (doing, cause) was.homeless;
-                  homes = was.homes;
-                  files = was.files;
-                  settled = record { none_owed = refl; shut = λ region. refl };
-                  replied = replied_behind tt was.replied;
-                  laundry = was.laundry;
-                  frames = was.frames;
-                };
-            used = used2;
-            referred = f.works.referred;
-            waits = has2;
-            order = both.order.keeps (λ t. begun_at t moment) 0 f.works.order;
-          };
+      runs = record {
+        matches = record {
+          ranged = was.ranged;
+          declared = was.declared;
+          kinds = was.kinds;
+          shared = was.shared;
+          known = was.known;
+          size = was.size;
+          host = was.host;
+          fits = record { parts = was.fits.parts; plain = was.fits.plain; buffers = was.fits.buffers };
+          tasks = was.tasks;
+          regions = regions_moved header moment (e ∷ moment) refl refl (λ r. refl) (λ o. refl) was.regions;
+          entries = was.entries;
+          pages = was.pages;
+          uses = uses_failed header h k ids moment key w.task waits.rows f.works (fills_here {past = e ∷ moment} has2 copies)
+              (λ r filled. record { task = filled.task; fills = (fills_apart w.task.0 filled.task r rows waits.rows puts filled.fills).1 }) (has.allowed w.task.0 w found).lives;
+          controls = controls_stay (λ o held. object_stays o h e moment held) was.controls;
+          homeless = homes_next header outside e moment (doing, cause) was.homeless;
+          homes = was.homes;
+          files = was.files;
+          settled = record { none_owed = refl; shut = λ region. refl };
+          replied = replied_behind tt was.replied;
+          laundry = was.laundry;
+          frames = was.frames;
+        };
+        waits = has2;
+        order = both.order.keeps (λ t. begun_at t moment) 0 f.works.order;
+      };
+      copies = copies;
+      referred = f.works.referred;
       fails = f.fails;
       answered = f.answered;
       before = ends_before key w k.waits.rows waits.rows moment f.before f.works.order first puts;
@@ -203,8 +236,113 @@ failed_one header h outside doing past old events key k ids w waits f found pass
           waits = asker.waits;
         }
 
+-- it filled nothing
+pub failed_plain : (header : Header) (h : ℕ) (outside : Outside) (doing : Command) (past old events : List Event) (key : PageKey) (k : Parts) (ids : Ids) (w : Waiting) (waits : WaitTable)
+    → Failing header h outside doing past old events key k ids → entry k.waits.rows w.task.0 ≡ Some w → w.destination ≡ None → PutsEntry w.task.0 None k.waits.rows waits.rows
+    → FailedOne header h outside doing past old (event.Failed w.task key.object key.page ∷ events) key (record k { waits = waits }) ids → Failing header h outside doing past old (event.Failed w.task key.object key.page ∷ events) key (record k { waits = waits }) ids
+failed_plain header h outside doing past old events key k ids w waits f found none puts one =
+    record {
+      works = record { matches = one.runs.matches; used = used_over w.task.0 w k.waits.rows waits.rows f.works.used found none puts; referred = one.referred; waits = one.runs.waits; order = one.runs.order };
+      fails = one.fails;
+      answered = one.answered;
+      before = one.before;
+      goes = one.goes;
+    }
+
+-- the region that it filled has no entries, and nobody fills it any more
+pub ends_filled : (header : Header) (h : ℕ) (outside : Outside) (doing : Command) (past old events : List Event) (key : PageKey) (k : Parts) (ids : Ids) (w : Waiting) (to : Destination) (waits : WaitTable)
+    → Failing header h outside doing past old events key k ids → entry k.waits.rows w.task.0 ≡ Some w → w.destination ≡ Some to → PutsEntry w.task.0 None k.waits.rows waits.rows
+    → FailedOne header h outside doing past old (event.Failed w.task key.object key.page ∷ events) key (record k { waits = waits }) ids
+    → EndsRegion header h (who.Fails key) (record k { waits = waits }) ids [] to.region.0 (event.Failed w.task key.object key.page ∷ (events ++ past))
+ends_filled header h outside doing past old events key k ids w to waits f found goes puts one =
+    record {
+      runs = one.runs;
+      there = ap is_some there.region;
+      none = ap entries_in_row there.region;
+      others = λ r row apart at. elim (f.works.used.regions r row at) [
+        | inl some ↦ inl some
+        | inr filled ↦ inr (record { task = filled.task; fills = fills_still w.task.0 filled.task r k.waits.rows waits.rows puts (λ same. other r apart (ap (λ z. fills_in r (entry k.waits.rows z)) same ∙ filled.fills)) filled.fills })
+      ];
+      copies = one.copies;
+      unfilled = λ task. by_test task (fills_in to.region.0 (entry waits.rows task)) refl;
+      referred = one.referred;
+    }
+  where
+    filled_by : (r : ℕ) → fills_in r (entry k.waits.rows w.task.0) ≡ (to.region.0 == r)
+    filled_by r = ap (fills_in r) found ∙ ap (is_destination r) goes
+
+    mine : fills_in to.region.0 (entry k.waits.rows w.task.0) ≡ true
+    mine = filled_by to.region.0 ∙ elim (eqb_tells to.region.0 to.region.0) [ inl same ↦ same.0 | inr apart ↦ absurd (apart.1 refl) ]
+
+    there : Filled k.chains (copy_target w.task.0 (events ++ past)) to.region.0
+    there = filled_there f.works.used.copies w.task.0 to.region.0 mine
+
+    other : (r : ℕ) → r ≢ to.region.0 → fills_in r (entry k.waits.rows w.task.0) ≡ true → ⊥
+    other r apart is = elim (eqb_tells to.region.0 r) [
+      | inl same ↦ apart (sym same.1)
+      | inr far ↦ let bad : false ≡ true = sym far.0 ∙ (sym (filled_by r) ∙ is) in cc
+    ]
+
+    by_test : (task : ℕ) (b : Bool) → fills_in to.region.0 (entry waits.rows task) ≡ b → b ≡ false
+    by_test task false is = refl
+    by_test task true is =
+        let was = fills_apart w.task.0 task to.region.0 k.waits.rows waits.rows puts is in
+        absurd (was.0 (f.works.used.copies.apart w.task.0 task to.region.0 mine was.1))
+
+-- what ends pages and controls ends no access
+
+since_ended : (u o p : ℕ) (more past : List Event) → EachOf IsEnding more → since (fails_task u o p) (more ++ past) ≡ since (fails_task u o p) past
+since_ended u o p [] past all = refl
+since_ended u o p (e ∷ more) past all = one e all.0 ∙ since_ended u o p more past all.1
+  where
+    one : (e : Event) → IsEnding e → since (fails_task u o p) (e ∷ (more ++ past)) ≡ since (fails_task u o p) (more ++ past)
+    one (event.Dropped host object page) is = refl
+    one (event.Sent (Up host object) (message.Return control page dirty keep bytes)) is = refl
+    one (event.Sent (Up host object) (message.Terminate control)) is = refl
+    one other is = absurd is
+
+begun_ended : (t : ℕ) (more past : List Event) → EachOf IsEnding more → begun_at t (more ++ past) ≡ begun_at t past
+begun_ended t [] past all = refl
+begun_ended t (e ∷ more) past all = one e all.0 ∙ begun_ended t more past all.1
+  where
+    one : (e : Event) → IsEnding e → begun_at t (e ∷ (more ++ past)) ≡ begun_at t (more ++ past)
+    one (event.Dropped host object page) is = refl
+    one (event.Sent (Up host object) (message.Return control page dirty keep bytes)) is = refl
+    one (event.Sent (Up host object) (message.Terminate control)) is = refl
+    one other is = absurd is
+
+-- the events of an end, with what stood in front
+more_ended : (past old new : List Event) (only : EndsOnly old new) → new ++ past ≡ only.more ++ (old ++ past)
+more_ended past old new only = ap (λ z. z ++ past) only.is ∙ append_assoc only.more old past
+
+before_ended : (key : PageKey) (rows : List Waiting) (past old new : List Event) → EndsOnly old new → EndsBefore key rows (old ++ past) → EndsBefore key rows (new ++ past)
+before_ended key rows past old new only before =
+    subst (λ (z : List Event). EndsBefore key rows z) (sym (more_ended past old new only))
+    (λ u t w ended found passes. rw (begun_ended u only.more (old ++ past) only.each, begun_ended t only.more (old ++ past) only.each) (before u t w (sym (since_ended u key.object.0 key.page.0 only.more (old ++ past) only.each) ∙ ended) found passes))
+
+-- what the step took stays what it took
+error_goes : (header : Header) (h : ℕ) (outside : Outside) (doing : Command) (past old new : List Event) → LegalEvents header h outside doing past old new → error_taken header.size (new ++ past) ≡ error_taken header.size (old ++ past)
+error_goes header h outside doing past old new goes = ap (λ z. error_taken header.size (z ++ past)) goes.is ∙ (ap (error_taken header.size) (append_assoc goes.more old past) ∙ error_more header.size goes.more (old ++ past) goes.inner)
+
+-- what the region left has gone too
+pub failed_ended : (header : Header) (h : ℕ) (outside : Outside) (doing : Command) (past old events after : List Event) (key : PageKey) (k k2 : Parts) (ids : Ids)
+    → FailedOne header h outside doing past old events key k ids → IsWhole header h (who.Fails key) k2 ids [] (after ++ past) → LegalEvents header h outside doing past events after → k2.waits ≡ k.waits → OnlyLoses k.memory.resident k2.memory.resident → EndsOnly events after
+    → Failing header h outside doing past old after key k2 ids
+failed_ended header h outside doing past old events after key k k2 ids one whole goes same pages only =
+    record {
+      works = record { matches = whole.runs.matches; used = whole.used; referred = whole.referred; waits = whole.runs.waits; order = whole.runs.order };
+      fails = error_goes header h outside doing past events after goes ∙ one.fails;
+      answered = record { at = λ o p row found awaits. one.answered.at o p row (pages o p row found) awaits };
+      before = subst (λ (z : WaitTable). EndsBefore key z.rows (after ++ past)) (sym same) (before_ended key k.waits.rows past events after only one.before);
+      goes = goes_both header h outside doing past old events after one.goes goes;
+    }
+
 pub since_now : (key : PageKey) (task : TaskId) (past : List Event) → since (fails_access key.object.0 key.page.0) (event.Failed task key.object key.page ∷ past) ≡ true
 since_now key task past = ap (λ b. b || since (fails_access key.object.0 key.page.0) past) (itself key)
+
+pub since_goes : (test : Event → Bool) (header : Header) (h : ℕ) (outside : Outside) (doing : Command) (past old new : List Event) → LegalEvents header h outside doing past old new → since test (old ++ past) ≡ true → since test (new ++ past) ≡ true
+since_goes test header h outside doing past old new goes is =
+    subst (λ (z : List Event). since test z ≡ true) (sym (append_assoc goes.more old past) ∙ ap (λ z. z ++ past) (sym goes.is)) (since_more test goes.more (old ++ past) goes.inner is)
 
 -- each who waited for the page is ended, or waits still
 
@@ -228,6 +366,13 @@ ends_or key w first rows rows2 past was puts t v found waits = elim (was t v fou
   ]
 ]
 
+-- so it is behind what ends no access
+pub or_ended : (key : PageKey) (first rows rows2 : List Waiting) (past old new : List Event) → EndsOnly old new → rows2 ≡ rows → EndsOr key first rows (old ++ past) → EndsOr key first rows2 (new ++ past)
+or_ended key first rows rows2 past old new only same was t v found waits = elim (was t v found waits) [
+  | inl ended ↦ inl (ap (since (fails_task t key.object.0 key.page.0)) (more_ended past old new only) ∙ (since_ended t key.object.0 key.page.0 only.more (old ++ past) only.each ∙ ended))
+  | inr there ↦ inr (ap (λ z. entry z t) same ∙ there)
+]
+
 pub ends_all : (key : PageKey) (first rows : List Waiting) (past : List Event) → EndsOr key first rows past → ((t : ℕ) → IfSome (entry rows t) (λ w. woken_page key w.on ≡ false)) → HasEnded (who.Fails key) first past
 ends_all key first rows past was none t w found waits = elim (was t w found waits) [
   | inl ended ↦ ended
@@ -244,10 +389,6 @@ paid_more header more past inner paid = λ host object page is. since_more (fail
 pub paid_goes : (header : Header) (h : ℕ) (outside : Outside) (doing : Command) (past old new : List Event) → LegalEvents header h outside doing past old new → IsErrorPaid header (old ++ past) → IsErrorPaid header (new ++ past)
 paid_goes header h outside doing past old new goes paid =
     subst (λ (z : List Event). IsErrorPaid header z) (sym (append_assoc goes.more old past) ∙ ap (λ z. z ++ past) (sym goes.is)) (paid_more header goes.more (old ++ past) goes.inner paid)
-
--- what the step took stays what it took
-error_goes : (header : Header) (h : ℕ) (outside : Outside) (doing : Command) (past old new : List Event) → LegalEvents header h outside doing past old new → error_taken header.size (new ++ past) ≡ error_taken header.size (old ++ past)
-error_goes header h outside doing past old new goes = ap (λ z. error_taken header.size (z ++ past)) goes.is ∙ (ap (error_taken header.size) (append_assoc goes.more old past) ∙ error_more header.size goes.more (old ++ past) goes.inner)
 
 -- the page of the error
 asked_same : {x y : Asked} → Some x ≡ Some y → x ≡ y

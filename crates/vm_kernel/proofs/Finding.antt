@@ -24,6 +24,11 @@ use Rattle.vm_kernel.proofs.Shown.{shown_at}
 use Rattle.vm_state.proofs.Locks.{kept_anywhere, names_kept}
 use Rattle.vm_legal.specs.Accesses.{names}
 use Rattle.std.proofs.lemmas.Bool.{and_left, and_right}
+use Rattle.vm_model.specs.Waiting.{Copying}
+use Rattle.std.specs.Prelude.{◌*◌}
+use Rattle.vm_kernel.proofs.Numbers.{stops_once}
+use Rattle.vm_fault.specs.Faults.{Runs}
+use Rattle.vm_kernel.proofs.Common.{copies_to, waiting, waiting_in}
 
 pub some_same : {A : Type 0} (x y : A) → Some x ≡ Some y → x ≡ y
 some_same x y e = cc
@@ -56,6 +61,7 @@ sinks_past sights backings (suc n) (suc m) o p l lp sinks walks stops = sinks_pa
 
 -- where a waiting access finds its page: its walk ends there, that of a store at the top place
 record FindsAt (header : Header) (h : ℕ) (past : List Event) (what : Want) (top : PageKey) : Type 0 where
+  pub number : IsOfNumber what
   pub steps : ℕ
   pub object : ℕ
   pub page : ℕ
@@ -76,7 +82,7 @@ read_at header h past k task address bytes object page what top at to waits come
     load_address a n a2 n2 same = cc
 
     by : (want2 : Want) → what ≡ want2 → FindsAt header h past what top
-    by (want.CopyTo a pages target next) is = absurd (subst IsOfNumber is to.number)
+    by (want.CopyTo a pages target next) is = absurd (let bad : Some (Copying a (pages * k.maps.size) to.destination) ≡ Some (Loading address bytes) = sym (to.waits ∙ ap (λ z. Some (access_in k.maps.size to.destination z)) is) ∙ waits.waits in cc)
     by (want.Store a n v) is = absurd (let bad : Some (Storing a n v) ≡ Some (Loading address bytes) = sym (to.waits ∙ ap (λ z. Some (access_in k.maps.size to.destination z)) is) ∙ waits.waits in cc)
     by (want.Load a n) is =
         let access : Some (Loading a n) ≡ Some (Loading address bytes) = sym (to.waits ∙ ap (λ z. Some (access_in k.maps.size to.destination z)) is) ∙ waits.waits in
@@ -90,6 +96,7 @@ read_at header h past k task address bytes object page what top at to waits come
         let top_object : comes2.top ≡ top.object.0 = sym comes2.is_top.object ∙ to.is_top.object in
         let top_page : comes2.top_page ≡ top.page.0 = sym comes2.is_top.page ∙ to.is_top.page in
         record {
+          number = subst IsOfNumber (sym is) tt;
           steps = comes2.steps;
           object = object;
           page = page;
@@ -115,7 +122,7 @@ write_at header h past k task address bytes value object page what top at to wai
     store_address a n v a2 n2 v2 same = cc
 
     by : (want2 : Want) → what ≡ want2 → WritesAt header h past what top at.entry.region.0
-    by (want.CopyTo a pages target next) is = absurd (subst IsOfNumber is to.number)
+    by (want.CopyTo a pages target next) is = absurd (let bad : Some (Copying a (pages * k.maps.size) to.destination) ≡ Some (Storing address bytes value) = sym (to.waits ∙ ap (λ z. Some (access_in k.maps.size to.destination z)) is) ∙ waits.waits in cc)
     by (want.Load a n) is = absurd (let bad : Some (Loading a n) ≡ Some (Storing address bytes value) = sym (to.waits ∙ ap (λ z. Some (access_in k.maps.size to.destination z)) is) ∙ waits.waits in cc)
     by (want.Store a n v) is =
         let access : Some (Storing a n v) ≡ Some (Storing address bytes value) = sym (to.waits ∙ ap (λ z. Some (access_in k.maps.size to.destination z)) is) ∙ waits.waits in
@@ -127,6 +134,7 @@ write_at header h past k task address bytes value object page what top at to wai
         (subst (λ (z : Entry). IsTop (region_of header z.region.0 past) (page_at header.size address z) object page) entries is_top) in
         record {
           finds = record {
+            number = subst IsOfNumber (sym is) tt;
             steps = 0;
             object = object;
             page = page;
@@ -149,7 +157,7 @@ finds_first header h past k task what top at to (ToRead address bytes object pag
     record { finds = read_at header h past k task address bytes object page what top at to waits comes here open_it; bare = and_left (is_storing what) at.row.marked (loads what refl) }
   where
     loads : (want2 : Want) → what ≡ want2 → is_storing what ≡ false
-    loads (want.CopyTo a pages target next) is = absurd (subst IsOfNumber is to.number)
+    loads (want.CopyTo a pages target next) is = ap is_storing is
     loads (want.Load a n) is = ap is_storing is
     loads (want.Store a n v) is = absurd (let bad : Some (Storing a n v) ≡ Some (Loading address bytes) = sym (to.waits ∙ ap (λ z. Some (access_in k.maps.size to.destination z)) is) ∙ waits.waits in cc)
 finds_first header h past k task what top at to (ToWrite address bytes value object page waits is_top unmarked here open_it) =
@@ -265,10 +273,10 @@ comes_next {what = what} {top = top} host task may at (step.WaitAnswer key) old 
     by (inr stops) = never (never_asked f comes.0.steps key comes.0.row stops)
 comes_next host task may at (step.NeedFrame source) old new f comes = never (never_needs f comes.0)
 
--- an access that is run and finds its page ends
-pub ends_next : (header : Header) (h : ℕ) (past : List Event) (k : Parts) (ids : Ids) (w : Waiting) (may : Bool) (answer : FaultStep) (events : List Event) (new : FaultState) → Works header h k ids woken.Nobody (events ++ past) → entry k.waits.rows w.task.0 ≡ Some w
+-- an access that is run once and finds its page ends
+ends_once : (header : Header) (h : ℕ) (past : List Event) (k : Parts) (ids : Ids) (w : Waiting) (may : Bool) (answer : FaultStep) (events : List Event) (new : FaultState) → Works header h k ids woken.Nobody (events ++ past) → entry k.waits.rows w.task.0 ≡ Some w
     → Faulted k.maps k.host w.task w.want may answer (state_of k ids events) new → FindsPage header w.task.0 (events ++ past) → EndsNext w.task.0 events new.events
-ends_next header h past k ids w may answer events new works is f finds =
+ends_once header h past k ids w may answer events new works is f finds =
     by (is_storing w.want && f.row.marked) refl f.prepares
   where
     moment : List Event
@@ -281,7 +289,7 @@ ends_next header h past k ids w may answer events new works is f finds =
     at = record { entry = f.entry; found = f.found; row = f.row; region = f.region; is = refl }
 
     to : Leads header h moment k w.task.0 w.want before at
-    to = leads_of header h k ids moment woken.Nobody w.task.0 w before works.matches works.waits is at
+    to = leads_of header h k ids moment woken.Nobody w.task.0 w before works.matches works.waits works.used.copies is at
 
     first : FindsFirst header h moment w.want before f.row
     first = finds_first header h moment k w.task.0 w.want before at to finds
@@ -290,12 +298,30 @@ ends_next header h past k ids w may answer events new works is f finds =
     by true test made = absurd (let bad : false ≡ true = sym first.bare ∙ test in cc)
     by false test same =
         let at_mid : IsAt k.maps k.chains w.task.0 w.want f.top = subst (λ (z : FaultState). IsAt k.maps z.chains w.task.0 w.want f.top) same f.at in
-        let found2 = finds_first header h moment k w.task.0 w.want f.top at_mid (leads_of header h k ids moment woken.Nobody w.task.0 w f.top works.matches works.waits is at_mid) finds in
-        let referred = (leads_of header h k ids moment woken.Nobody w.task.0 w f.top works.matches works.waits is at_mid).referred in
+        let found2 = finds_first header h moment k w.task.0 w.want f.top at_mid (leads_of header h k ids moment woken.Nobody w.task.0 w f.top works.matches works.waits works.used.copies is at_mid) finds in
+        let referred = (leads_of header h k ids moment woken.Nobody w.task.0 w f.top works.matches works.waits works.used.copies is at_mid).referred in
         let comes : fault.Comes k.host w.task w.want may f.top (address_in k.maps.size w.want % k.memory.buffers.size) answer (state_of k ids events) new =
         subst (λ (z : FaultState). fault.Comes k.host w.task w.want may f.top (address_in k.maps.size w.want % k.memory.buffers.size) answer z new) same f.comes in
         comes_next k.host w.task may (address_in k.maps.size w.want % k.memory.buffers.size) answer (state_of k ids events) new
-        (record { number = works.waits.numbers w.task.0 w is; shown = shown_at works.matches; referred = referred; finds = found2.finds }) comes
+        (record { number = found2.finds.number; shown = shown_at works.matches; referred = referred; finds = found2.finds }) comes
+
+-- only a load or a store finds its page
+number_found : (header : Header) (past : List Event) (size to task : ℕ) (what : Want) → waiting task past ≡ Some (access_in size to what) → FindsPage header task past → IsOfNumber what
+number_found header past size to task (want.Load address n) is finds = tt
+number_found header past size to task (want.Store address n value) is finds = tt
+number_found header past size to task (want.CopyTo address pages target next) is (ToRead a n object page waits comes here open_it) = absurd (let bad : Some (Copying address (pages * size) to) ≡ Some (Loading a n) = sym is ∙ waits.waits in cc)
+number_found header past size to task (want.CopyTo address pages target next) is (ToWrite a n value object page waits is_top unmarked here open_it) =
+    absurd (let bad : Some (Copying address (pages * size) to) ≡ Some (Storing a n value) = sym is ∙ waits.waits in cc)
+
+pub number_of_found : (header : Header) (h : ℕ) (past : List Event) (k : Parts) (ids : Ids) (w : Waiting) → Works header h k ids woken.Nobody past → entry k.waits.rows w.task.0 ≡ Some w → FindsPage header w.task.0 past → IsOfNumber w.want
+number_of_found header h past k ids w works is finds =
+    number_found header past k.maps.size (copies_to w.destination) w.task.0 w.want (works.waits.is w.task.0 (ap is_some (works.waits.allowed w.task.0 w is).lives) ∙ ap (waiting_in k.maps.size) is) finds
+
+-- an access that is run and finds its page ends
+pub ends_next : (header : Header) (h : ℕ) (past : List Event) (k : Parts) (ids : Ids) (w : Waiting) (may : Bool) (answer : FaultStep) (last : Want) (events : List Event) (new : FaultState) → Works header h k ids woken.Nobody (events ++ past) → entry k.waits.rows w.task.0 ≡ Some w
+    → Runs k.maps k.host w.task may answer w.want last (state_of k ids events) new → FindsPage header w.task.0 (events ++ past) → EndsNext w.task.0 events new.events
+ends_next header h past k ids w may answer last events new works is runs finds =
+    ends_once header h past k ids w may answer events new works is (stops_once (number_of_found header h (events ++ past) k ids w works is finds) runs) finds
 
 -- what comes later doesn't change that
 pub next_more : (task : ℕ) (before events more : List Event) → EndsNext task before events → EndsNext task before (more ++ events)

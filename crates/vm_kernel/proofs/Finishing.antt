@@ -1,20 +1,19 @@
 -- An object to which nothing refers can end, and what its end leaves: its pages, its control and what stood under it are gone, and so on down.
-use Rattle.vm_kernel.proofs.Common.{Bool, ChainTable, Changes, Command, Declared, EachOf, EndsObject, EndsRegion, Entry, Event, Fit, FrameNo, HasRegions, Header, HostId, HostParts, Ids, IsPlaceOf, IsRanged, IsUnder, LaundryList, LeadsTo, List, Mapped, Matches, None, ObjectId, ObjectRow, ObjectTable, Option, Outside, PageKey, PageNo, PageRow, Parts, Plays, Queues, QueueIsStill, RunsNone, ShadowRow, Some, Still, Sweeps, Temp, Want, ap, arith, eqb_tells, false, get_or, host_id, if◌then◌else◌, inl, inr, length, length-reverse, named, nat_lt, nat_tests, object_at, page_in, page_key, paging, refl, returns_out, reverse, row_at, row_cases, row_put, slice_get, some_is, subst, suc, sym, true, zero, ℕ, ◌++◌, ◌-◌, ◌<◌, ◌||◌, ◌∙◌, ◌∷◌, ◌≡◌, ◌≢◌}
+use Rattle.vm_kernel.proofs.Common.{Bool, ChainTable, Changes, Command, EndsObject, EndsOnly, EndsRegion, Entry, Event, Fit, FrameNo, HasRegions, Header, HostId, HostParts, Ids, IsEnding, IsPlaceOf, IsUnder, IsWhole, LaundryList, LeadsTo, LegalEvents, List, Mapped, Matches, None, ObjectId, ObjectRow, ObjectTable, OnlyLoses, Option, Outside, PageKey, PageNo, PageRow, Parts, Plays, PutsRow, Queues, ResidentTable, ShadowRow, Some, Still, Want, Woken, [], ap, append_assoc, arith, eqb_tells, false, host_id, inl, inr, named, nat_lt, nat_tests, object_at, of_both, page_in, page_key, paging, refl, returns_out, row_at, row_cases, row_put, some_is, subst, suc, sym, true, zero, ℕ, ◌++◌, ◌<◌, ◌||◌, ◌∙◌, ◌∷◌, ◌≡◌}
+use Rattle.vm_kernel.proofs.Growing.{goes_both, goes_none}
 use Rattle.vm_kernel.proofs.Own.{named_host}
 use Rattle.vm_kernel.proofs.Playing.{plays_both, plays_told}
 use Rattle.vm_kernel.proofs.Holding.{room_once}
-use Rattle.std.proofs.lemmas.List.Elements.{All-get_or}
-use Rattle.std.proofs.lemmas.List.{get_or-reverse}
-use Rattle.std.proofs.lemmas.Option.{slice_get_cases}
-use Rattle.vm_legal.specs.Outside.{kind_in, kind_of}
 use Rattle.vm_queues.specs.Queues.{EachOnce}
 use Rattle.vm_kernel.specs.Sweeping.{IsKnownToPager}
 use Rattle.vm_kernel.proofs.Strands.{LosesRegion}
-use Rattle.vm_kernel.proofs.Terminating.{GoesToPager, LeavesOne, departs_unheld, ends_dropped, ends_lost, ends_returned, ends_told, going_back, lost_plays, quiet_row, sweeps_dropped}
+use Rattle.vm_kernel.proofs.Terminating.{GoesToPager, LeavesOne, departs_unheld, ends_dropped, ends_lost, ends_returned, ends_told, going_back, lost_plays, quiet_row, whole_dropped}
 use Rattle.vm_state.proofs.Declared.{kind_cases}
 use Rattle.vm_state.proofs.Knowing.{known_put}
 use Rattle.vm_model.specs.Regions.{Backing, Region}
 use Rattle.vm_model.specs.declared.event.Event.TheVariants as event
+use Rattle.vm_model.specs.declared.message.Channel.TheVariants.{Up}
+use Rattle.vm_model.specs.declared.message.Message.TheVariants as message
 use Rattle.vm_parts.specs.Changes.{Discards}
 use Rattle.vm_state.proofs.Places.{place_apart}
 use Rattle.vm_state.proofs.Referred.{all_ended}
@@ -23,6 +22,7 @@ use Rattle.vm_state.specs.Waiters.{Asker}
 use Rattle.vm_terminate.specs.Finishes.{Alone, CanFinish, ControlEnds, Downward, EndsWith, Finishes, FinishState, Further, GoesBack, IsDropped, IsTold, Itself, LosesUnder, Next, NoControl, NoMore, OverOne, PageLeaves, PagesLeave}
 use Rattle.vm_kernel.proofs.Untold.{matches_with}
 use Rattle.vm_state.proofs.Waiting.{away_awaited}
+use Rattle.vm_kernel.proofs.Ranged.{declared_kind}
 
 -- no place of an access is in an object that ends with one to which nothing refers
 
@@ -49,9 +49,9 @@ place_ends maps cs os ids region_from backing_from rm om marked object first has
         above task what last.0 (record { top = place.top; at = place.at; steps = n; leads = last.1 }) its
 
 -- an object to which nothing refers can end
-pub can_finish : (header : Header) (h : ℕ) (outside : Outside) (doing : Command) (past : List Event) (k : Parts) (ids : Ids) (rest : List Entry) (object : ℕ) (events : List Event) → EndsObject header h outside doing past k ids rest object events
+pub can_finish : (header : Header) (h : ℕ) (past : List Event) (who : Woken) (k : Parts) (ids : Ids) (rest : List Entry) (object : ℕ) (events : List Event) → EndsObject header h who k ids rest object (events ++ past)
     → EachOnce (k.memory.queues.inactive ++ k.memory.queues.active) → CanFinish (record { parts = k.memory; chains = k.chains; held = k.laundry.held; room = k.laundry.room; events = events }) object
-can_finish header h outside doing past k ids rest object events e once =
+can_finish header h past who k ids rest object events e once =
     record {
       fit = e.runs.matches.fits.parts;
       row = e.row;
@@ -75,16 +75,43 @@ can_finish header h outside doing past k ids rest object events e once =
 abbrev pub of_state : Parts → FinishState → Parts
 of_state k s = record k { memory = record s.parts { buffers = k.memory.buffers }; chains = s.chains; laundry = record { held = s.held; room = s.room } }
 
--- one state led to another: the lists are as the events say, and no access was run
-pub record Led (header : Header) (past : List Event) (k : Parts) (old new : FinishState) : Type 0 where
+-- nothing was added
+pub only_none : (events : List Event) → EndsOnly events events
+only_none events = record { more = []; is = refl; each = tt }
+
+-- one state led to another: events follow that only end, the lists are as they say, and no page has come
+pub record Led (header : Header) (h : ℕ) (outside : Outside) (doing : Command) (past : List Event) (k : Parts) (old new : FinishState) : Type 0 where
+  pub goes : LegalEvents header h outside doing past old.events new.events
   pub plays : Plays header past old.events (paging (of_state k old)) new.events (paging (of_state k new))
-  pub quiet : EachOf RunsNone old.events → EachOf RunsNone new.events
+  pub only : EndsOnly old.events new.events
+  pub pages : OnlyLoses old.parts.resident new.parts.resident
 
-led_none : (header : Header) (past : List Event) (k : Parts) (s : FinishState) → Led header past k s s
-led_none header past k s = record { plays = Still; quiet = λ all. all }
+led_none : (header : Header) (h : ℕ) (outside : Outside) (doing : Command) (past : List Event) (k : Parts) (s : FinishState) → Led header h outside doing past k s s
+led_none header h outside doing past k s = record { goes = goes_none header h outside doing past s.events; plays = Still; only = only_none s.events; pages = λ o p row found. found }
 
-led_both : (header : Header) (past : List Event) (k : Parts) (old mid new : FinishState) → Led header past k old mid → Led header past k mid new → Led header past k old new
-led_both header past k old mid new one two = record { plays = plays_both one.plays two.plays; quiet = λ all. two.quiet (one.quiet all) }
+led_both : (header : Header) (h : ℕ) (outside : Outside) (doing : Command) (past : List Event) (k : Parts) (old mid new : FinishState) → Led header h outside doing past k old mid → Led header h outside doing past k mid new → Led header h outside doing past k old new
+led_both header h outside doing past k old mid new one two =
+    record {
+      goes = goes_both header h outside doing past old.events mid.events new.events one.goes two.goes;
+      plays = plays_both one.plays two.plays;
+      only = record {
+        more = two.only.more ++ one.only.more;
+        is = two.only.is ∙ (ap (λ z. two.only.more ++ z) one.only.is ∙ sym (append_assoc two.only.more one.only.more old.events));
+        each = of_both IsEnding two.only.more one.only.more two.only.each one.only.each;
+      };
+      pages = λ o p row found. one.pages o p row (two.pages o p row found);
+    }
+
+-- one event ends something
+only_one : (e : Event) (before after : List Event) → after ≡ e ∷ before → IsEnding e → EndsOnly before after
+only_one e before after told ends = record { more = e ∷ []; is = told; each = (ends, tt) }
+
+-- a page has gone, and each other is where it was
+lost_one : (o p : ℕ) (old new : ResidentTable) → PutsRow o p None old new → OnlyLoses old new
+lost_one o p old new put o2 p2 row found = elim (row_cases o p None old new put o2 p2) [
+  | inl this ↦ absurd (let bad : None ≡ Some row = sym this.is ∙ found in cc)
+  | inr other ↦ sym other.is ∙ found
+]
 
 -- the change of a page, whatever the buffers are
 pub changes_beside : {key : PageKey} {frame : FrameNo} {was now : Option PageRow} {held : Bool} {bytes : List ℕ} {lists : Queues} (old new : HostParts) (k : Parts) → Changes key frame was now held bytes lists old new
@@ -109,37 +136,28 @@ changes_beside old new k c =
       lists_are = c.lists_are;
     }
 
--- no declared object is temporary
-declared_kind : (header : Header) (o : ℕ) → IsRanged header → o < named header → kind_of header o ≢ Temp
-declared_kind header o ranged less same = elim ((slice_get_cases (reverse items) o).1) [
-  | inl it ↦
-      let test : nat_lt o (named header) ≡ true = grind (arith, nat_tests) in
-      let here : get_or items (length items - 1 - o) it.0 ≡ it.0 = sym (get_or-reverse items o it.0 less) ∙ it.3 in
-      let kind : it.0.kind ≡ Temp = sym (ap (λ b. if b then kind_in (slice_get (reverse items) o) else Temp) test ∙ ap kind_in it.2) ∙ same in
-      subst (λ (z : Declared). z.kind ≢ Temp) here (All-get_or (λ (z : Declared). z.kind ≢ Temp) items (length items - 1 - o) it.0 (omega arith) ranged.kinds) kind
-  | inr past ↦ absurd (omega (arith, length-reverse items, past.0, less))
-]
-  where
-    items : List Declared
-    items = header.objects.items
-
 -- a page of the object has gone
-record IsLess (header : Header) (h : ℕ) (outside : Outside) (doing : Command) (past : List Event) (k : Parts) (ids : Ids) (rest : List Entry) (object : ObjectId) (page : ℕ) (old new : FinishState) : Type 0 where
-  ends : EndsObject header h outside doing past (of_state k new) ids rest object.0 new.events
-  led : Led header past k old new
+record IsLess (header : Header) (h : ℕ) (outside : Outside) (doing : Command) (past : List Event) (who : Woken) (k : Parts) (ids : Ids) (rest : List Entry) (object : ObjectId) (page : ℕ) (old new : FinishState) : Type 0 where
+  ends : EndsObject header h who (of_state k new) ids rest object.0 (new.events ++ past)
+  led : Led header h outside doing past k old new
   found : object_at new.parts.objects object.0 ≡ object_at old.parts.objects object.0
   gone : row_at new.parts.resident object.0 page ≡ None
   before : (q : ℕ) → row_at old.parts.resident object.0 q ≡ None → row_at new.parts.resident object.0 q ≡ None
 
-page_leaves : (header : Header) (h : ℕ) (outside : Outside) (doing : Command) (past : List Event) (k : Parts) (ids : Ids) (rest : List Entry) (object : ObjectId) (known : ObjectRow) (page : PageNo) (row : PageRow) (old new : FinishState)
-    → EndsObject header h outside doing past (of_state k old) ids rest object.0 old.events → object_at old.parts.objects object.0 ≡ Some known → (object.0 < named header → known.live ≡ true) → ((q : ℕ) → q < page.0 → row_at old.parts.resident object.0 q ≡ None) → row.here ≡ true
-    → new.chains ≡ old.chains → PageLeaves (host_id h) (record { object = object; page = page }) known row old new → IsLess header h outside doing past k ids rest object page.0 old new
-page_leaves header h outside doing past k ids rest object known page row old new e found live first here chains (GoesBack other wanted c objects absent held room events) =
+page_leaves : (header : Header) (h : ℕ) (outside : Outside) (doing : Command) (past : List Event) (who : Woken) (k : Parts) (ids : Ids) (rest : List Entry) (object : ObjectId) (known : ObjectRow) (page : PageNo) (row : PageRow) (old new : FinishState)
+    → EndsObject header h who (of_state k old) ids rest object.0 (old.events ++ past) → object_at old.parts.objects object.0 ≡ Some known → (object.0 < named header → known.live ≡ true) → ((q : ℕ) → q < page.0 → row_at old.parts.resident object.0 q ≡ None) → row.here ≡ true
+    → new.chains ≡ old.chains → PageLeaves (host_id h) (record { object = object; page = page }) known row old new → IsLess header h outside doing past who k ids rest object page.0 old new
+page_leaves header h outside doing past who k ids rest object known page row old new e found live first here chains (GoesBack other wanted c objects absent held room events) =
     record {
-      ends = subst (λ (z : List Event). EndsObject header h outside doing past (of_state k new) ids rest object.0 z) (sym events)
-          (subst (λ (z : Parts). EndsObject header h outside doing past z ids rest object.0 (going_back h key known row (page_in old.parts.frames row.frame.0) ∷ old.events)) (sym same)
-          (ends_returned header h outside doing past base ids rest key known row memory laundry old.events e goes));
-      led = record { plays = plays_told events (inr (inl (departs_unheld header h outside doing past base ids rest key row _ _ memory old.events e declared here (changes_beside old.parts new.parts k c)))); quiet = λ all. subst (EachOf RunsNone) (sym events) (tt, all) };
+      ends = subst (λ (z : List Event). EndsObject header h who (of_state k new) ids rest object.0 (z ++ past)) (sym events)
+          (subst (λ (z : Parts). EndsObject header h who z ids rest object.0 ((going_back h key known row (page_in old.parts.frames row.frame.0) ∷ old.events) ++ past)) (sym same)
+          returned.0);
+      led = record {
+        goes = subst (λ (z : List Event). LegalEvents header h outside doing past old.events z) (sym events) returned.1;
+        plays = plays_told events (inr (inl (departs_unheld header h past who base ids rest key row _ _ memory old.events e declared here (changes_beside old.parts new.parts k c))));
+        only = only_one _ old.events new.events events tt;
+        pages = lost_one object.0 page.0 old.parts.resident new.parts.resident c.row;
+      };
       found = objects.at object.0;
       gone = row_put old.parts.resident new.parts.resident object.0 page.0 None c.row;
       before = λ q none. elim (row_cases object.0 page.0 None old.parts.resident new.parts.resident c.row object.0 q) [ inl put ↦ put.is | inr apart ↦ apart.is ∙ none ];
@@ -178,14 +196,22 @@ page_leaves header h outside doing past k ids rest object known page row old new
       room = room;
     }
 
+    returned : EndsObject header h who (record base { memory = memory; laundry = laundry }) ids rest object.0 ((going_back h key known row (page_in old.parts.frames row.frame.0) ∷ old.events) ++ past) × LegalEvents header h outside doing past old.events (going_back h key known row (page_in old.parts.frames row.frame.0) ∷ old.events)
+    returned = ends_returned header h outside doing past who base ids rest key known row memory laundry old.events e goes
+
     same : of_state k new ≡ record base { memory = memory; laundry = laundry }
     same = λ i. record k { memory = memory; chains = chains i; laundry = laundry }
-page_leaves header h outside doing past k ids rest object known page row old new e found live first here chains (IsDropped why c objects held room events) =
+page_leaves header h outside doing past who k ids rest object known page row old new e found live first here chains (IsDropped why c objects held room events) =
     record {
-      ends = subst (λ (z : List Event). EndsObject header h outside doing past (of_state k new) ids rest object.0 z) (sym events)
-          (subst (λ (z : Parts). EndsObject header h outside doing past z ids rest object.0 (event.Dropped (host_id h) object page ∷ old.events)) (sym same)
-          (ends_lost header h outside doing past base ids rest key row memory old.events e first here clean beside objects refl));
-      led = record { plays = plays_told events (lost_plays header h outside doing past base ids rest key row memory old.events e here beside); quiet = λ all. subst (EachOf RunsNone) (sym events) (tt, all) };
+      ends = subst (λ (z : List Event). EndsObject header h who (of_state k new) ids rest object.0 (z ++ past)) (sym events)
+          (subst (λ (z : Parts). EndsObject header h who z ids rest object.0 ((event.Dropped (host_id h) object page ∷ old.events) ++ past)) (sym same)
+          dropped.0);
+      led = record {
+        goes = subst (λ (z : List Event). LegalEvents header h outside doing past old.events z) (sym events) dropped.1;
+        plays = plays_told events (lost_plays header h past who base ids rest key row memory old.events e here beside);
+        only = only_one _ old.events new.events events tt;
+        pages = lost_one object.0 page.0 old.parts.resident new.parts.resident c.row;
+      };
       found = ap (λ z. object_at z object.0) objects;
       gone = row_put old.parts.resident new.parts.resident object.0 page.0 None c.row;
       before = λ q none. elim (row_cases object.0 page.0 None old.parts.resident new.parts.resident c.row object.0 q) [ inl put ↦ put.is | inr apart ↦ apart.is ∙ none ];
@@ -215,55 +241,63 @@ page_leaves header h outside doing past k ids rest object known page row old new
       | inr is ↦ is
     ]
 
+    dropped : EndsObject header h who (record base { memory = memory }) ids rest object.0 ((event.Dropped (host_id h) object page ∷ old.events) ++ past) × LegalEvents header h outside doing past old.events (event.Dropped (host_id h) object page ∷ old.events)
+    dropped = ends_lost header h outside doing past who base ids rest key row memory old.events e first here clean beside objects refl
+
 -- all its pages have gone
-record IsBare (header : Header) (h : ℕ) (outside : Outside) (doing : Command) (past : List Event) (k : Parts) (ids : Ids) (rest : List Entry) (object : ObjectId) (known : ObjectRow) (old new : FinishState) : Type 0 where
-  ends : EndsObject header h outside doing past (of_state k new) ids rest object.0 new.events
-  led : Led header past k old new
+record IsBare (header : Header) (h : ℕ) (outside : Outside) (doing : Command) (past : List Event) (who : Woken) (k : Parts) (ids : Ids) (rest : List Entry) (object : ObjectId) (known : ObjectRow) (old new : FinishState) : Type 0 where
+  ends : EndsObject header h who (of_state k new) ids rest object.0 (new.events ++ past)
+  led : Led header h outside doing past k old new
   found : object_at new.parts.objects object.0 ≡ Some known
   none : (p : ℕ) → row_at new.parts.resident object.0 p ≡ None
 
-pages_leave : (header : Header) (h : ℕ) (outside : Outside) (doing : Command) (past : List Event) (k : Parts) (ids : Ids) (rest : List Entry) (object : ObjectId) (known : ObjectRow) (from : ℕ) (old new : FinishState)
-    → EndsObject header h outside doing past (of_state k old) ids rest object.0 old.events → object_at old.parts.objects object.0 ≡ Some known → (object.0 < named header → known.live ≡ true) → ((q : ℕ) → q < from → row_at old.parts.resident object.0 q ≡ None) → PagesLeave (host_id h) object known from old new
-    → IsBare header h outside doing past k ids rest object known old new
-pages_leave header h outside doing past k ids rest object known _ _ _ e found live low (NoMore from s none) =
-    record { ends = e; led = led_none header past k s; found = found; none = λ p. by_test p (nat_lt p from) refl }
+pages_leave : (header : Header) (h : ℕ) (outside : Outside) (doing : Command) (past : List Event) (who : Woken) (k : Parts) (ids : Ids) (rest : List Entry) (object : ObjectId) (known : ObjectRow) (from : ℕ) (old new : FinishState)
+    → EndsObject header h who (of_state k old) ids rest object.0 (old.events ++ past) → object_at old.parts.objects object.0 ≡ Some known → (object.0 < named header → known.live ≡ true) → ((q : ℕ) → q < from → row_at old.parts.resident object.0 q ≡ None) → PagesLeave (host_id h) object known from old new
+    → IsBare header h outside doing past who k ids rest object known old new
+pages_leave header h outside doing past who k ids rest object known _ _ _ e found live low (NoMore from s none) =
+    record { ends = e; led = led_none header h outside doing past k s; found = found; none = λ p. by_test p (nat_lt p from) refl }
   where
     by_test : (p : ℕ) (b : Bool) → nat_lt p from ≡ b → row_at s.parts.resident object.0 p ≡ None
     by_test p true less = low p (grind (arith, nat_tests))
     by_test p false less = none p (grind (arith, nat_tests))
-pages_leave header h outside doing past k ids rest object known _ _ _ e found live low (Next from page row old mid new le none there here chains leaves more) =
-    let less = page_leaves header h outside doing past k ids rest object known page row old mid e found live (λ q below. first q below (nat_lt q from) refl) here chains leaves in
-    let all = pages_leave header h outside doing past k ids rest object known (suc page.0) mid new less.ends (less.found ∙ found) live (λ q below. next less q below) more in
-    record { ends = all.ends; led = led_both header past k old mid new less.led all.led; found = all.found; none = all.none }
+pages_leave header h outside doing past who k ids rest object known _ _ _ e found live low (Next from page row old mid new le none there here chains leaves more) =
+    let less = page_leaves header h outside doing past who k ids rest object known page row old mid e found live (λ q below. first q below (nat_lt q from) refl) here chains leaves in
+    let all = pages_leave header h outside doing past who k ids rest object known (suc page.0) mid new less.ends (less.found ∙ found) live (λ q below. next less q below) more in
+    record { ends = all.ends; led = led_both header h outside doing past k old mid new less.led all.led; found = all.found; none = all.none }
   where
     first : (q : ℕ) → q < page.0 → (b : Bool) → nat_lt q from ≡ b → row_at old.parts.resident object.0 q ≡ None
     first q below true is = low q (grind (arith, nat_tests))
     first q below false is = none q (grind (arith, nat_tests)) below
 
-    next : IsLess header h outside doing past k ids rest object page.0 old mid → (q : ℕ) → q < suc page.0 → row_at mid.parts.resident object.0 q ≡ None
+    next : IsLess header h outside doing past who k ids rest object page.0 old mid → (q : ℕ) → q < suc page.0 → row_at mid.parts.resident object.0 q ≡ None
     next less q below = elim (eqb_tells q page.0) [
       | inl same ↦ subst (λ (z : ℕ). row_at mid.parts.resident object.0 z ≡ None) (sym same.1) less.gone
       | inr apart ↦ less.before q (first q (let other = apart.1 in grind arith) (nat_lt q from) refl)
     ]
 
 -- its control has ended too
-record IsQuiet (header : Header) (h : ℕ) (outside : Outside) (doing : Command) (past : List Event) (k : Parts) (ids : Ids) (rest : List Entry) (object : ObjectId) (old new : FinishState) : Type 0 where
-  ends : EndsObject header h outside doing past (of_state k new) ids rest object.0 new.events
-  led : Led header past k old new
+record IsQuiet (header : Header) (h : ℕ) (outside : Outside) (doing : Command) (past : List Event) (who : Woken) (k : Parts) (ids : Ids) (rest : List Entry) (object : ObjectId) (old new : FinishState) : Type 0 where
+  ends : EndsObject header h who (of_state k new) ids rest object.0 (new.events ++ past)
+  led : Led header h outside doing past k old new
   none : (p : ℕ) → row_at new.parts.resident object.0 p ≡ None
   dead : (known : ObjectRow) → object_at new.parts.objects object.0 ≡ Some known → known.live ≡ false
 
-control_ends : (header : Header) (h : ℕ) (outside : Outside) (doing : Command) (past : List Event) (k : Parts) (ids : Ids) (rest : List Entry) (object : ObjectId) (known : ObjectRow) (start old new : FinishState) → IsBare header h outside doing past k ids rest object known start old → ControlEnds (host_id h) object known old new
-    → IsQuiet header h outside doing past k ids rest object start new
-control_ends header h outside doing past k ids rest object known start old new bare (NoControl dead same) =
-    subst (λ (z : FinishState). IsQuiet header h outside doing past k ids rest object start z) (sym same)
+control_ends : (header : Header) (h : ℕ) (outside : Outside) (doing : Command) (past : List Event) (who : Woken) (k : Parts) (ids : Ids) (rest : List Entry) (object : ObjectId) (known : ObjectRow) (start old new : FinishState) → IsBare header h outside doing past who k ids rest object known start old → ControlEnds (host_id h) object known old new
+    → IsQuiet header h outside doing past who k ids rest object start new
+control_ends header h outside doing past who k ids rest object known start old new bare (NoControl dead same) =
+    subst (λ (z : FinishState). IsQuiet header h outside doing past who k ids rest object start z) (sym same)
     (record { ends = bare.ends; led = bare.led; none = bare.none; dead = λ row found. ap (λ z. z.live) (some_is row known (sym found ∙ bare.found)) ∙ dead })
-control_ends header h outside doing past k ids rest object known start old new bare (IsTold live keeps put events) =
-    subst (λ (z : FinishState). IsQuiet header h outside doing past k ids rest object start z) (sym keeps.is)
+control_ends header h outside doing past who k ids rest object known start old new bare (IsTold live keeps put events) =
+    subst (λ (z : FinishState). IsQuiet header h outside doing past who k ids rest object start z) (sym keeps.is)
     (record {
-      ends = subst (λ (z : List Event). EndsObject header h outside doing past (of_state k state) ids rest object.0 z) (sym events)
-          (ends_told header h outside doing past (of_state k old) ids rest object old.events known new.parts.objects bare.ends bare.none bare.found live put keeps.marks);
-      led = led_both header past k start old state bare.led (record { plays = plays_told events refl; quiet = λ all. subst (EachOf RunsNone) (sym events) (tt, all) });
+      ends = subst (λ (z : List Event). EndsObject header h who (of_state k state) ids rest object.0 (z ++ past)) (sym events)
+          told.0;
+      led = led_both header h outside doing past k start old state bare.led (record {
+        goes = subst (λ (z : List Event). LegalEvents header h outside doing past old.events z) (sym events) told.1;
+        plays = plays_told events refl;
+        only = only_one _ old.events new.events events tt;
+        pages = λ o p row found. found;
+      });
       none = bare.none;
       dead = λ row found. ap (λ z. z.live) (some_is row (quiet_row known) (sym found ∙ known_put object.0 (quiet_row known) old.parts.objects new.parts.objects put));
     })
@@ -271,31 +305,34 @@ control_ends header h outside doing past k ids rest object known start old new b
     state : FinishState
     state = record old { parts = record (old.parts) { objects = new.parts.objects }; events = new.events }
 
--- nothing is left of an object that ends but what stands under it
-ends_above : (header : Header) (h : ℕ) (outside : Outside) (doing : Command) (past : List Event) (k : Parts) (ids : Ids) (rest : List Entry) (object : ObjectId) (known : ObjectRow) (old bare quiet : FinishState) → EndsObject header h outside doing past (of_state k old) ids rest object.0 old.events → object_at old.parts.objects object.0 ≡ Some known
-    → (object.0 < named header → known.live ≡ true) → PagesLeave (host_id h) object known 0 old bare → ControlEnds (host_id h) object known bare quiet → IsQuiet header h outside doing past k ids rest object old quiet
-ends_above header h outside doing past k ids rest object known old bare quiet e found live pages control =
-    control_ends header h outside doing past k ids rest object known old bare quiet (pages_leave header h outside doing past k ids rest object known 0 old bare e found live (λ q below. absurd (omega arith)) pages) control
+    told : EndsObject header h who (of_state k (record old { parts = record (old.parts) { objects = new.parts.objects } })) ids rest object.0 ((event.Sent (Up (host_id h) object) (message.Terminate known.control) ∷ old.events) ++ past) × LegalEvents header h outside doing past old.events (event.Sent (Up (host_id h) object) (message.Terminate known.control) ∷ old.events)
+    told = ends_told header h outside doing past who (of_state k old) ids rest object old.events known new.parts.objects bare.ends bare.none bare.found live put keeps.marks
 
-leaves_one : (header : Header) (h : ℕ) (outside : Outside) (doing : Command) (past : List Event) (k : Parts) (ids : Ids) (rest : List Entry) (object : ObjectId) (row : ShadowRow) (known : ObjectRow) (left : ℕ) (start old new : FinishState) → IsQuiet header h outside doing past k ids rest object start old → LosesUnder object row known left old new
+-- nothing is left of an object that ends but what stands under it
+ends_above : (header : Header) (h : ℕ) (outside : Outside) (doing : Command) (past : List Event) (who : Woken) (k : Parts) (ids : Ids) (rest : List Entry) (object : ObjectId) (known : ObjectRow) (old bare quiet : FinishState) → EndsObject header h who (of_state k old) ids rest object.0 (old.events ++ past) → object_at old.parts.objects object.0 ≡ Some known
+    → (object.0 < named header → known.live ≡ true) → PagesLeave (host_id h) object known 0 old bare → ControlEnds (host_id h) object known bare quiet → IsQuiet header h outside doing past who k ids rest object old quiet
+ends_above header h outside doing past who k ids rest object known old bare quiet e found live pages control =
+    control_ends header h outside doing past who k ids rest object known old bare quiet (pages_leave header h outside doing past who k ids rest object known 0 old bare e found live (λ q below. absurd (omega arith)) pages) control
+
+leaves_one : (header : Header) (h : ℕ) (outside : Outside) (doing : Command) (past : List Event) (who : Woken) (k : Parts) (ids : Ids) (rest : List Entry) (object : ObjectId) (row : ShadowRow) (known : ObjectRow) (left : ℕ) (start old new : FinishState) → IsQuiet header h outside doing past who k ids rest object start old → LosesUnder object row known left old new
     → LeavesOne (of_state k old) object.0 left row known new.chains new.parts.objects
-leaves_one header h outside doing past k ids rest object row known left start old new quiet loses =
+leaves_one header h outside doing past who k ids rest object row known left start old new quiet loses =
     record { bare = quiet.none; quiet = quiet.dead; found = loses.found; drops = loses.chains; under = loses.under; less = loses.less; put = loses.objects; marks = loses.marks }
 
 -- what stood under it ends next
-record IsNext (header : Header) (h : ℕ) (outside : Outside) (doing : Command) (past : List Event) (k : Parts) (ids : Ids) (rest : List Entry) (o : ℕ) (old new : FinishState) : Type 0 where
-  ends : EndsObject header h outside doing past (of_state k new) ids rest o new.events
-  led : Led header past k old new
+record IsNext (header : Header) (h : ℕ) (outside : Outside) (doing : Command) (past : List Event) (who : Woken) (k : Parts) (ids : Ids) (rest : List Entry) (o : ℕ) (old new : FinishState) : Type 0 where
+  ends : EndsObject header h who (of_state k new) ids rest o (new.events ++ past)
+  led : Led header h outside doing past k old new
 
 -- an object has ended, and what ended with it
-pub record Swept (header : Header) (h : ℕ) (outside : Outside) (doing : Command) (past : List Event) (k : Parts) (ids : Ids) (rest : List Entry) (old new : FinishState) : Type 0 where
-  pub sweeps : Sweeps header h outside doing past (of_state k new) ids rest new.events
-  pub led : Led header past k old new
+pub record Swept (header : Header) (h : ℕ) (outside : Outside) (doing : Command) (past : List Event) (who : Woken) (k : Parts) (ids : Ids) (rest : List Entry) (old new : FinishState) : Type 0 where
+  pub whole : IsWhole header h who (of_state k new) ids rest (new.events ++ past)
+  pub led : Led header h outside doing past k old new
 
 -- the pager of a declared object knows it still, as it did while the region that goes was over it
-pub pager_knows : (header : Header) (h : ℕ) (outside : Outside) (doing : Command) (past : List Event) (k : Parts) (ids : Ids) (rest : List Entry) (r left : ℕ) (events : List Event) (object : ObjectId) (chains : ChainTable) (objects : ObjectTable) → EndsRegion header h outside doing past k ids rest r events
+pub pager_knows : (header : Header) (h : ℕ) (past : List Event) (who : Woken) (k : Parts) (ids : Ids) (rest : List Entry) (r left : ℕ) (events : List Event) (object : ObjectId) (chains : ChainTable) (objects : ObjectTable) → EndsRegion header h who k ids rest r (events ++ past)
     → LosesRegion k r left object chains objects → IsKnownToPager header objects object.0
-pager_knows header h outside doing past k ids rest r left events object chains objects e loses known found less =
+pager_knows header h past who k ids rest r left events object chains objects e loses known found less =
     let top = loses.row.top.0 in
     let same : object.0 ≡ top = ap (λ (z : ObjectId). z.0) loses.top in
     let one = loses.less in
@@ -303,40 +340,37 @@ pager_knows header h outside doing past k ids rest r left events object chains o
     let now = known_put top (record (loses.was) { references = left }) k.memory.objects objects loses.put in
     ap (λ z. z.live) (some_is known (record (loses.was) { references = left }) (sym found ∙ (ap (object_at objects) same ∙ now))) ∙ its.told (omega (arith, one))
 
-pub finished : (header : Header) (h : ℕ) (outside : Outside) (doing : Command) (past : List Event) (k : Parts) (ids : Ids) (rest : List Entry) (object : ObjectId) (old new : FinishState) → EndsObject header h outside doing past (of_state k old) ids rest object.0 old.events → IsKnownToPager header old.parts.objects object.0
-    → Finishes (host_id h) object old new → Swept header h outside doing past k ids rest old new
-finished header h outside doing past k ids rest _ _ _ e told (Alone object known old bare new found pages control alone) =
-    let quiet = ends_above header h outside doing past k ids rest object known old bare new e found (told known found) pages control in
+pub finished : (header : Header) (h : ℕ) (outside : Outside) (doing : Command) (past : List Event) (who : Woken) (k : Parts) (ids : Ids) (rest : List Entry) (object : ObjectId) (old new : FinishState) → EndsObject header h who (of_state k old) ids rest object.0 (old.events ++ past) → IsKnownToPager header old.parts.objects object.0
+    → Finishes (host_id h) object old new → Swept header h outside doing past who k ids rest old new
+finished header h outside doing past who k ids rest _ _ _ e told (Alone object known old bare new found pages control alone) =
+    let quiet = ends_above header h outside doing past who k ids rest object known old bare new e found (told known found) pages control in
     record {
-      sweeps = record { runs = quiet.ends.runs; used = quiet.ends.used; referred = all_ended object.0 new.chains new.parts.objects new.parts.resident quiet.ends.referred quiet.dead quiet.none alone };
+      whole = record { runs = quiet.ends.runs; used = quiet.ends.used; referred = all_ended object.0 new.chains new.parts.objects new.parts.resident quiet.ends.referred quiet.dead quiet.none alone };
       led = quiet.led;
     }
-finished header h outside doing past k ids rest _ _ _ e told (OverOne object known under row left old bare quiet new found pages control loses some) =
-    let above = ends_above header h outside doing past k ids rest object known old bare quiet e found (told known found) pages control in
-    let leaves = leaves_one header h outside doing past k ids rest object row under left old quiet new above loses in
-    subst (λ (z : FinishState). Swept header h outside doing past k ids rest old z) (sym loses.rest)
-    (record { sweeps = sweeps_dropped header h outside doing past (of_state k quiet) ids rest object.0 left row under quiet.events new.chains new.parts.objects above.ends leaves some; led = record { plays = above.led.plays; quiet = above.led.quiet } })
-finished header h outside doing past k ids rest _ _ _ e told (Downward object known under row old bare quiet next new found pages control loses more) =
-    let above = ends_above header h outside doing past k ids rest object known old bare quiet e found (told known found) pages control in
-    let leaves = leaves_one header h outside doing past k ids rest object row under 0 old quiet next above loses in
-    let down : IsNext header h outside doing past k ids rest row.under.0 old next =
-    subst (λ (z : FinishState). IsNext header h outside doing past k ids rest row.under.0 old z) (sym loses.rest)
-    (record { ends = ends_dropped header h outside doing past (of_state k quiet) ids rest object.0 row under quiet.events next.chains next.parts.objects above.ends leaves; led = record { plays = above.led.plays; quiet = above.led.quiet } }) in
-    let all = finished header h outside doing past k ids rest row.under next new down.ends (λ its found less. let least = above.ends.runs.matches.kinds.unders object.0 row loses.found in absurd (omega (arith, less, least))) more in
-    record { sweeps = all.sweeps; led = led_both header past k old next new down.led all.led }
+finished header h outside doing past who k ids rest _ _ _ e told (OverOne object known under row left old bare quiet new found pages control loses some) =
+    let above = ends_above header h outside doing past who k ids rest object known old bare quiet e found (told known found) pages control in
+    let leaves = leaves_one header h outside doing past who k ids rest object row under left old quiet new above loses in
+    subst (λ (z : FinishState). Swept header h outside doing past who k ids rest old z) (sym loses.rest)
+    (record { whole = whole_dropped header h past who (of_state k quiet) ids rest object.0 left row under quiet.events new.chains new.parts.objects above.ends leaves some; led = record { goes = above.led.goes; plays = above.led.plays; only = above.led.only; pages = above.led.pages } })
+finished header h outside doing past who k ids rest _ _ _ e told (Downward object known under row old bare quiet next new found pages control loses more) =
+    let above = ends_above header h outside doing past who k ids rest object known old bare quiet e found (told known found) pages control in
+    let leaves = leaves_one header h outside doing past who k ids rest object row under 0 old quiet next above loses in
+    let down : IsNext header h outside doing past who k ids rest row.under.0 old next =
+    subst (λ (z : FinishState). IsNext header h outside doing past who k ids rest row.under.0 old z) (sym loses.rest)
+    (record { ends = ends_dropped header h past who (of_state k quiet) ids rest object.0 row under quiet.events next.chains next.parts.objects above.ends leaves; led = record { goes = above.led.goes; plays = above.led.plays; only = above.led.only; pages = above.led.pages } }) in
+    let all = finished header h outside doing past who k ids rest row.under next new down.ends (λ its found less. let least = above.ends.runs.matches.kinds.unders object.0 row loses.found in absurd (omega (arith, less, least))) more in
+    record { whole = all.whole; led = led_both header h outside doing past k old next new down.led all.led }
 
 -- buffers of the same size do as well
-sweeps_beside : (header : Header) (h : ℕ) (outside : Outside) (doing : Command) (past : List Event) (k : Parts) (ids : Ids) (rest : List Entry) (memory : HostParts) (events : List Event) → Sweeps header h outside doing past (record k { memory = record memory { buffers = k.memory.buffers } }) ids rest events → Fit memory → memory.buffers.size ≡ k.memory.buffers.size
-    → Sweeps header h outside doing past (record k { memory = memory }) ids rest events
-sweeps_beside header h outside doing past k ids rest memory events s fit size =
+whole_beside : (header : Header) (h : ℕ) (past : List Event) (who : Woken) (k : Parts) (ids : Ids) (rest : List Entry) (memory : HostParts) (events : List Event) → IsWhole header h who (record k { memory = record memory { buffers = k.memory.buffers } }) ids rest (events ++ past) → Fit memory → memory.buffers.size ≡ k.memory.buffers.size
+    → IsWhole header h who (record k { memory = memory }) ids rest (events ++ past)
+whole_beside header h past who k ids rest memory events s fit size =
     record {
       runs = record {
-        begins = s.runs.begins;
         matches = matches_with memory.queues memory.buffers k.waits (λ t r. refl) fit size s.runs.matches;
         waits = s.runs.waits;
         order = s.runs.order;
-        idle = s.runs.idle;
-        grows = s.runs.grows;
       };
       used = s.used;
       referred = s.referred;
@@ -346,25 +380,29 @@ sweeps_beside header h outside doing past k ids rest memory events s fit size =
 abbrev pub state_of : HostParts → ChainTable → LaundryList → List Event → FinishState
 state_of memory chains laundry events = record { parts = memory; chains = chains; held = laundry.held; room = laundry.room; events = events }
 
-swept_led : (header : Header) (h : ℕ) (outside : Outside) (doing : Command) (past : List Event) (k : Parts) (ids : Ids) (rest : List Entry) (object : ObjectId) (events after : List Event) (memory : HostParts) (chains : ChainTable) (laundry : LaundryList) → EndsObject header h outside doing past k ids rest object.0 events
-    → IsKnownToPager header k.memory.objects object.0 → Finishes k.host object (state_of k.memory k.chains k.laundry events) (state_of memory chains laundry after) → Swept header h outside doing past k ids rest (state_of k.memory k.chains k.laundry events) (state_of memory chains laundry after)
-swept_led header h outside doing past k ids rest object events after memory chains laundry e told is =
-    finished header h outside doing past k ids rest object (state_of k.memory k.chains k.laundry events) (state_of memory chains laundry after) e told
+swept_led : (header : Header) (h : ℕ) (outside : Outside) (doing : Command) (past : List Event) (who : Woken) (k : Parts) (ids : Ids) (rest : List Entry) (object : ObjectId) (events after : List Event) (memory : HostParts) (chains : ChainTable) (laundry : LaundryList) → EndsObject header h who k ids rest object.0 (events ++ past)
+    → IsKnownToPager header k.memory.objects object.0 → Finishes k.host object (state_of k.memory k.chains k.laundry events) (state_of memory chains laundry after) → Swept header h outside doing past who k ids rest (state_of k.memory k.chains k.laundry events) (state_of memory chains laundry after)
+swept_led header h outside doing past who k ids rest object events after memory chains laundry e told is =
+    finished header h outside doing past who k ids rest object (state_of k.memory k.chains k.laundry events) (state_of memory chains laundry after) e told
     (subst (λ (z : HostId). Finishes z object (state_of k.memory k.chains k.laundry events) (state_of memory chains laundry after)) (named_host k.host h e.runs.matches.host) is)
 
--- an object has ended
-pub sweeps_finished : (header : Header) (h : ℕ) (outside : Outside) (doing : Command) (past : List Event) (k : Parts) (ids : Ids) (rest : List Entry) (object : ObjectId) (events after : List Event) (memory : HostParts) (chains : ChainTable) (laundry : LaundryList) → EndsObject header h outside doing past k ids rest object.0 events
-    → IsKnownToPager header k.memory.objects object.0 → Finishes k.host object (state_of k.memory k.chains k.laundry events) (state_of memory chains laundry after) → Fit memory → memory.buffers.size ≡ k.memory.buffers.size
-    → Sweeps header h outside doing past (record k { memory = memory; chains = chains; laundry = laundry }) ids rest after
-sweeps_finished header h outside doing past k ids rest object events after memory chains laundry e told is fit size =
-    sweeps_beside header h outside doing past (record k { chains = chains; laundry = laundry }) ids rest memory after (swept_led header h outside doing past k ids rest object events after memory chains laundry e told is).sweeps fit size
+-- an object has ended: what is left, the events, the lists of pages, and the pages
+pub record ObjectEnded (header : Header) (h : ℕ) (outside : Outside) (doing : Command) (past : List Event) (who : Woken) (k : Parts) (ids : Ids) (rest : List Entry) (memory : HostParts) (chains : ChainTable) (laundry : LaundryList) (events after : List Event) : Type 0 where
+  pub whole : Fit memory → memory.buffers.size ≡ k.memory.buffers.size → IsWhole header h who (record k { memory = memory; chains = chains; laundry = laundry }) ids rest (after ++ past)
+  pub goes : LegalEvents header h outside doing past events after
+  pub plays : Plays header past events (paging k) after (paging (record k { memory = memory; chains = chains; laundry = laundry }))
+  pub only : EndsOnly events after
+  pub pages : OnlyLoses k.memory.resident memory.resident
 
--- the lists of pages are as its events say
-pub plays_finished : (header : Header) (h : ℕ) (outside : Outside) (doing : Command) (past : List Event) (k : Parts) (ids : Ids) (rest : List Entry) (object : ObjectId) (events after : List Event) (memory : HostParts) (chains : ChainTable) (laundry : LaundryList) → EndsObject header h outside doing past k ids rest object.0 events
-    → IsKnownToPager header k.memory.objects object.0 → Finishes k.host object (state_of k.memory k.chains k.laundry events) (state_of memory chains laundry after) → Plays header past events (paging k) after (paging (record k { memory = memory; chains = chains; laundry = laundry }))
-plays_finished header h outside doing past k ids rest object events after memory chains laundry e told is = (swept_led header h outside doing past k ids rest object events after memory chains laundry e told is).led.plays
-
--- and no access was run
-pub quiet_finished : (header : Header) (h : ℕ) (outside : Outside) (doing : Command) (past : List Event) (k : Parts) (ids : Ids) (rest : List Entry) (object : ObjectId) (events after : List Event) (memory : HostParts) (chains : ChainTable) (laundry : LaundryList) → EndsObject header h outside doing past k ids rest object.0 events
-    → IsKnownToPager header k.memory.objects object.0 → Finishes k.host object (state_of k.memory k.chains k.laundry events) (state_of memory chains laundry after) → QueueIsStill k.waits.queue k.waits.queue events after
-quiet_finished header h outside doing past k ids rest object events after memory chains laundry e told is = record { queue = refl; none = (swept_led header h outside doing past k ids rest object events after memory chains laundry e told is).led.quiet }
+pub object_ended : (header : Header) (h : ℕ) (outside : Outside) (doing : Command) (past : List Event) (who : Woken) (k : Parts) (ids : Ids) (rest : List Entry) (object : ObjectId) (events after : List Event) (memory : HostParts) (chains : ChainTable) (laundry : LaundryList) → EndsObject header h who k ids rest object.0 (events ++ past)
+    → IsKnownToPager header k.memory.objects object.0 → Finishes k.host object (state_of k.memory k.chains k.laundry events) (state_of memory chains laundry after) → ObjectEnded header h outside doing past who k ids rest memory chains laundry events after
+object_ended header h outside doing past who k ids rest object events after memory chains laundry e told is =
+    let swept = swept_led header h outside doing past who k ids rest object events after memory chains laundry e told is in
+    let led = swept.led in
+    record {
+      whole = λ fit size. whole_beside header h past who (record k { chains = chains; laundry = laundry }) ids rest memory after swept.whole fit size;
+      goes = led.goes;
+      plays = led.plays;
+      only = led.only;
+      pages = led.pages;
+    }

@@ -141,7 +141,6 @@ first_rests header h k count ranged known size host declared hosts start maps re
             is = λ t here. sym (ap (λ z. waiting_in k.maps.size (entry z t)) waits);
             allowed = λ t w is. none_of (entry k.waits.rows t) w (ap (λ z. entry z t) waits) is;
             sized = λ t w is. none_of (entry k.waits.rows t) w (ap (λ z. entry z t) waits) is;
-            numbers = λ t w is. none_of (entry k.waits.rows t) w (ap (λ z. entry z t) waits) is;
             reasons = λ t w is. none_of (entry k.waits.rows t) w (ap (λ z. entry z t) waits) is;
             aims = λ t w key is. none_of (entry k.waits.rows t) w (ap (λ z. entry z t) waits) is;
             askers = λ o p row is. none_of (row_at k.memory.resident o p) row (rows o p) is;
@@ -192,5 +191,5 @@ rests_line header h k ids line past rests =
 pub may_make : (header : Header) (h : ℕ) (given : Header) (past : List Event) (task : TaskId) (line : ℕ) (k : Parts) (ids : Ids) → given ≡ header → past ≡ event.Line line ∷ [] → Rests header h k ids [] → task.0 < 1024 → Starts given h (command.Task task (host_id h)) past k ids []
 may_make header h given past task line k ids same is rests below =
     let starts : Starts header h (command.Task task (host_id h)) (event.Line line ∷ []) k ids [] =
-    record { rests = rests_line header h k ids line [] rests; acts = own_host h; range = (below, rests.matches.known); accepted = refl; built = refl; begins = record { line = line; before = []; is = refl }; nothing = refl } in
+    record { rests = rests_line header h k ids line [] rests; acts = own_host h; range = (below, rests.matches.known); accepted = refl; begins = record { line = line; before = []; is = refl }; nothing = refl } in
     subst (λ (z : Header). Starts z h (command.Task task (host_id h)) past k ids []) (sym same) (subst (λ (z : List Event). Starts header h (command.Task task (host_id h)) z k ids []) (sym is) starts)

@@ -1,5 +1,5 @@
 -- The causes of what an access does: in the history in front of it stands what its event wants.
-use Rattle.vm_kernel.proofs.Common.{Command, Comes, Event, Header, Ids, IsAt, IsOfNumber, List, Matches, ObjectId, ObjectRow, Outside, PageKey, PageRow, Parts, Some, Suffice, TaskId, Up, Waits, Want, [], access_in, address_in, ap, arith, desired_access, entries_of, entry_at, false, host_id, if◌then◌else◌, inl, inr, is_store, little_endian, named, nat_tests, number_at, page_at, page_in, page_of, refl, region_of, slice_range, subst, suc, sym, true, zero, ℕ, ◌%◌, ◌+◌, ◌==◌, ◌∙◌, ◌∷◌, ◌≡◌, ◌≤◌}
+use Rattle.vm_kernel.proofs.Common.{Command, Comes, Event, Header, Ids, IsAt, List, Matches, ObjectId, ObjectRow, Outside, PageKey, PageRow, Parts, Some, Suffice, TaskId, Up, Waits, Want, [], access_in, address_in, ap, arith, desired_access, entries_of, entry_at, false, host_id, if◌then◌else◌, inl, inr, is_store, little_endian, named, nat_tests, number_at, page_at, page_in, page_of, refl, region_of, slice_range, subst, suc, sym, true, zero, ℕ, ◌%◌, ◌+◌, ◌==◌, ◌∙◌, ◌∷◌, ◌≡◌, ◌≤◌}
 use Rattle.vm_fault.specs.Walks.{Finds, MayCome, Sinks, WalksTo, is_storing, wanted_number}
 use Rattle.vm_kernel.proofs.Growing.{Follows}
 use Rattle.vm_fault.specs.Walks.{keeps_out}
@@ -19,6 +19,10 @@ use Rattle.vm_state.proofs.Shown.{IsShown, may_ask, shows_row}
 use Rattle.vm_state.proofs.Walks.{sinks_of, walks_of}
 use Rattle.vm_waits.specs.declared.waiting.Want.TheVariants as want
 use Rattle.std.specs.Prelude.{◌⊎◌}
+use Rattle.vm_state.proofs.Filling.{AgreesNext}
+use Rattle.std.proofs.Math.Nat.{mul-div_cancel}
+use Rattle.vm_waits.specs.Wants.{IsSizedWant}
+use Rattle.std.specs.Prelude.{◌*◌, ◌/◌, ◌<◌}
 
 -- a load, and a store, as the history has it
 
@@ -107,7 +111,7 @@ zeroed_follows header h outside doing past k task what top at temporary to s cle
     }
 
 -- the page may be read
-read_at : {seen number : ℕ} → seen ≡ number → (number ≡ 0) ⊎ (number ≡ 2) → (seen ≡ 0) ⊎ (seen ≡ 2)
+pub read_at : {seen number : ℕ} → seen ≡ number → (number ≡ 0) ⊎ (number ≡ 2) → (seen ≡ 0) ⊎ (seen ≡ 2)
 read_at same either = elim either [ inl none ↦ inl (same ∙ none) | inr some ↦ inr (same ∙ some) ]
 
 -- a page is copied up for a store
@@ -212,10 +216,10 @@ asks_for size to (want.Store address n value) (suc steps) = ap (λ b. if b then 
     later : (n : ℕ) → (suc n == 0) ≡ false
     later n = grind (arith, nat_tests)
 
-asks_left : (size other next to : ℕ) (what : Want) → IsOfNumber what → HasPageLeft other (access_in size to what) next
-asks_left size other next to (want.Load address bytes) number = tt
-asks_left size other next to (want.Store address bytes value) number = tt
-asks_left size other next to (want.CopyTo address pages target page) number = absurd number
+asks_left : (size other next to : ℕ) (what : Want) → size ≡ other → 0 < other → IsSizedWant size what → AgreesNext what next → HasPageLeft other (access_in size to what) next
+asks_left size other next to (want.Load address bytes) same some sized agrees = tt
+asks_left size other next to (want.Store address bytes value) same some sized agrees = tt
+asks_left size other next to (want.CopyTo address pages target page) same some sized agrees = rw (same, agrees) (let whole : pages * other / other ≡ pages = mul-div_cancel pages some in let left = sized.1 in omega (arith, whole, left))
 
 -- a page is asked for
 pub request_follows : (header : Header) (h : ℕ) (outside : Outside) (doing : Command) (past : List Event) (k : Parts) (task : ℕ) (what : Want) (top : PageKey) (at : IsAt k.maps k.chains task what top) (steps : ℕ) (key : PageKey) (object : ObjectRow)
@@ -239,7 +243,7 @@ request_follows header h outside doing past k task what top at steps key object 
         away = may.away;
         unasked = may.unasked;
         known = may.known;
-        left = asks_left k.maps.size header.size (next_page task past) to.destination what to.number;
+        left = asks_left k.maps.size header.size (next_page task past) to.destination what to.sized to.some to.shape to.agrees;
       };
       own_bytes = tt;
       frames = frames;

@@ -46,7 +46,6 @@ waits_heard maps cs rs rs2 os os2 rows who waiting_at has asked told were ready 
       is = has.is;
       allowed = has.allowed;
       sized = has.sized;
-      numbers = has.numbers;
       reasons = λ t w is still. by_reason t w.want w.on still (has.reasons t w is refl);
       aims = has.aims;
       askers = λ o p row found awaits. has.askers o p row (were o p row found awaits) awaits;

@@ -12,6 +12,8 @@ pub mod Changing
 pub mod Claiming
 pub mod Copied
 pub mod Copies
+pub mod CopyBegins
+pub mod CopyEnds
 pub mod Counts
 pub mod Cutting
 pub mod Declares
@@ -20,6 +22,7 @@ pub mod Endings
 pub mod Ends
 pub mod Failing
 pub mod Filled
+pub mod Filling
 pub mod Finding
 pub mod Finishing
 pub mod First
@@ -43,8 +46,11 @@ pub mod Numbers
 pub mod Opening
 pub mod Ordering
 pub mod Own
+pub mod Pagemaking
 pub mod Pageout
 pub mod Pages
+pub mod PagesLeft
+pub mod Pagewise
 pub mod Pending
 pub mod Playing
 pub mod Prompting
@@ -60,6 +66,7 @@ pub mod Returning
 pub mod Rewrites
 pub mod Rooms
 pub mod Rows
+pub mod Runs
 pub mod Served
 pub mod Shadows
 pub mod Shares
@@ -67,6 +74,7 @@ pub mod Sharing
 pub mod Shown
 pub mod Sources
 pub mod Sparing
+pub mod States
 pub mod Stopping
 pub mod Strands
 pub mod Supplying

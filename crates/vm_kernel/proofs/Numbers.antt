@@ -1,5 +1,5 @@
 -- A load or a store is no slow copy, and is run once.
-use Rattle.vm_kernel.proofs.Common.{Bool, HostId, Ids, IsOfNumber, Mapped, Parts, Some, TaskId, Waiting, Want, Woken, Works, Event, Header, List, entry, false, true, ℕ, ◌≡◌}
+use Rattle.vm_kernel.proofs.Common.{Bool, HostId, IsOfNumber, Mapped, TaskId, Want, false, true, ◌≡◌}
 use Rattle.vm_fault.specs.Faults.{FaultState, Faulted, GoesOn, Runs, Stops, has_more}
 use Rattle.vm_fault.specs.Walks.{is_copying}
 use Rattle.vm_fault.specs.declared.step.FaultStep.{FaultStep}
@@ -15,11 +15,6 @@ no_more (want.Load address size) number more = let bad : false ≡ true = more i
 no_more (want.Store address size value) number more = let bad : false ≡ true = more in cc
 no_more (want.CopyTo address pages target next) number more = number
 
-stops_once : {maps : Mapped} {host : HostId} {task : TaskId} {may : Bool} {answer : FaultStep} {what last : Want} {old new : FaultState} → IsOfNumber what → Runs maps host task may answer what last old new → Faulted maps host task what may answer old new
+pub stops_once : {maps : Mapped} {host : HostId} {task : TaskId} {may : Bool} {answer : FaultStep} {what last : Want} {old new : FaultState} → IsOfNumber what → Runs maps host task may answer what last old new → Faulted maps host task what may answer old new
 stops_once number (Stops what old new faulted over) = faulted
 stops_once number (GoesOn what last value old mid new faulted more rest) = absurd (no_more what number more)
-
--- what waits was run once
-pub ran_once : {header : Header} {h : ℕ} {k : Parts} {ids : Ids} {who : Woken} {past : List Event} {w : Waiting} {host : HostId} {may : Bool} {answer : FaultStep} {last : Want} {old new : FaultState}
-    → Works header h k ids who past → entry k.waits.rows w.task.0 ≡ Some w → Runs k.maps host w.task may answer w.want last old new → Faulted k.maps host w.task w.want may answer old new
-ran_once {w = w} works is runs = stops_once (works.waits.numbers w.task.0 w is) runs

@@ -3,6 +3,9 @@ use Rattle.vm_kernel.proofs.Common.{BeganInOrder, Bool, Event, List, None, On, O
 use Rattle.vm_model.specs.declared.event.Event.TheVariants as event
 use Rattle.vm_waits.specs.Waits.{woken}
 use Rattle.vm_waits.specs.declared.waiting.On.TheVariants as on
+use Rattle.vm_base.specs.declared.ids.TaskId.{TaskId}
+use Rattle.vm_waits.specs.Waits.{rewanted, with_want}
+use Rattle.vm_waits.specs.declared.waiting.Want.{Want}
 
 -- whatever order the rows had, they have it still
 pub record KeepsOrder (old new : List Waiting) : Type 0 where
@@ -48,6 +51,55 @@ pub woken_keeps : (test : On → Bool) (rows new : List Waiting) → new ≡ map
 woken_keeps test rows new is =
     subst (λ (z : List Waiting). KeepsOrder rows z) (sym is)
     (record { keeps = λ begun from order. map_order (woken test) begun from rows (λ w. turned_task (test w.on) w on.Again) order })
+
+-- a slow copy has made a page
+
+rewanted_task : (b : Bool) (w : Waiting) (what : Want) → (if b then with_want w what else w).task ≡ w.task
+rewanted_task true w what = refl
+rewanted_task false w what = refl
+
+pub rewanted_keeps : (t : ℕ) (what : Want) (rows new : List Waiting) → new ≡ map (rewanted t what) rows → KeepsOrder rows new
+rewanted_keeps t what rows new is =
+    subst (λ (z : List Waiting). KeepsOrder rows z) (sym is)
+    (record { keeps = λ begun from order. map_order (rewanted t what) begun from rows (λ w. rewanted_task (w.task.0 == t) w what) order })
+
+order_mapped : (f : Waiting → Waiting) (begun : ℕ → ℕ) (from : ℕ) (rows : List Waiting) → ((w : Waiting) → (f w).task ≡ w.task) → BeganInOrder begun from (map f rows) → BeganInOrder begun from rows
+order_mapped f begun from [] same is = tt
+order_mapped f begun from (w ∷ ws) same is =
+    let head : from ≤ begun w.task.0 = subst (λ (z : TaskId). from ≤ begun z.0) (same w) is.0 in
+    let rest : BeganInOrder begun (suc (begun w.task.0)) (map f ws) = subst (λ (z : TaskId). BeganInOrder begun (suc (begun z.0)) (map f ws)) (same w) is.1 in
+    (head, order_mapped f begun (suc (begun w.task.0)) ws same rest)
+
+pub rewanted_back : (t : ℕ) (what : Want) (rows : List Waiting) → KeepsOrder (map (rewanted t what) rows) rows
+rewanted_back t what rows = record { keeps = λ begun from order. order_mapped (rewanted t what) begun from rows (λ w. rewanted_task (w.task.0 == t) w what) order }
+
+-- a task's row changes twice
+
+pub order_twice : (one two three : List Waiting) → KeepsOrder one two → KeepsOrder two three → KeepsOrder one three
+order_twice one two three first second = record { keeps = λ begun from order. second.keeps begun from (first.keeps begun from order) }
+
+pub puts_twice : (t : ℕ) (x y : Option Waiting) (one two three : List Waiting) → PutsInOrder t x one two → PutsInOrder t y two three → PutsInOrder t y one three
+puts_twice t x y one two three first second =
+    record {
+      entry = record { at = λ u. second.entry.at u ∙ by (t == u) u (first.entry.at u) };
+      order = order_twice one two three first.order second.order;
+    }
+  where
+    by : (b : Bool) (u : ℕ) → entry two u ≡ (if b then x else entry one u) → (if b then y else entry two u) ≡ (if b then y else entry one u)
+    by true u is = refl
+    by false u is = is
+
+-- what is put over a row that changed before is put over the changed one
+pub puts_over : (t : ℕ) (x y : Option Waiting) (one two three : List Waiting) → PutsInOrder t x one two → KeepsOrder two one → PutsInOrder t y one three → PutsInOrder t y two three
+puts_over t x y one two three first back both =
+    record {
+      entry = record { at = λ u. both.entry.at u ∙ by (t == u) u (first.entry.at u) };
+      order = order_twice two one three back both.order;
+    }
+  where
+    by : (b : Bool) (u : ℕ) → entry two u ≡ (if b then x else entry one u) → (if b then y else entry one u) ≡ (if b then y else entry two u)
+    by true u is = refl
+    by false u is = sym is
 
 -- an access begins
 

@@ -1,8 +1,9 @@
 -- The lists of pages are as the events say.
-use Rattle.vm_kernel.proofs.Common.{AllSkipped, Bool, Changes, Does, Event, FrameNo, Header, HostParts, Ids, IsChosen, IsOfNumber, IsVictim, KeepsPages, List, None, Option, Page, PageKey, PageRow, PagerState, Paging, Parts, Plays, PutsRow, Queues, Reclaim, ReclaimEffects, ResidentTable, Rests, Some, Still, TaskId, Then, Up, Want, [], ap, balanced, balanced_done, cleared, controlled, false, frame_here, from_unreferenced, front_referenced_of, if◌then◌else◌, inl, inr, is_queued, is_skipped, looked, map, needs_none, none_needed, owed, page_in, paging, places_with_frame, queues_after_search, queues_except, referenced_front, refl, row_at, row_cases, sends, shortage, spared, spared_done, subst, sym, take, told_from, true, victim_frame, with_reference, ℕ, ◌&&◌, ◌++◌, ◌==◌, ◌||◌, ◌∙◌, ◌∷◌, ◌≡◌}
+use Rattle.vm_kernel.proofs.Common.{AllSkipped, Bool, Changes, Does, Event, FrameNo, Header, HostParts, Ids, IsChosen, IsVictim, KeepsPages, List, None, Option, Page, PageKey, PageRow, PagerState, Paging, Parts, Plays, PutsRow, Queues, Reclaim, ReclaimEffects, ResidentTable, Rests, Some, Still, TaskId, Then, Up, Want, [], ap, balanced, balanced_done, cleared, controlled, false, frame_here, from_unreferenced, front_referenced_of, if◌then◌else◌, inl, inr, is_queued, is_skipped, looked, map, needs_none, none_needed, owed, page_in, paging, places_with_frame, queues_after_search, queues_except, referenced_front, refl, row_at, row_cases, sends, shortage, spared, spared_done, subst, sym, take, told_from, true, victim_frame, with_reference, ℕ, ◌&&◌, ◌++◌, ◌==◌, ◌||◌, ◌∙◌, ◌∷◌, ◌≡◌}
 use Rattle.std.proofs.lemmas.Bool.Decides.{eqb_tells}
 use Rattle.vm_base.specs.declared.ids.HostId.{HostId}
-use Rattle.vm_fault.specs.Faults.{AfterZeros, AtOnce, Copied, Ended, Faulted, FaultState, Hits, Raised, References}
+use Rattle.vm_base.specs.declared.ids.RegionId.{RegionId}
+use Rattle.vm_fault.specs.Faults.{AfterZeros, AtOnce, Copied, Ended, Faulted, FaultState, GoesOn, Hits, Prepares, Raised, References, Runs, Stops, copied_key}
 use Rattle.vm_fault.specs.declared.step.FaultStep.{FaultStep}
 use Rattle.vm_fault.specs.declared.step.FaultStep.TheVariants as step
 use Rattle.vm_legal.specs.Walks.{Reach}
@@ -12,11 +13,10 @@ use Rattle.vm_model.specs.declared.message.Message.TheVariants as message
 use Rattle.vm_objects.specs.declared.row.PagerState.TheVariants as state
 use Rattle.vm_pageout.specs.declared.answer.Reclaim.TheVariants as reclaim
 use Rattle.vm_queues.specs.Queues.{added, marked}
+use Rattle.vm_shadow.specs.declared.region_row.RegionRow.{RegionRow}
 use Rattle.vm_waits.specs.declared.waiting.Want.TheVariants as want
 use Rattle.vm_legal.specs.Licences.{ReturnOn}
 use Rattle.vm_kernel.specs.Plays.{Looks, AreSpared, Arrives, AsUnreached, AsVictim, Departs, uncreated}
-use Rattle.vm_kernel.specs.Turns.{IsFront, Bare, Shadow}
-use Rattle.vm_kernel.proofs.Claiming.{Front, front_in}
 use Rattle.vm_kernel.proofs.Pages.{itself}
 
 -- first some events, and then some more
@@ -152,28 +152,42 @@ apart_placed o p o2 p2 frame other was none some = elim (eqb_tells o o2) [
   ]
 ]
 
--- the run's front says nothing of the lists
-front_plays : (header : Header) (past : List Event) (s mid : FaultState) → Front s mid → Plays header past s.events (paging_in s.parts) mid.events (paging_in mid.parts)
-front_plays header past s mid f =
-    subst (λ (z : List Event). Plays header past s.events (paging_in s.parts) z (paging_in mid.parts)) (sym f.told)
-    (subst (λ (z : Paging). Plays header past s.events (paging_in s.parts) (f.front ++ s.events) z) (sym same) (by f.is))
-  where
-    same : ◌≡◌ {A = Paging} (paging_in mid.parts) (paging_in s.parts)
-    same = same_paging _ _ _ _ (λ o p. ap (λ z. frame_here (row_at z o p)) f.rows) f.queues
+-- what stands in front of a run says nothing of the lists
+prepares_plays : (header : Header) (past : List Event) (is : Bool) (region : RegionId) (row : RegionRow) (s mid : FaultState) → Prepares is region row s mid → Plays header past s.events (paging_in s.parts) mid.events (paging_in mid.parts)
+prepares_plays header past true region row s mid makes = plays_told makes.told (ap paging_in makes.parts)
+prepares_plays header past false region row s mid same = plays_none header past _ _ _ _ (ap (λ (z : FaultState). z.events) same) (ap (λ (z : FaultState). paging_in z.parts) same)
 
-    by : {front : List Event} → IsFront front → Plays header past s.events (paging_in s.parts) (front ++ s.events) (paging_in s.parts)
-    by Bare = Still
-    by (Shadow region new old) = Then (event.Shadowed region new old) s.events (paging_in s.parts) (paging_in s.parts) Still refl
-
-ended_plays : (header : Header) (past : List Event) (host : HostId) (task : TaskId) (what : Want) (top : PageKey) (at value : ℕ) (s new : FaultState) → IsOfNumber what → Ended host task what top at value s.parts new.parts s.chains s.events new.events
+-- an access has ended, or a slow copy has copied a page
+ended_plays : (header : Header) (past : List Event) (host : HostId) (task : TaskId) (what : Want) (top : PageKey) (at value : ℕ) (s new : FaultState) → Ended host task what top at value s.parts new.parts s.chains s.events new.events
     → Plays header past s.events (paging_in s.parts) new.events (paging_in new.parts)
-ended_plays header past host task what top at value s new of_number (Copied address pages next target is steps key row finds out is_none copies) = absurd (subst IsOfNumber is of_number)
-ended_plays header past host task what top at value s new of_number (AtOnce steps key row finds stores opens e hits told) =
+ended_plays header past host task what top at value s new (Copied address pages next target is steps key row finds out is_none copies) =
+    let frame = copies.frame in
+    let made = copied_key target next in
+    let was = paging_in s.parts in
+    let come = paging_in copies.copied in
+    let arrives = came made frame _ _ _ s.parts copies.copied copies.page refl in
+    let come_so = come_is made frame _ _ _ s.parts copies.copied copies.page refl in
+    let there : was.frame_at key.object.0 key.page.0 ≡ Some row.frame = here_is (row_at s.parts.resident key.object.0 key.page.0) row row.frame finds.found finds.here refl in
+    let here : come.frame_at target.0 next ≡ Some frame = ap (λ (z : Paging). z.frame_at target.0 next) come_so ∙ placed target.0 next (Some frame) was.frame_at in
+    -- the copy is marked, and its source then
+    let hit = refers_touches frame copies.copied copies.hit copies.marks in
+    let last = refers_touches row.frame copies.hit new.parts copies.source in
+    let source : (paging_in copies.hit).frame_at key.object.0 key.page.0 ≡ Some row.frame =
+    hit.frames key.object.0 key.page.0 ∙ ap (λ (z : Paging). z.frame_at key.object.0 key.page.0) come_so ∙ apart_placed target.0 next key.object.0 key.page.0 frame row.frame was.frame_at (ap frame_here copies.page.found) there ∙ there in
+    plays_told copies.told
+    (record {
+      come = come;
+      arrives = arrives;
+      marked = paging_in copies.hit;
+      marks = record { frame = frame; here = here; is = touched_is frame copies.copied copies.hit hit };
+      source = record { frame = row.frame; here = source; is = touched_is row.frame copies.hit new.parts last };
+    })
+ended_plays header past host task what top at value s new (AtOnce steps key row finds stores opens e hits told) =
     let touched = hit_touches task what key row.frame at value e s.parts new.parts hits in
     plays_told told
     (hit_does header (s.events ++ past) task what key row.frame at value e s.parts new.parts (paging_in s.parts) (paging_in new.parts) hits (here_is (row_at s.parts.resident key.object.0 key.page.0) row row.frame finds.found finds.here refl)
     (touched_is row.frame s.parts new.parts touched))
-ended_plays header past host task what top at value s new of_number (AfterZeros sinks frame brought brings plan e hits told) =
+ended_plays header past host task what top at value s new (AfterZeros sinks frame brought brings plan e hits told) =
     let zeroed = event.Zeroed host top.object top.page in
     let arrives = came top frame _ _ _ s.parts brought brings refl in
     let come = come_is top frame _ _ _ s.parts brought brings refl in
@@ -182,7 +196,7 @@ ended_plays header past host task what top at value s new of_number (AfterZeros 
     subst (λ (z : List Event). Plays header past s.events (paging_in s.parts) z (paging_in new.parts)) (sym told)
     (Then e (zeroed ∷ s.events) (paging_in brought) (paging_in new.parts) (Then zeroed s.events (paging_in s.parts) (paging_in brought) Still arrives)
     (hit_does header ((zeroed ∷ s.events) ++ past) task what top frame at value e brought new.parts (paging_in brought) (paging_in new.parts) hits here (touched_is frame brought new.parts touched)))
-ended_plays header past host task what top at value s new of_number (Raised steps key row finds stores opens frame copied hit raises plan e hits refers told) =
+ended_plays header past host task what top at value s new (Raised steps key row finds stores opens frame copied hit raises plan e hits refers told) =
     let raised = event.Raised host key.object key.page top.object top.page in
     let o = top.object.0 in
     let p = top.page.0 in
@@ -204,25 +218,31 @@ ended_plays header past host task what top at value s new of_number (Raised step
     (Then e (raised ∷ s.events) both (paging_in new.parts) (Then raised s.events was both Still (record { mid = come; arrives = arrives; marks = record { frame = row.frame; here = source; is = refl } }))
     (hit_does header ((raised ∷ s.events) ++ past) task what top frame at value e copied hit both (paging_in new.parts) hits here (same_paging _ _ _ _ (λ q r. last.frames q r ∙ touched.frames q r) lists)))
 
-comes_plays : (header : Header) (past : List Event) (maps : Mapped) (host : HostId) (task : TaskId) (what : Want) (may : Bool) (answer : FaultStep) (s new : FaultState) → IsOfNumber what → (f : Faulted maps host task what may answer s new)
+comes_plays : (header : Header) (past : List Event) (maps : Mapped) (host : HostId) (task : TaskId) (what : Want) (may : Bool) (answer : FaultStep) (s new : FaultState) → (f : Faulted maps host task what may answer s new)
     → Plays header past f.mid.events (paging_in f.mid.parts) new.events (paging_in new.parts)
-comes_plays header past maps host task what may (step.Done value) s new of_number f = ended_plays header past host task what f.top _ value f.mid new of_number f.comes
-comes_plays header past maps host task what may (step.Ask key) s new of_number f =
+comes_plays header past maps host task what may (step.Done value) s new f = ended_plays header past host task what f.top _ value f.mid new f.comes
+comes_plays header past maps host task what may (step.Ask key) s new f =
     let asked = f.comes in
     plays_told asked.told
     (same_paging _ _ _ _ (frames_kept f.mid.parts.resident new.parts.resident key.object.0 key.page.0 _ asked.page.row (sym (ap frame_here asked.page.found))) asked.page.queues)
-comes_plays header past maps host task what may (step.Unlock key) s new of_number f =
+comes_plays header past maps host task what may (step.Unlock key) s new f =
     let asks = f.comes in
     plays_told asks.told
     (same_paging _ _ _ _ (frames_kept f.mid.parts.resident new.parts.resident key.object.0 key.page.0 _ asks.page.row (sym (ap frame_here asks.page.found))) asks.page.queues)
-comes_plays header past maps host task what may (step.WaitReady object) s new of_number f = plays_none header past _ _ _ _ f.comes.1.told (ap paging_in f.comes.1.parts)
-comes_plays header past maps host task what may (step.WaitAnswer key) s new of_number f = plays_none header past _ _ _ _ f.comes.1.told (ap paging_in f.comes.1.parts)
-comes_plays header past maps host task what may (step.NeedFrame source) s new of_number f = plays_none header past _ _ _ _ f.comes.2.told (ap paging_in f.comes.2.parts)
+comes_plays header past maps host task what may (step.WaitReady object) s new f = plays_none header past _ _ _ _ f.comes.1.told (ap paging_in f.comes.1.parts)
+comes_plays header past maps host task what may (step.WaitAnswer key) s new f = plays_none header past _ _ _ _ f.comes.1.told (ap paging_in f.comes.1.parts)
+comes_plays header past maps host task what may (step.NeedFrame source) s new f = plays_none header past _ _ _ _ f.comes.2.told (ap paging_in f.comes.2.parts)
 
 -- an access was run once
-pub plays_attempt : (header : Header) (past : List Event) (maps : Mapped) (host : HostId) (task : TaskId) (what : Want) (may : Bool) (answer : FaultStep) (s new : FaultState) → IsOfNumber what → Faulted maps host task what may answer s new
+plays_once : {maps : Mapped} {host : HostId} {task : TaskId} {what : Want} {may : Bool} {answer : FaultStep} {s new : FaultState} → (header : Header) (past : List Event) → Faulted maps host task what may answer s new
     → Plays header past s.events (paging_in s.parts) new.events (paging_in new.parts)
-plays_attempt header past maps host task what may answer s new of_number f = plays_both (front_plays header past s f.mid (front_in f)) (comes_plays header past maps host task what may answer s new of_number f)
+plays_once {maps} {host} {task} {what} {may} {answer} {s} {new} header past f = plays_both (prepares_plays header past _ _ _ s f.mid f.prepares) (comes_plays header past maps host task what may answer s new f)
+
+-- an access was run, a slow copy page by page
+pub plays_attempt : {maps : Mapped} {host : HostId} {task : TaskId} {may : Bool} {answer : FaultStep} {what last : Want} {s new : FaultState} → (header : Header) (past : List Event) → Runs maps host task may answer what last s new
+    → Plays header past s.events (paging_in s.parts) new.events (paging_in new.parts)
+plays_attempt header past (Stops what old new faulted over) = plays_once header past faulted
+plays_attempt header past (GoesOn what last value old mid new faulted more rest) = plays_both (plays_once header past faulted) (plays_attempt header past rest)
 
 -- a victim that was looked for twice is the same
 

@@ -1,5 +1,5 @@
 -- At the end of a step nobody waits in vain, and nothing is left behind.
-use Rattle.vm_kernel.proofs.Common.{Access, Bool, Event, FrameTable, HasQueue, HasRegions, HasWaits, Header, HostIsFull, Ids, IsOfNumber, IsPagerTold, IsSwept, List, Matches, None, NoneInVain, ObjectRow, On, Option, PageRow, Parts, PromptAt, QueueIsServed, Reach, Reason, RegionRow, Rests, Some, Waiting, Waits, WaitsForPager, Want, [], absent_at, access_in, all_tasks, ap, arith, backing_of, copies_to, count_by, entries_in, entry, false, has_entry, if◌then◌else◌, in_use, inl, inr, is_again, is_frame, is_on, is_store, live_in, local_of_row, marked_regions, named, nat_lt, nat_tests, next_object, next_region, none_again, none_queued, object_at, page_on, refl, region_at, region_of, row_at, rows_in, subst, sym, true, waiting, waiting_in, ℕ, ◌<◌, ◌≤◌, ◌||◌, ◌∙◌, ◌≡◌, ◌⊎◌}
+use Rattle.vm_kernel.proofs.Common.{Access, Bool, Event, FrameTable, HasQueue, HasRegions, HasWaits, Header, HostIsFull, Ids, IsPagerTold, IsSwept, List, Matches, None, NoneInVain, ObjectRow, On, Option, PageRow, Parts, PromptAt, QueueIsServed, Reach, Reason, RegionRow, Rests, Some, Waiting, Waits, WaitsForPager, Want, [], absent_at, access_in, all_tasks, ap, arith, backing_of, copies_to, count_by, entries_in, entry, false, has_entry, if◌then◌else◌, in_use, inl, inr, is_again, is_frame, is_on, is_store, live_in, local_of_row, marked_regions, named, nat_lt, nat_tests, next_object, next_region, none_again, none_queued, object_at, page_on, refl, region_at, region_of, row_at, rows_in, subst, sym, true, waiting, waiting_in, ℕ, ◌<◌, ◌≤◌, ◌||◌, ◌∙◌, ◌≡◌, ◌⊎◌}
 use Rattle.vm_kernel.proofs.Filled.{filled_temporary, row_use}
 use Rattle.std.proofs.Common.{is_some}
 use Rattle.vm_legal.specs.Licences.{IsUnheld}
@@ -17,6 +17,8 @@ use Rattle.vm_supply.specs.declared.woken.Woken.TheVariants as woken
 use Rattle.vm_waits.specs.declared.waiting.On.TheVariants as on
 use Rattle.vm_kernel.proofs.Own.{own_host}
 use Rattle.vm_kernel.proofs.Shown.{shown_at, waiting_place}
+use Rattle.vm_state.proofs.Filling.{AgreesNext, copies_next}
+use Rattle.vm_model.specs.Waiting.{next_page}
 
 -- what is on the host has a row
 here_row : (fs : FrameTable) (x : Option PageRow) (lacked : Bool) → (local_of_row fs x lacked).here ≡ true → (row : PageRow) × (x ≡ Some row)
@@ -43,29 +45,29 @@ pub at_home : (header : Header) (h : ℕ) (k : Parts) (ids : Ids) (past : List E
 at_home header h k ids past task access m waits home = sym (m.tasks.hosts task) ∙ (ap (is_on h) (waits.at.lives ∙ ap Some home) ∙ own_host h)
 
 -- what an access waits for that isn't to be run again
-waits_for : (header : Header) (h : ℕ) (k : Parts) (ids : Ids) (past : List Event) (task to : ℕ) (what : Want) (why : On) → IsOfNumber what → Matches header h k ids [] past → Reason k.maps k.chains k.memory.resident k.memory.objects task what why → is_again why ≡ false → (is_frame why ≡ true → HostIsFull header h past)
+waits_for : (header : Header) (h : ℕ) (k : Parts) (ids : Ids) (past : List Event) (task to : ℕ) (what : Want) (why : On) → AgreesNext what (next_page task past) → Matches header h k ids [] past → Reason k.maps k.chains k.memory.resident k.memory.objects task what why → is_again why ≡ false → (is_frame why ≡ true → HostIsFull header h past)
     → (waits : Waits header task (access_in k.maps.size to what) past) → waits.at.host ≡ h → WaitsForPager header h task (access_in k.maps.size to what) past ⊎ HostIsFull header h past
-waits_for header h k ids past task to what on.Again number m reason fresh full waits home = absurd (let bad : true ≡ false = fresh in cc)
-waits_for header h k ids past task to what (on.Ready object) number m reason fresh full waits home =
+waits_for header h k ids past task to what on.Again agrees m reason fresh full waits home = absurd (let bad : true ≡ false = fresh in cc)
+waits_for header h k ids past task to what (on.Ready object) agrees m reason fresh full waits home =
     let told : IsPagerTold k.memory.objects reason.0.object.0 = subst (λ z. IsPagerTold k.memory.objects z.0) (sym reason.2) reason.3 in
     inl (record {
       waits = waits;
       on_host = home;
       object = reason.0.object.0;
       page = reason.0.page.0;
-      place = waiting_place m to number reason.1 (at_home header h k ids past task (access_in k.maps.size to what) m waits home) waits;
+      place = waiting_place m to agrees reason.1 (at_home header h k ids past task (access_in k.maps.size to what) m waits home) waits;
       what = awaits_ready (shown_at m) reason.0.object.0 told.row told.found told.sent (is_store (access_in k.maps.size to what)) reason.0.page.0;
     })
-waits_for header h k ids past task to what (on.Page key) number m reason fresh full waits home =
+waits_for header h k ids past task to what (on.Page key) agrees m reason fresh full waits home =
     inl (record {
       waits = waits;
       on_host = home;
       object = key.object.0;
       page = key.page.0;
-      place = waiting_place m to number reason.0 (at_home header h k ids past task (access_in k.maps.size to what) m waits home) waits;
+      place = waiting_place m to agrees reason.0 (at_home header h k ids past task (access_in k.maps.size to what) m waits home) waits;
       what = awaits_word (shown_at m) k.maps.size to key.object.0 key.page.0 what reason.1;
     })
-waits_for header h k ids past task to what on.Frame number m reason fresh full waits home = inr (full refl)
+waits_for header h k ids past task to what on.Frame agrees m reason fresh full waits home = inr (full refl)
 
 -- an access that wants a frame waits while the queue can't go on
 queue_full : (header : Header) (h : ℕ) (k : Parts) (past : List Event) (task : ℕ) (w : Waiting) → QueueIsServed header h k past → entry k.waits.rows task ≡ Some w → is_frame w.on ≡ true → HostIsFull header h past
@@ -77,7 +79,7 @@ none_in_vain header h k ids past rests served task access waits home =
     let row = has_row k past task access rests.waits (at_home header h k ids past task access rests.matches waits home) waits.waits in
     let w = row.row in
     subst (λ (z : Access). (it : Waits header task z past) → it.at.host ≡ h → WaitsForPager header h task z past ⊎ HostIsFull header h past) (sym row.is)
-    (waits_for header h k ids past task (copies_to w.destination) w.want w.on (rests.waits.numbers task w row.found) rests.matches (rests.waits.reasons task w row.found refl) (none_again k.waits.rows task w rests.idle row.found) (queue_full header h k past task w served row.found))
+    (waits_for header h k ids past task (copies_to w.destination) w.want w.on (copies_next rests.used.copies task w row.found) rests.matches (rests.waits.reasons task w row.found refl) (none_again k.waits.rows task w rests.idle row.found) (queue_full header h k past task w served row.found))
     waits home
 
 -- the temporary regions that a kernel knows are in use

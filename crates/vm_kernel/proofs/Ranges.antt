@@ -113,7 +113,7 @@ object_free header h k ids past rests = let number = rests.matches.regions.objec
 abbrev pub new_region : ObjectId → ℕ → RegionRow
 new_region object pages = record { top = object; shift = 0; pages = pages; marked = false; entries = 1 }
 
-keeps_new : (old new : ChainTable) (n : ℕ) (row : RegionRow) → region_at old n ≡ None → PutsRegion n (Some row) old new → Keeps old new
+pub keeps_new : (old new : ChainTable) (n : ℕ) (row : RegionRow) → region_at old n ≡ None → PutsRegion n (Some row) old new → Keeps old new
 keeps_new old new n row none put =
     record {
       there = λ r is. elim (region_cases n (Some row) old new put r) [
@@ -174,7 +174,7 @@ used_range chains chains2 n object pages list used put r row found = elim (regio
 ]
 
 -- no page is of an object that isn't known
-fit_range : (parts : HostParts) (os : ObjectTable) (chains : ChainTable) (n : ℕ) (row : ObjectRow) → Fit parts → AllReferred chains parts.objects parts.resident → object_at parts.objects n ≡ None
+pub fit_range : (parts : HostParts) (os : ObjectTable) (chains : ChainTable) (n : ℕ) (row : ObjectRow) → Fit parts → AllReferred chains parts.objects parts.resident → object_at parts.objects n ≡ None
     → PutsObject n (Some row) parts.objects os → Fit (record parts { objects = os })
 fit_range parts os chains n row fit referred none put =
     fit_within parts os fit
@@ -186,7 +186,7 @@ fit_range parts os chains n row fit referred none put =
     ])
 
 -- the regions are the host's, and the new one was made for its task
-homes_range : (header : Header) (h : ℕ) (chains chains2 : ChainTable) (n : ℕ) (row : RegionRow) (home_from home_from2 : ℕ → Option ℕ) → HasHomes header h chains home_from → ((r : ℕ) → home_from r ≡ Some h → home_from2 r ≡ Some h) → home_from2 n ≡ Some h
+pub homes_range : (header : Header) (h : ℕ) (chains chains2 : ChainTable) (n : ℕ) (row : RegionRow) (home_from home_from2 : ℕ → Option ℕ) → HasHomes header h chains home_from → ((r : ℕ) → home_from r ≡ Some h → home_from2 r ≡ Some h) → home_from2 n ≡ Some h
     → PutsRegion n (Some row) chains chains2 → HasHomes header h chains2 home_from2
 homes_range header h chains chains2 n row home_from home_from2 has stay home put r row2 paged found = elim (region_cases n (Some row) chains chains2 put r) [
   | inl same ↦ subst (λ (z : ℕ). home_from2 z ≡ Some h) same.0 home
@@ -227,7 +227,7 @@ made_use header h n r pages object past lined same = elim (eqb_tells r n) [
   | inr apart ↦ absurd (apart.1 (sym same))
 ]
 
-other_use : (header : Header) (h : ℕ) (n r pages : ℕ) (object : ObjectId) (past : List Event) → r ≢ n → in_use header h r (event.RegionMade (record { 0 = n }) object pages ∷ past) ≡ in_use header h r past
+pub other_use : (header : Header) (h : ℕ) (n r pages : ℕ) (object : ObjectId) (past : List Event) → r ≢ n → in_use header h r (event.RegionMade (record { 0 = n }) object pages ∷ past) ≡ in_use header h r past
 other_use header h n r pages object past apart = elim (eqb_tells r n) [
   | inl is ↦ absurd (apart is.1)
   | inr other ↦ ap (λ b. if b then made_here h past else in_use header h r past) other.0
@@ -351,7 +351,7 @@ range_object_home header h task address bytes past k ids lined rests may =
 
 -- the regions and objects behind the two
 range_regions : (header : Header) (h : ℕ) (task : TaskId) (address bytes : ℕ) (past : List Event) (k k2 : Parts) (ids : Ids) → Rests header h k ids past → MayRange header.size k ids task.0 address bytes
-    → MadeRange (record { 0 = ids.next_region }) (record { 0 = ids.next_object }) (bytes / header.size) k k2
+    → MadeRange (record { 0 = ids.next_region }) (record { 0 = ids.next_object }) (bytes / header.size) 1 k k2
     → HasRegions k2.chains k2.memory.objects (ids_after ids) (λ r. region_of header r (ranged task ids address bytes (bytes / header.size) ++ past)) (λ o. backing_of header o (ranged task ids address bytes (bytes / header.size) ++ past))
     (next_region header (ranged task ids address bytes (bytes / header.size) ++ past)) (next_object header (ranged task ids address bytes (bytes / header.size) ++ past)) (marked_regions header (ranged task ids address bytes (bytes / header.size) ++ past))
 range_regions header h task address bytes past k k2 ids rests may made =
@@ -368,25 +368,25 @@ range_regions header h task address bytes past k k2 ids rests may made =
     (subst (λ (z : ℕ). HasRegions k2.chains k2.memory.objects (ids_after ids) (λ r. region_of header r (e ∷ past)) (λ o. backing_of header o (e ∷ past)) (next_region header past + 1) (next_object header past + 1) z) (sym marks) now)
 
 -- the numbers of the next region and object are those of temporary ones
-record AreTemporary (header : Header) (ids : Ids) : Type 0 where
-  region : named header ≤ ids.next_region
-  object : named header ≤ ids.next_object
+pub record AreTemporary (header : Header) (ids : Ids) : Type 0 where
+  pub region : named header ≤ ids.next_region
+  pub object : named header ≤ ids.next_object
 
-first_temporary : (header : Header) (h : ℕ) (past : List Event) (k : Parts) (ids : Ids) → Rests header h k ids past → AreTemporary header ids
+pub first_temporary : (header : Header) (h : ℕ) (past : List Event) (k : Parts) (ids : Ids) → Rests header h k ids past → AreTemporary header ids
 first_temporary header h past k ids rests =
     let region = rests.matches.regions.region in
     let object = rests.matches.regions.object in
     record { region = let more = named_regions header past in omega (arith, region, more); object = let more = named_objects header past in omega (arith, object, more) }
 
 -- the new object and its region are temporary ones
-range_kinds : (header : Header) (h : ℕ) (past : List Event) (k k2 : Parts) (ids : Ids) (pages : ℕ) → Rests header h k ids past → MadeRange (record { 0 = ids.next_region }) (record { 0 = ids.next_object }) pages k k2 → HasKinds header k2.memory.objects k2.chains
+range_kinds : (header : Header) (h : ℕ) (past : List Event) (k k2 : Parts) (ids : Ids) (pages : ℕ) → Rests header h k ids past → MadeRange (record { 0 = ids.next_region }) (record { 0 = ids.next_object }) pages 1 k k2 → HasKinds header k2.memory.objects k2.chains
 range_kinds header h past k k2 ids pages rests made =
     let least = (first_temporary header h past k ids rests).object in
     kinds_region header ids.next_region (new_region (record { 0 = ids.next_object }) pages) k2.memory.objects k.chains k2.chains made.region_row (λ temporary. least)
     (kinds_put header ids.next_object (new_object pages) k.memory.objects k2.memory.objects k.chains made.object_row made.marks (kind_new header ids.next_object (new_object pages) pages least refl) rests.matches.kinds)
 
 rests_range : (header : Header) (h : ℕ) (outside : Outside) (task : TaskId) (address bytes : ℕ) (past : List Event) (k k2 : Parts) (ids : Ids) (maps : Mapped) → IsLined past → Rests header h k ids past → MayRange header.size k ids task.0 address bytes → task.0 < 1024
-    → MadeRange (record { 0 = ids.next_region }) (record { 0 = ids.next_object }) (bytes / header.size) k k2 → ChangesOnly k.maps maps task.0 (Some (entered (whole_entry address bytes (record { 0 = ids.next_region })) (rows_in task.0 k.maps)))
+    → MadeRange (record { 0 = ids.next_region }) (record { 0 = ids.next_object }) (bytes / header.size) 1 k k2 → ChangesOnly k.maps maps task.0 (Some (entered (whole_entry address bytes (record { 0 = ids.next_region })) (rows_in task.0 k.maps)))
     → Rests header h (with_range k k2 maps) (ids_after ids) (ranged task ids address bytes (bytes / header.size) ++ past)
 rests_range header h outside task address bytes past k k2 ids maps lined rests may below made changes =
     let m = rests.matches in
@@ -445,7 +445,7 @@ rests_range header h outside task address bytes past k k2 ids maps lined rests m
     }
 
 pub ran_range : (header : Header) (h : ℕ) (outside : Outside) (task : TaskId) (address bytes pages : ℕ) (past : List Event) (k k2 : Parts) (ids : Ids) (before after : List Event) (maps : Mapped) → Starts header h (command.Allocate task address bytes) past k ids before → pages ≡ bytes / k.size
-    → MadeRange (record { 0 = ids.next_region }) (record { 0 = ids.next_object }) pages k k2
+    → MadeRange (record { 0 = ids.next_region }) (record { 0 = ids.next_object }) pages 1 k k2
     → ChangesOnly k2.maps maps task.0 (Some (entered (whole_entry address bytes (record { 0 = ids.next_region })) (rows_in task.0 k2.maps))) → after ≡ ranged task ids address bytes pages ++ before
     → Ran header h outside (command.Allocate task address bytes) past (record k2 { maps = maps }) (ids_after ids) after
 ran_range header h outside task address bytes pages past k k2 ids before after maps s count made changes told =
@@ -453,7 +453,7 @@ ran_range header h outside task address bytes pages past k k2 ids before after m
     let whole : pages ≡ bytes / header.size = count ∙ ap (λ z. bytes / z) m.size in
     let events = ranged task ids address bytes (bytes / header.size) in
     let log : after ≡ events = told ∙ (ap (λ z. ranged task ids address bytes z ++ before) whole ∙ ap (λ z. events ++ z) s.nothing) in
-    let made_whole = subst (λ (z : ℕ). MadeRange (record { 0 = ids.next_region }) (record { 0 = ids.next_object }) z k k2) whole made in
+    let made_whole = subst (λ (z : ℕ). MadeRange (record { 0 = ids.next_region }) (record { 0 = ids.next_object }) z 1 k k2) whole made in
     let changed = subst (λ (z : Mapped). ChangesOnly z maps task.0 (Some (entered (whole_entry address bytes (record { 0 = ids.next_region })) (rows_in task.0 z)))) made.maps changes in
     let rests = rests_range header h outside task address bytes past k k2 ids maps s.begins s.rests (may_range header h task address bytes past k ids before s) s.range.task made_whole changed in
     let first = event.RegionMade (record { 0 = ids.next_region }) (record { 0 = ids.next_object }) (bytes / header.size) ∷ got task (whole_entry address bytes (record { 0 = ids.next_region })) ∷ [] in

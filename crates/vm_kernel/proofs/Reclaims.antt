@@ -561,7 +561,7 @@ exhausted header h k ids spared moment past rests source each =
         let row = here_row k.memory.frames (row_at k.memory.resident o p) (absent_at k.memory.objects o p) (ap (λ z. z.here) (sym (m.pages.shown o p)) ∙ here) in
         elim (each o p row.0 row.1 row.2) [
           | inl one ↦ inl one
-          | inr sent ↦ inr (waits_unlocked header h k ids past o p row.0 m rests.waits row.1 row.2 sent)
+          | inr sent ↦ inr (waits_unlocked header h k ids past o p row.0 m rests.waits rests.used.copies row.1 row.2 sent)
         ]
 
 -- the page that is to be copied is so

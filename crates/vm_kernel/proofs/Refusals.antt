@@ -1,16 +1,12 @@
 -- The refusals of a kernel are those of its history.
-use Rattle.std.proofs.lemmas.Bool.{or_parts}
-use Rattle.vm_kernel.proofs.Common.{AllRows, Bool, Code, Command, Declared, Entry, Event, HasTasks, Header, HostId, Ids, InRange, Inherit, IsAccessSize, IsForHere, IsInside, IsSome, List, Mapped, None, ObjectId, Option, Parts, Region, Rests, Some, TaskId, [], acting, acting_in, acts_on, ap, arith, code_of, code_where, copies_from, entries_in, entries_of, entry_at, false, frames_free, frames_wired, has_copy_mark, has_region, head, host_of, is_copied, is_marked, is_none, is_on, is_range, is_some, kernel_runs, length, lives_on, marked_regions, meets_declared, named, new_marks, next_object, next_region, object_total, refl, refusal, reverse, rows_in, rows_map, slice_get, subst, sym, takes_name, true, waiting, ℕ, ◌&&◌, ◌+◌, ◌/◌, ◌<◌, ◌==◌, ◌||◌, ◌∙◌, ◌∷◌, ◌≡◌}
+use Rattle.vm_kernel.proofs.Common.{AllRows, Bool, Code, Command, Declared, Entry, Event, HasTasks, Header, HostId, Ids, InRange, Inherit, IsAccessSize, IsForHere, IsInside, IsSome, List, Mapped, None, ObjectId, Option, Parts, Region, Rests, Some, TaskId, [], acting, acting_in, acts_on, ap, arith, code_of, code_where, copies_from, entries_in, false, frames_free, frames_wired, has_copy_mark, has_region, host_of, is_copied, is_marked, is_on, is_range, is_some, kernel_runs, length, lives_on, marked_regions, meets_declared, named, new_marks, next_object, object_total, refl, refusal, reverse, rows_in, rows_map, slice_get, subst, sym, takes_name, true, ℕ, ◌&&◌, ◌+◌, ◌<◌, ◌==◌, ◌||◌, ◌∙◌, ◌∷◌, ◌≡◌}
 use Rattle.std.proofs.Common.{nat_lt, if◌then◌else◌, not}
 use Rattle.vm_base.specs.declared.code.Code.TheVariants as code
 use Rattle.vm_model.specs.declared.command.Command.TheVariants as command
-use Rattle.vm_base.specs.Limits.{most_pages}
-use Rattle.vm_legal.specs.Follows.{copy_head}
-use Rattle.vm_legal.specs.Refusal.{copy_refusal, is_elsewhere, is_uncopied, same_host}
+use Rattle.vm_legal.specs.Refusal.{is_elsewhere}
 use Rattle.vm_model.specs.Named.{declared_pages, pages_kept}
 use Rattle.vm_kernel.specs.Begun.{targets_here}
-use Rattle.vm_kernel.specs.Refusing.{copies_declared, is_declared_entry, maps_elsewhere, pages_declared}
-use Rattle.vm_kernel.proofs.Heads.{passed}
+use Rattle.vm_kernel.specs.Refusing.{maps_elsewhere, pages_declared}
 use Rattle.vm_kernel.proofs.Uncopied.{copy_refused, declared_are, waits_are}
 use Rattle.vm_kernel.proofs.Growing.{free_is}
 use Rattle.vm_kernel.proofs.Own.{host_same, lives_in, on_is, rows_here}
@@ -160,67 +156,3 @@ refusal_is header h k ids past elsewhere other rests acts both built unnamed awa
 -- the parts have the size of a page that the maps have
 pub maps_sized : {header : Header} {h : ℕ} {k : Parts} {ids : Ids} {past : List Event} → Rests header h k ids past → k.maps.size ≡ k.size
 maps_sized rests = rests.matches.tasks.sized ∙ sym rests.matches.size
-
--- whether a command that isn't refused copies from an entry on a declared object
-
--- a copy that isn't refused has an entry to copy from, and goes to a task of the host
-record IsFound (header : Header) (h : ℕ) (address bytes target to : ℕ) (past : List Event) (x : Option Entry) : Type 0 where
-  there : lives_on h target past ≡ true
-  found : copy_refusal header address bytes target to past x ≡ None
-
-copy_found : (header : Header) (h : ℕ) (past : List Event) (task : TaskId) (address bytes : ℕ) (target : TaskId) (to : ℕ) → lives_on h task.0 past ≡ true → refusal header past (command.Copy task address bytes target to) ≡ None
-    → IsFound header h address bytes target.0 to past (entry_at address (entries_of header.size task.0 past))
-copy_found header h past task address bytes target to acts accepted =
-    let size = header.size in
-    let mine = entry_at address (entries_of size task.0 past) in
-    let ranges = not (is_range size address bytes && is_range size to bytes) in
-    let large = nat_lt most_pages (bytes / size) in
-    let one = passed (is_none (host_of task.0 past) || is_none (host_of target.0 past)) code.NoSuchName _ accepted in
-    let two = passed (is_some (waiting task.0 past) || is_some (waiting target.0 past)) code.Blocked _ one.1 in
-    let three = passed (ranges || (large || (not (same_host (host_of task.0 past) (host_of target.0 past)) || is_uncopied header (task.0 == target.0) mine))) code.InvalidArgument _ two.1 in
-    let apart = (or_parts (not (same_host (host_of task.0 past) (host_of target.0 past))) _ (or_parts large _ (or_parts ranges _ three.0).1).1).0 in
-    record { there = ap (λ (z : Option ℕ). same_host z (host_of target.0 past)) (sym (on_is h (host_of task.0 past) acts)) ∙ both (same_host (host_of task.0 past) (host_of target.0 past)) apart; found = three.1 }
-  where
-    both : (b : Bool) → not b ≡ false → b ≡ true
-    both true is = refl
-    both false is = absurd (let bad : true ≡ false = is in cc)
-
-targets_found : (header : Header) (h : ℕ) (past : List Event) (doing : Command) → acts_on h doing past ≡ true → refusal header past doing ≡ None → targets_here h doing past ≡ true
-targets_found header h past (command.Copy task address bytes target to) acts accepted = (copy_found header h past task address bytes target to acts accepted).there
-targets_found header h past other acts accepted = refl
-
--- what its tests take for granted
-pub for_copying : (header : Header) (h : ℕ) (k : Parts) (ids : Ids) (past : List Event) (doing : Command) → Rests header h k ids past → acts_on h doing past ≡ true → InRange header doing → refusal header past doing ≡ None
-    → IsForHere k.maps (length k.declared.items) doing
-for_copying header h k ids past doing rests acts range accepted = for_here header h k ids past doing rests acts (targets_found header h past doing acts accepted) range
-
-without_head : (b : Bool) (first : List Event) → b ≡ is_none (if b then None else Some first)
-without_head true first = refl
-without_head false first = refl
-
-head_of : (header : Header) (next address bytes : ℕ) (target : TaskId) (to : ℕ) (past : List Event) (x : Option Entry) → copy_refusal header address bytes target.0 to past x ≡ None
-    → is_declared_entry (named header) x ≡ is_none (copy_head (named header) header.size next address bytes target to x)
-head_of header next address bytes target to past None found = absurd (let bad : Some code.InvalidAddress ≡ None = found in cc)
-head_of header next address bytes target to past (Some row) found = without_head (nat_lt row.region.0 (named header)) _
-
-pub copies_is : (header : Header) (h : ℕ) (k : Parts) (ids : Ids) (past : List Event) (doing : Command) → Rests header h k ids past → acts_on h doing past ≡ true → kernel_runs doing ≡ true → refusal header past doing ≡ None
-    → copies_declared k doing ≡ is_none (head header past doing)
-copies_is header h k ids past (command.Task task host) rests acts built accepted = refl
-copies_is header h k ids past (command.Fork task child) rests acts built accepted = rw (on_is h (host_of task.0 past) acts) refl
-copies_is header h k ids past (command.Exit task) rests acts built accepted = refl
-copies_is header h k ids past (command.Allocate task address bytes) rests acts built accepted = refl
-copies_is header h k ids past (command.Map task address bytes object offset) rests acts built accepted = rw (on_is h (host_of task.0 past) acts) refl
-copies_is header h k ids past (command.Deallocate task address bytes) rests acts built accepted = refl
-copies_is header h k ids past (command.Protect task address bytes prot) rests acts built accepted = refl
-copies_is header h k ids past (command.Inherit task address bytes inherit) rests acts built accepted = refl
-copies_is header h k ids past (command.Load task address size) rests acts built accepted = refl
-copies_is header h k ids past (command.Store task address size value) rests acts built accepted = refl
-copies_is header h k ids past (command.Copy task address bytes target to) rests acts built accepted =
-    let found = (copy_found header h past task address bytes target to acts accepted).found in
-    ap (λ (z : ℕ). is_declared_entry z (entry_at address (rows_in task.0 k.maps))) (declared_are rests)
-    ∙ (ap (λ (z : List Entry). is_declared_entry (named header) (entry_at address z)) (sym (entries_same task.0 rests.matches.tasks acts))
-    ∙ head_of header (next_region header past) address bytes target to past (entry_at address (entries_of header.size task.0 past)) found)
-copies_is header h k ids past (command.Pageout host count) rests acts built accepted = refl
-copies_is header h k ids past (command.Wire host count) rests acts built accepted = refl
-copies_is header h k ids past (command.Unwire host count) rests acts built accepted = refl
-copies_is header h k ids past other rests acts built accepted = absurd (let bad : false ≡ true = built in cc)

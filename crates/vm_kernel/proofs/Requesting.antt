@@ -62,7 +62,6 @@ mid_rows header h k ids rs2 past m same =
         is = m.waits.is;
         allowed = m.waits.allowed;
         sized = m.waits.sized;
-        numbers = m.waits.numbers;
         reasons = λ t w found asleep. reason t w.want w.on (m.waits.reasons t w found asleep);
         aims = m.waits.aims;
         askers = λ o p row found. m.waits.askers o p row (was o p row found);
@@ -144,7 +143,6 @@ waits_taken maps k object page count lock flush rows2 past has woke =
       is = has.is;
       allowed = has.allowed;
       sized = has.sized;
-      numbers = has.numbers;
       reasons = λ t w found asleep. reason t w.want w.on asleep (has.reasons t w found refl);
       aims = has.aims;
       askers = λ o p row found awaits. let was = row_back (pended a) rs o p row found in has.askers o p was.0 was.1 (awaited_was o p row was.0 was.2 awaits);

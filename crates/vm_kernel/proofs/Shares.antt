@@ -95,7 +95,7 @@ used_share r n row cs cs2 list there put used q now found = elim (one_case r q (
   | inr other ↦ used q now (sym other.1 ∙ found)
 ]
 
-entries_share : (size : ℕ) (maps new : Mapped) (cs cs2 : ChainTable) (task : ℕ) (row : Entry) → HasEntries size maps cs [] → IsInside size cs row → PutsEntries row.region.0 (region_entries cs row.region.0 + 1) cs cs2
+pub entries_share : (size : ℕ) (maps new : Mapped) (cs cs2 : ChainTable) (task : ℕ) (row : Entry) → HasEntries size maps cs [] → IsInside size cs row → PutsEntries row.region.0 (region_entries cs row.region.0 + 1) cs cs2
     → ChangesOnly maps new task (Some (entered row (rows_in task maps))) → task < all_tasks → length (rows_in task maps) < most_entries → HasEntries size new cs2 []
 entries_share size maps new cs cs2 task row has inside put changes below room =
     let r = row.region.0 in

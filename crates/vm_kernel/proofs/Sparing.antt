@@ -19,10 +19,12 @@ use Rattle.vm_supply.specs.declared.woken.Woken.TheVariants as woken
 use Rattle.vm_waits.specs.Waits.{EachOnce}
 use Rattle.vm_waits.specs.declared.waiting.On.{On}
 use Rattle.vm_waits.specs.declared.waiting.On.TheVariants as on
+use Rattle.vm_state.proofs.Filling.{copies_next}
+use Rattle.vm_kernel.specs.Matches.{HasSlow}
 
 -- who waits here, as licences want it
-abbrev pub here_waits : (header : Header) (h : ℕ) (k : Parts) (ids : Ids) (past : List Event) (task : ℕ) (w : Waiting) → Matches header h k ids [] past → HasWaits k woken.Nobody past → entry k.waits.rows task ≡ Some w → Waits header task (access_in k.maps.size (copies_to w.destination) w.want) past
-here_waits header h k ids past task w m waits found =
+abbrev pub here_waits : (header : Header) (h : ℕ) (k : Parts) (ids : Ids) (past : List Event) (task : ℕ) (w : Waiting) → Matches header h k ids [] past → HasWaits k woken.Nobody past → HasSlow header k past → entry k.waits.rows task ≡ Some w → Waits header task (access_in k.maps.size (copies_to w.destination) w.want) past
+here_waits header h k ids past task w m waits copies found =
     let allowed = waits.allowed task w found in
     record {
       waits = waits.is task (ap is_some allowed.lives) ∙ ap (waiting_in k.maps.size) found;
@@ -30,7 +32,7 @@ here_waits header h k ids past task w m waits found =
         host = h;
         entry = allowed.entry;
         lives = lives_here m.tasks allowed.lives;
-        found = ap (λ z. entry_at z (entries_of header.size task past)) (want_address k.maps.size header.size (next_page task past) (copies_to w.destination) w.want (waits.numbers task w found)) ∙ (ap (entry_at (address_in k.maps.size w.want)) (rows_here m.tasks allowed.lives) ∙ allowed.found);
+        found = ap (λ z. entry_at z (entries_of header.size task past)) (want_address k.maps.size header.size (next_page task past) (copies_to w.destination) w.want m.tasks.sized (copies_next copies task w found)) ∙ (ap (entry_at (address_in k.maps.size w.want)) (rows_here m.tasks allowed.lives) ∙ allowed.found);
       };
     }
 
@@ -40,9 +42,9 @@ not_away rs o p row w found here (inl asked) = absurd (let bad : true ≡ false 
 not_away rs o p row w found here (inr locked) = locked
 
 -- who waits for a page that is here waits for its unlock
-pub waits_for_unlock : (header : Header) (h : ℕ) (k : Parts) (ids : Ids) (past : List Event) (o p task : ℕ) (row : PageRow) (w : Waiting) → Matches header h k ids [] past → HasWaits k woken.Nobody past → row_at k.memory.resident o p ≡ Some row → row.here ≡ true
+pub waits_for_unlock : (header : Header) (h : ℕ) (k : Parts) (ids : Ids) (past : List Event) (o p task : ℕ) (row : PageRow) (w : Waiting) → Matches header h k ids [] past → HasWaits k woken.Nobody past → HasSlow header k past → row_at k.memory.resident o p ≡ Some row → row.here ≡ true
     → entry k.waits.rows task ≡ Some w → w.on ≡ on.Page (page_key o p) → WaitsUnlocked header h o p past
-waits_for_unlock header h k ids past o p task row w m waits found here there on_page =
+waits_for_unlock header h k ids past o p task row w m waits copies found here there on_page =
     let s = shown_at m in
     let reason : Reason k.maps k.chains k.memory.resident k.memory.objects task w.want (on.Page (page_key o p)) =
     subst (λ (z : On). Reason k.maps k.chains k.memory.resident k.memory.objects task w.want z) on_page (waits.reasons task w there refl) in
@@ -51,20 +53,20 @@ waits_for_unlock header h k ids past o p task row w m waits found here there on_
     record {
       task = task;
       access = access_in k.maps.size (copies_to w.destination) w.want;
-      waits = here_waits header h k ids past task w m waits there;
+      waits = here_waits header h k ids past task w m waits copies there;
       on_host = refl;
-      place = waiting_place m (copies_to w.destination) (waits.numbers task w there) reason.0 (ap is_some (waits.allowed task w there).lives) (here_waits header h k ids past task w m waits there);
+      place = waiting_place m (copies_to w.destination) (copies_next copies task w there) reason.0 (ap is_some (waits.allowed task w there).lives) (here_waits header h k ids past task w m waits copies there);
       here = shows.here;
       named = named_at s k.maps.size (copies_to w.destination) o p w.want locked;
       unlocking = shows.unlocking ∙ locked.sent;
     }
 
 -- somebody does, where an unlock is outstanding
-pub waits_unlocked : (header : Header) (h : ℕ) (k : Parts) (ids : Ids) (past : List Event) (o p : ℕ) (row : PageRow) → Matches header h k ids [] past → HasWaits k woken.Nobody past → row_at k.memory.resident o p ≡ Some row → row.here ≡ true → row.unlock_sent ≡ true
+pub waits_unlocked : (header : Header) (h : ℕ) (k : Parts) (ids : Ids) (past : List Event) (o p : ℕ) (row : PageRow) → Matches header h k ids [] past → HasWaits k woken.Nobody past → HasSlow header k past → row_at k.memory.resident o p ≡ Some row → row.here ≡ true → row.unlock_sent ≡ true
     → WaitsUnlocked header h o p past
-waits_unlocked header h k ids past o p row m waits found here sent =
+waits_unlocked header h k ids past o p row m waits copies found here sent =
     let asker : Asker k.waits.rows o p = waits.askers o p row found (sent_awaited row sent) in
-    waits_for_unlock header h k ids past o p asker.task row asker.row m waits found here asker.is asker.waits
+    waits_for_unlock header h k ids past o p asker.task row asker.row m waits copies found here asker.is asker.waits
 
 -- the frames that are skipped
 
@@ -202,22 +204,22 @@ spared_more header h k past reason rest (Some f) is waits others =
     let row = here_row (row_at k.memory.resident page.0.object.0 page.0.page.0) f page.2 in
     ((page.0.object.0, page.0.page.0, inr (waits page.0 row.0 page.1 row.1 row.2), page.2), others)
 
-spared_locked : (header : Header) (h : ℕ) (k : Parts) (ids : Ids) (past : List Event) (ws : List Waiting) → Matches header h k ids [] past → HasWaits k woken.Nobody past → EachOnce ws → ((t : ℕ) (v : Waiting) → entry ws t ≡ Some v → entry k.waits.rows t ≡ Some v)
+spared_locked : (header : Header) (h : ℕ) (k : Parts) (ids : Ids) (past : List Event) (ws : List Waiting) → Matches header h k ids [] past → HasWaits k woken.Nobody past → HasSlow header k past → EachOnce ws → ((t : ℕ) (v : Waiting) → entry ws t ≡ Some v → entry k.waits.rows t ≡ Some v)
     → AreSpared header h past (paging k).frame_at (frames_locked k.memory.resident ws)
-spared_locked header h k ids past [] m waits once stand = tt
-spared_locked header h k ids past (w ∷ ws) m waits once stand =
+spared_locked header h k ids past [] m waits copies once stand = tt
+spared_locked header h k ids past (w ∷ ws) m waits copies once stand =
     spared_more header h k past w.on (frames_locked k.memory.resident ws) (frame_spared k.memory.resident (page_waited w.on)) refl
-    (λ key row on_page found here. waits_for_unlock header h k ids past key.object.0 key.page.0 w.task.0 row w m waits found here (first_stands w ws k.waits.rows stand) on_page)
-    (spared_locked header h k ids past ws m waits once.1 (later_stand w ws k.waits.rows once stand))
+    (λ key row on_page found here. waits_for_unlock header h k ids past key.object.0 key.page.0 w.task.0 row w m waits copies found here (first_stands w ws k.waits.rows stand) on_page)
+    (spared_locked header h k ids past ws m waits copies once.1 (later_stand w ws k.waits.rows once stand))
 
-pub are_spared : (header : Header) (h : ℕ) (k : Parts) (ids : Ids) (past : List Event) (spared : Option PageKey) → Matches header h k ids [] past → HasWaits k woken.Nobody past → EachOnce k.waits.rows → IsToCopy header h k spared past
+pub are_spared : (header : Header) (h : ℕ) (k : Parts) (ids : Ids) (past : List Event) (spared : Option PageKey) → Matches header h k ids [] past → HasWaits k woken.Nobody past → HasSlow header k past → EachOnce k.waits.rows → IsToCopy header h k spared past
     → AreSpared header h past (paging k).frame_at (frames_spared k.memory.resident spared k.waits.rows)
-are_spared header h k ids past None m waits once to_copy = spared_locked header h k ids past k.waits.rows m waits once (λ t v there. there)
-are_spared header h k ids past (Some key) m waits once to_copy =
+are_spared header h k ids past None m waits copies once to_copy = spared_locked header h k ids past k.waits.rows m waits copies once (λ t v there. there)
+are_spared header h k ids past (Some key) m waits copies once to_copy =
     let here = to_copy.1 in
     let frame = ap frame_here here.1 ∙ here_frame here.0 here.2 in
     subst (λ (z : Option FrameNo). AreSpared header h past (paging k).frame_at (option_list z ++ frames_locked k.memory.resident k.waits.rows)) (sym frame)
-    ((key.object.0, key.page.0, inl to_copy.0, frame), spared_locked header h k ids past k.waits.rows m waits once (λ t v there. there))
+    ((key.object.0, key.page.0, inl to_copy.0, frame), spared_locked header h k ids past k.waits.rows m waits copies once (λ t v there. there))
 
 -- what a reclaim leaves, by the pages that are spared
 

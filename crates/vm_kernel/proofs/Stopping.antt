@@ -8,6 +8,7 @@ use Rattle.vm_kernel.proofs.Shown.{shown_at, waiting_place}
 use Rattle.vm_state.proofs.Locks.{awaits_word}
 use Rattle.vm_state.proofs.Shown.{awaits_ready}
 use Rattle.std.proofs.lemmas.Bool.{not-true}
+use Rattle.vm_state.proofs.Filling.{copies_next}
 
 -- a pager that was told of its object isn't ready
 told_unready : (os : ObjectTable) (o : ℕ) → IsPagerTold os o → ready_in (object_at os o) ≡ true → ⊥
@@ -31,7 +32,7 @@ waits_there header h k ids past task object page w (on.Ready told) rests queue f
     subst (λ (z : On). Reason k.maps k.chains k.memory.resident k.memory.objects task w.want z) is (rests.waits.reasons task w found refl) in
     let pager = reason.3 in
     let awaits : Awaits header h (is_store (access_in k.maps.size (copies_to w.destination) w.want)) told.0 reason.0.page.0 past = awaits_ready (shown_at m) told.0 pager.row pager.found pager.sent (is_store (access_in k.maps.size (copies_to w.destination) w.want)) reason.0.page.0 in
-    let same = only reason.0.object.0 reason.0.page.0 (waiting_place m (copies_to w.destination) (rests.waits.numbers task w found) reason.1 here waits)
+    let same = only reason.0.object.0 reason.0.page.0 (waiting_place m (copies_to w.destination) (copies_next rests.used.copies task w found) reason.1 here waits)
     (subst (λ (z : ObjectId). Awaits header h (is_store (access_in k.maps.size (copies_to w.destination) w.want)) z.0 reason.0.page.0 past) (sym reason.2) awaits) in
     let named : told.0 ≡ object = ap (λ (z : ObjectId). z.0) (sym reason.2) ∙ same.0 in
     absurd (told_unready k.memory.objects object (subst (IsPagerTold k.memory.objects) named pager) ready)
@@ -40,7 +41,7 @@ waits_there header h k ids past task object page w (on.Page key) rests queue fou
     let here = ap is_some (rests.waits.allowed task w found).lives in
     let reason : Reason k.maps k.chains k.memory.resident k.memory.objects task w.want (on.Page key) =
     subst (λ (z : On). Reason k.maps k.chains k.memory.resident k.memory.objects task w.want z) is (rests.waits.reasons task w found refl) in
-    let same = only key.object.0 key.page.0 (waiting_place m (copies_to w.destination) (rests.waits.numbers task w found) reason.0 here waits) (awaits_word (shown_at m) k.maps.size (copies_to w.destination) key.object.0 key.page.0 w.want reason.1) in
+    let same = only key.object.0 key.page.0 (waiting_place m (copies_to w.destination) (copies_next rests.used.copies task w found) reason.0 here waits) (awaits_word (shown_at m) k.maps.size (copies_to w.destination) key.object.0 key.page.0 w.want reason.1) in
     λ i. on.Page (page_key (same.0 i) (same.1 i))
 waits_there header h k ids past task object page w on.Frame rests (inl none) found is waits only ready frees =
     absurd (let bad : true ≡ false = sym (ap is_frame is) ∙ none_queued k.waits.rows task w none found in cc)

@@ -1,7 +1,6 @@
 -- No entry leads to a region any more: it goes, and its top has one reference less.
-use Rattle.vm_kernel.proofs.Common.{AllEntriesInside, AllRows, Bool, ChainTable, Command, EndsObject, EndsRegion, Entry, Event, HasControls, HasEntries, Header, Ids, IfSome, Inside, IsInStep, IsReferred, IsSome, List, Mapped, Matches, None, ObjectId, ObjectRow, ObjectTable, Option, Outside, Parts, PutsObject, PutsRegion, RegionRow, SameMarks, Some, Sweeps, UsesAll, [], all_tasks, ap, arith, backing_of, count_by, count_on, entries_in_row, eqb_tells, false, fit_objects, has_entry, has_region, home_of, inl, inr, is_some, is_woken, last_in, live_in, local_of_row, marked_regions, nat_lt, nat_tests, next_object, next_region, object_at, one_case, pages_in, ready_in, refl, region_at, region_entries, region_of, row_at, rows_in, same_pages, some_is, subst, sym, true, unwrap_or, waiting, ℕ, ◌++◌, ◌+◌, ◌-◌, ◌<◌, ◌^◌, ◌∙◌, ◌∷◌, ◌≡◌, ◌≢◌, ◌≤◌}
+use Rattle.vm_kernel.proofs.Common.{AllEntriesInside, AllRows, Bool, ChainTable, EndsObject, EndsRegion, Entry, Event, HasControls, HasEntries, Header, Ids, IfSome, Inside, IsAmid, IsReferred, IsSome, IsWhole, List, Mapped, Matches, None, ObjectId, ObjectRow, ObjectTable, Option, Parts, PutsObject, PutsRegion, RegionRow, SameMarks, Some, UsesAll, Woken, [], all_tasks, ap, arith, backing_of, count_by, count_on, entries_in_row, eqb_tells, false, fit_objects, has_entry, has_region, home_of, inl, inr, is_some, is_woken, last_in, live_in, local_of_row, marked_regions, nat_lt, nat_tests, next_object, next_region, object_at, one_case, pages_in, ready_in, refl, region_at, region_entries, region_of, row_at, rows_in, same_pages, some_is, subst, sym, true, unwrap_or, waiting, ℕ, ◌++◌, ◌+◌, ◌-◌, ◌<◌, ◌^◌, ◌∙◌, ◌∷◌, ◌≡◌, ◌≢◌, ◌≤◌}
 use Rattle.vm_kernel.proofs.Filled.{copies_gone}
-use Rattle.vm_supply.specs.declared.woken.Woken.TheVariants as woken
 use Rattle.vm_kernel.proofs.Counts.{by_zero, on_zero}
 use Rattle.vm_kernel.proofs.Regions.{region_row}
 use Rattle.vm_kernel.proofs.Rows.{region_cases}
@@ -135,9 +134,9 @@ if_some : {A : Type 0} (x : Option A) (P : A → Type 0) (v : A) → x ≡ Some 
 if_some x P v is holds = subst (λ z. IfSome z P) is holds
 
 -- the top of a region is known, and is referred to
-pub top_referred : (header : Header) (h : ℕ) (outside : Outside) (doing : Command) (past : List Event) (k : Parts) (ids : Ids) (rest : List Entry) (r : ℕ) (events : List Event) (object : ObjectId)
-    → EndsRegion header h outside doing past k ids rest r events → IfSome (region_at k.chains r) (λ row. object ≡ row.top) → IsReferred k.memory.objects object.0
-top_referred header h outside doing past k ids rest r events object e top =
+pub top_referred : (header : Header) (h : ℕ) (past : List Event) (who : Woken) (k : Parts) (ids : Ids) (rest : List Entry) (r : ℕ) (events : List Event) (object : ObjectId)
+    → EndsRegion header h who k ids rest r (events ++ past) → IfSome (region_at k.chains r) (λ row. object ≡ row.top) → IsReferred k.memory.objects object.0
+top_referred header h past who k ids rest r events object e top =
     let row = region_row k.chains r e.there in
     let is : object ≡ row.0.top = if_some (region_at k.chains r) (λ row. object ≡ row.top) row.0 row.1 top in
     subst (λ (z : ObjectId). IsReferred k.memory.objects z.0) (sym is) (refers_region e.runs.matches.regions r row.0 row.1)
@@ -148,14 +147,14 @@ referred_there os o is = ap is_some is.known
 pub referred_some : (os : ObjectTable) (o : ℕ) → IsReferred os o → IfSome (object_at os o) (λ row. 0 < row.references)
 referred_some os o is = subst (λ (z : Option ObjectRow). IfSome z (λ row. 0 < row.references)) (sym is.known) is.some
 
-pub loses_region : (header : Header) (h : ℕ) (outside : Outside) (doing : Command) (past : List Event) (k : Parts) (ids : Ids) (rest : List Entry) (r left : ℕ) (events : List Event) (object : ObjectId) (chains : ChainTable) (objects : ObjectTable)
-    → EndsRegion header h outside doing past k ids rest r events → IfSome (region_at k.chains r) (λ row. object ≡ row.top) → PutsRegion r None k.chains chains
+pub loses_region : (header : Header) (h : ℕ) (past : List Event) (who : Woken) (k : Parts) (ids : Ids) (rest : List Entry) (r left : ℕ) (events : List Event) (object : ObjectId) (chains : ChainTable) (objects : ObjectTable)
+    → EndsRegion header h who k ids rest r (events ++ past) → IfSome (region_at k.chains r) (λ row. object ≡ row.top) → PutsRegion r None k.chains chains
     → IfSome (object_at k.memory.objects object.0) (λ row. left + 1 ≡ row.references) → IfSome (object_at k.memory.objects object.0) (λ row. PutsObject object.0 (Some (record row { references = left })) k.memory.objects objects)
     → SameMarks k.memory.objects objects → LosesRegion k r left object chains objects
-loses_region header h outside doing past k ids rest r left events object chains objects e top region less put marks =
+loses_region header h past who k ids rest r left events object chains objects e top region less put marks =
     let row = region_row k.chains r e.there in
     let is : object ≡ row.0.top = if_some (region_at k.chains r) (λ row. object ≡ row.top) row.0 row.1 top in
-    let referred = top_referred header h outside doing past k ids rest r events object e top in
+    let referred = top_referred header h past who k ids rest r events object e top in
     let now = if_some (object_at k.memory.objects object.0) (λ row. PutsObject object.0 (Some (record row { references = left })) k.memory.objects objects) referred.row referred.known put in
     record {
       row = row.0;
@@ -169,15 +168,14 @@ loses_region header h outside doing past k ids rest r left events object chains 
       marks = marks;
     }
 
-runs_gone : (header : Header) (h : ℕ) (outside : Outside) (doing : Command) (past : List Event) (k : Parts) (ids : Ids) (rest : List Entry) (r left : ℕ) (events : List Event) (object : ObjectId) (chains : ChainTable) (objects : ObjectTable)
-    → EndsRegion header h outside doing past k ids rest r events → LosesRegion k r left object chains objects → IsInStep header h outside doing past (record k { chains = chains; memory = record k.memory { objects = objects } }) ids rest events
-runs_gone header h outside doing past k ids rest r left events object chains objects e loses =
+runs_gone : (header : Header) (h : ℕ) (past : List Event) (who : Woken) (k : Parts) (ids : Ids) (rest : List Entry) (r left : ℕ) (events : List Event) (object : ObjectId) (chains : ChainTable) (objects : ObjectTable)
+    → EndsRegion header h who k ids rest r (events ++ past) → LosesRegion k r left object chains objects → IsAmid header h who (record k { chains = chains; memory = record k.memory { objects = objects } }) ids rest (events ++ past)
+runs_gone header h past who k ids rest r left events object chains objects e loses =
     let moment = events ++ past in
     let m : Matches header h k ids rest moment = e.runs.matches in
     let top = loses.row.top.0 in
     let was = loses.was in
     record {
-      begins = e.runs.begins;
       matches = record {
         ranged = m.ranged;
         declared = m.declared;
@@ -201,44 +199,42 @@ runs_gone header h outside doing past k ids rest r left events object chains obj
         laundry = m.laundry;
         frames = m.frames;
       };
-      waits = waits_referred k.maps chains k.memory.resident k.memory.objects objects k.waits.rows (is_woken woken.Nobody) (λ t. waiting t moment) top left was
-          (waits_without k.maps k.chains chains k.memory.resident k.memory.objects k.waits.rows (is_woken woken.Nobody) (λ t. waiting t moment) r e.runs.waits loses.region (no_entry header.size k.maps k.chains rest r m.entries e.there e.none)) loses.known loses.put;
+      waits = waits_referred k.maps chains k.memory.resident k.memory.objects objects k.waits.rows (is_woken who) (λ t. waiting t moment) top left was
+          (waits_without k.maps k.chains chains k.memory.resident k.memory.objects k.waits.rows (is_woken who) (λ t. waiting t moment) r e.runs.waits loses.region (no_entry header.size k.maps k.chains rest r m.entries e.there e.none)) loses.known loses.put;
       order = e.runs.order;
-      idle = e.runs.idle;
-      grows = e.runs.grows;
     }
 
-used_gone : (header : Header) (h : ℕ) (outside : Outside) (doing : Command) (past : List Event) (k : Parts) (ids : Ids) (rest : List Entry) (r : ℕ) (events : List Event) (chains : ChainTable) → EndsRegion header h outside doing past k ids rest r events
+used_gone : (header : Header) (h : ℕ) (past : List Event) (who : Woken) (k : Parts) (ids : Ids) (rest : List Entry) (r : ℕ) (events : List Event) (chains : ChainTable) → EndsRegion header h who k ids rest r (events ++ past)
     → PutsRegion r None k.chains chains → UsesAll header (record k { chains = chains }) (events ++ past)
-used_gone header h outside doing past k ids rest r events chains e put =
+used_gone header h past who k ids rest r events chains e put =
     record {
       regions = λ r2 row found. let before = other_row r k.chains chains put r2 row found in e.others r2 row (λ same. before.0 (sym same)) before.1;
       copies = copies_gone r k.chains chains k.maps k.memory.resident e.copies put e.unfilled;
     }
 
 -- something refers to its top still
-pub sweeps_region : (header : Header) (h : ℕ) (outside : Outside) (doing : Command) (past : List Event) (k : Parts) (ids : Ids) (rest : List Entry) (r left : ℕ) (events : List Event) (object : ObjectId) (chains : ChainTable) (objects : ObjectTable)
-    → EndsRegion header h outside doing past k ids rest r events → LosesRegion k r left object chains objects → 0 < left → Sweeps header h outside doing past (record k { chains = chains; memory = record k.memory { objects = objects } }) ids rest events
-sweeps_region header h outside doing past k ids rest r left events object chains objects e loses some =
+pub whole_region : (header : Header) (h : ℕ) (past : List Event) (who : Woken) (k : Parts) (ids : Ids) (rest : List Entry) (r left : ℕ) (events : List Event) (object : ObjectId) (chains : ChainTable) (objects : ObjectTable)
+    → EndsRegion header h who k ids rest r (events ++ past) → LosesRegion k r left object chains objects → 0 < left → IsWhole header h who (record k { chains = chains; memory = record k.memory { objects = objects } }) ids rest (events ++ past)
+whole_region header h past who k ids rest r left events object chains objects e loses some =
     let top = loses.row.top.0 in
     let now : ObjectRow = record (loses.was) { references = left } in
     record {
-      runs = runs_gone header h outside doing past k ids rest r left events object chains objects e loses;
-      used = used_gone header h outside doing past k ids rest r events chains e loses.region;
+      runs = runs_gone header h past who k ids rest r left events object chains objects e loses;
+      used = used_gone header h past who k ids rest r events chains e loses.region;
       referred = all_with top chains objects k.memory.resident (but_ended r None top now k.chains chains k.memory.objects objects k.memory.resident loses.region loses.put (λ is. sym (ap is_live_in loses.known) ∙ is) e.referred)
           (record { row = now; known = known_put top now k.memory.objects objects loses.put; some = some });
     }
 
 -- nothing refers to its top any more
-pub ends_top : (header : Header) (h : ℕ) (outside : Outside) (doing : Command) (past : List Event) (k : Parts) (ids : Ids) (rest : List Entry) (r left : ℕ) (events : List Event) (object : ObjectId) (chains : ChainTable) (objects : ObjectTable)
-    → EndsRegion header h outside doing past k ids rest r events → LosesRegion k r left object chains objects → left ≡ 0 → EndsObject header h outside doing past (record k { chains = chains; memory = record k.memory { objects = objects } }) ids rest object.0 events
-ends_top header h outside doing past k ids rest r left events object chains objects e loses none =
+pub ends_top : (header : Header) (h : ℕ) (past : List Event) (who : Woken) (k : Parts) (ids : Ids) (rest : List Entry) (r left : ℕ) (events : List Event) (object : ObjectId) (chains : ChainTable) (objects : ObjectTable)
+    → EndsRegion header h who k ids rest r (events ++ past) → LosesRegion k r left object chains objects → left ≡ 0 → EndsObject header h who (record k { chains = chains; memory = record k.memory { objects = objects } }) ids rest object.0 (events ++ past)
+ends_top header h past who k ids rest r left events object chains objects e loses none =
     let top = loses.row.top.0 in
     let now : ObjectRow = record (loses.was) { references = left } in
-    subst (λ (z : ObjectId). EndsObject header h outside doing past (record k { chains = chains; memory = record k.memory { objects = objects } }) ids rest z.0 events) (sym loses.top)
+    subst (λ (z : ObjectId). EndsObject header h who (record k { chains = chains; memory = record k.memory { objects = objects } }) ids rest z.0 (events ++ past)) (sym loses.top)
     (record {
-      runs = runs_gone header h outside doing past k ids rest r left events object chains objects e loses;
-      used = used_gone header h outside doing past k ids rest r events chains e loses.region;
+      runs = runs_gone header h past who k ids rest r left events object chains objects e loses;
+      used = used_gone header h past who k ids rest r events chains e loses.region;
       row = now;
       known = known_put top now k.memory.objects objects loses.put;
       none = none;

@@ -1,5 +1,5 @@
 -- An object to which nothing refers: its pages go, its control ends, where one lives, and what stood under it has one reference less.
-use Rattle.vm_kernel.proofs.Common.{AllEntriesInside, Below, Bool, Caused, ChainTable, Changes, Command, Does, Drops, Elsewhere, EndsObject, Entry, Event, Fit, FrameTable, HasControls, HasEntries, HasFrames, HasKinds, HasPages, HasSlow, HasWaiters, HaveHomes, Header, HostParts, Ids, Inside, IsInStep, IsInside, IsOfKind, IsReferred, LaundryList, List, Local, LocalEffect, Mapped, Matches, None, ObjectId, ObjectRow, ObjectTable, Option, Outside, PageKey, PageRow, Parts, PutsAbsent, PutsObject, Reach, Region, RegionRow, ResidentTable, ReturnCause, Returns, SameMarks, SameObjects, Some, Sweeps, Unreached, Up, UsesAll, [], absent_at, all_tasks, ap, arith, away, backing_of, entries_in, entries_of, eqb_tells, false, fit_objects, frames_held, frames_wired, has_entry, has_region, home_of, host_id, if◌then◌else◌, in_use, inl, inr, is_control, is_ready, is_some, is_woken, last_control, last_in, length, live_control, live_in, local, local_after, local_of_row, marked_regions, named, nat_tests, next_object, next_region, not, object_at, one_case, page_in, pages_in, pages_of_row, paging, place_of, queues_except, ready_in, refl, region_at, region_of, returns_out, reverse, row_at, row_cases, rows_in, rows_map, same_pages, slice_get, some_is, subst, suc, sym, true, waiting, without_control, zero, ℕ, ◌&&◌, ◌++◌, ◌+◌, ◌-◌, ◌<◌, ◌==◌, ◌^◌, ◌||◌, ◌∙◌, ◌∷◌, ◌≡◌, ◌≤◌, ◌⊎◌}
+use Rattle.vm_kernel.proofs.Common.{AllEntriesInside, Below, Bool, Caused, ChainTable, Changes, Command, Does, Drops, Elsewhere, EndsObject, Entry, Event, Fit, FrameTable, HasControls, HasEntries, HasFrames, HasKinds, HasPages, HasSlow, HasWaiters, HaveHomes, Header, HostParts, Ids, Inside, IsAmid, IsInside, IsOfKind, IsReferred, IsWhole, LaundryList, LegalEvents, List, Local, LocalEffect, Mapped, Matches, None, ObjectId, ObjectRow, ObjectTable, Option, Outside, PageKey, PageRow, Parts, PutsAbsent, PutsObject, Reach, Region, RegionRow, ResidentTable, ReturnCause, Returns, SameMarks, SameObjects, Some, Unreached, Up, UsesAll, Woken, [], absent_at, all_tasks, ap, arith, away, backing_of, entries_in, entries_of, eqb_tells, false, fit_objects, frames_held, frames_wired, has_entry, has_region, home_of, host_id, if◌then◌else◌, in_use, inl, inr, is_control, is_ready, is_some, is_woken, last_control, last_in, length, live_control, live_in, local, local_after, local_of_row, marked_regions, named, nat_tests, next_object, next_region, not, object_at, one_case, page_in, pages_in, pages_of_row, paging, place_of, queues_except, ready_in, refl, region_at, region_of, returns_out, reverse, row_at, row_cases, rows_in, rows_map, same_pages, slice_get, some_is, subst, suc, sym, true, waiting, without_control, zero, ℕ, ◌&&◌, ◌++◌, ◌+◌, ◌-◌, ◌<◌, ◌==◌, ◌^◌, ◌||◌, ◌∙◌, ◌∷◌, ◌≡◌, ◌≤◌, ◌⊎◌}
 use Rattle.std.proofs.lemmas.Bool.{or_parts}
 use Rattle.vm_kernel.specs.Fits.{ArePlain}
 use Rattle.vm_legal.specs.Licences.{DropCause, Ended, IsUnheld}
@@ -12,11 +12,10 @@ use Rattle.vm_parts.proofs.Fitting.{fit_changed}
 use Rattle.vm_parts.specs.Changes.{Discards, Removes}
 use Rattle.vm_shadow.specs.Chains.{DropsShadow, shadow_at}
 use Rattle.vm_shadow.specs.declared.shadow_row.ShadowRow.{ShadowRow}
-use Rattle.vm_supply.specs.declared.woken.Woken.TheVariants as woken
 use Rattle.vm_kernel.proofs.After.{Leaves, controls_after, homeless_after, regions_after}
 use Rattle.vm_kernel.proofs.Brings.{plain_changed}
 use Rattle.vm_kernel.proofs.Counts.{by_some}
-use Rattle.vm_kernel.proofs.Growing.{grows_more, suffices}
+use Rattle.vm_kernel.proofs.Growing.{goes_one, suffices}
 use Rattle.vm_kernel.proofs.Known.{IsOther, known_on, other_if, pages_known}
 use Rattle.vm_kernel.proofs.Losing.{IsSeen, seen_here}
 use Rattle.vm_kernel.proofs.Mine.{own_named}
@@ -93,60 +92,59 @@ unheld header h k ids rest past o row m known none declared task lives = by_test
         absurd (unreferred_region m.regions o row known none o there.0 there.1 (whole_row m.regions m.homeless o there.0 declared there.1).top)
 
 -- nobody waits for the unlock of a page of it
-unsent : (header : Header) (h : ℕ) (outside : Outside) (doing : Command) (past : List Event) (k : Parts) (ids : Ids) (rest : List Entry) (key : PageKey) (row : PageRow) (events : List Event)
-    → EndsObject header h outside doing past k ids rest key.object.0 events → row_at k.memory.resident key.object.0 key.page.0 ≡ Some row → row.unlock_sent ≡ false
-unsent header h outside doing past k ids rest key row events e found =
+unsent : (header : Header) (h : ℕ) (past : List Event) (who : Woken) (k : Parts) (ids : Ids) (rest : List Entry) (key : PageKey) (row : PageRow) (events : List Event)
+    → EndsObject header h who k ids rest key.object.0 (events ++ past) → row_at k.memory.resident key.object.0 key.page.0 ≡ Some row → row.unlock_sent ≡ false
+unsent header h past who k ids rest key row events e found =
     let m = e.runs.matches in
-    unsent_apart k.maps k.chains k.memory.resident k.memory.objects k.waits.rows (is_woken woken.Nobody) (λ t. waiting t (events ++ past)) key.object.0 key.page.0 row e.runs.waits
+    unsent_apart k.maps k.chains k.memory.resident k.memory.objects k.waits.rows (is_woken who) (λ t. waiting t (events ++ past)) key.object.0 key.page.0 row e.runs.waits
     (unreferred_region m.regions key.object.0 e.row e.known e.none) (unreferred_shadow m.regions key.object.0 e.row e.known e.none) found
 
 -- a page of it goes
-pub ends_lost : (header : Header) (h : ℕ) (outside : Outside) (doing : Command) (past : List Event) (k : Parts) (ids : Ids) (rest : List Entry) (key : PageKey) (row : PageRow) (memory : HostParts) (events : List Event)
-    → EndsObject header h outside doing past k ids rest key.object.0 events → ((q : ℕ) → q < key.page.0 → row_at k.memory.resident key.object.0 q ≡ None) → row.here ≡ true → (key.object.0 < named header → (row.dirty || row.precious) ≡ false) → Discards key row k.memory memory
-    → memory.objects ≡ k.memory.objects → memory.buffers ≡ k.memory.buffers → EndsObject header h outside doing past (record k { memory = memory }) ids rest key.object.0 (event.Dropped (host_id h) key.object key.page ∷ events)
-ends_lost header h outside doing past k ids rest key row memory events e first is_here clean c objects buffers =
-    record {
-      runs = record {
-        begins = e.runs.begins;
-        matches = record {
-          ranged = m.ranged;
-          declared = m.declared;
-          kinds = rw objects m.kinds;
-          shared = m.shared;
-          known = m.known;
-          size = m.size;
-          host = m.host;
-          fits = record {
-            parts = fit_changed key row.frame (Some row) None false (page_in k.memory.frames row.frame.0) (queues_except row.frame.0 k.memory.queues) k.memory memory m.fits.parts c (λ some. absurd (let bad : false ≡ true = some in cc))
-                (λ some. absurd (let bad : false ≡ true = some in cc)) (m.fits.parts.all_sized row.frame.0 c.inside) refl objects buffers;
-            plain = plain2;
-            buffers = ap (λ z. z.size) buffers ∙ m.fits.buffers;
-          };
-          tasks = m.tasks;
-          regions = rw objects (regions_after leaves m.regions);
-          homes = m.homes;
-          files = rw objects m.files;
-          entries = m.entries;
-          pages = rw objects pages2;
-          uses = m.uses;
-          controls = rw objects (controls_after leaves m.controls);
-          homeless = homeless_after leaves m.homeless;
-          settled = record { none_owed = refl; shut = λ region. refl };
-          replied = replied_behind tt m.replied;
-          laundry = laundry_changed key row.frame _ _ _ _ _ k.memory memory k.laundry (returns_out h moment) m.laundry c;
-          frames = frames2;
+pub ends_lost : (header : Header) (h : ℕ) (outside : Outside) (doing : Command) (past : List Event) (who : Woken) (k : Parts) (ids : Ids) (rest : List Entry) (key : PageKey) (row : PageRow) (memory : HostParts) (events : List Event)
+    → EndsObject header h who k ids rest key.object.0 (events ++ past) → ((q : ℕ) → q < key.page.0 → row_at k.memory.resident key.object.0 q ≡ None) → row.here ≡ true → (key.object.0 < named header → (row.dirty || row.precious) ≡ false) → Discards key row k.memory memory
+    → memory.objects ≡ k.memory.objects → memory.buffers ≡ k.memory.buffers → EndsObject header h who (record k { memory = memory }) ids rest key.object.0 ((event.Dropped (host_id h) key.object key.page ∷ events) ++ past) × LegalEvents header h outside doing past events (event.Dropped (host_id h) key.object key.page ∷ events)
+ends_lost header h outside doing past who k ids rest key row memory events e first is_here clean c objects buffers = (
+  record {
+    runs = record {
+      matches = record {
+        ranged = m.ranged;
+        declared = m.declared;
+        kinds = rw objects m.kinds;
+        shared = m.shared;
+        known = m.known;
+        size = m.size;
+        host = m.host;
+        fits = record {
+          parts = fit_changed key row.frame (Some row) None false (page_in k.memory.frames row.frame.0) (queues_except row.frame.0 k.memory.queues) k.memory memory m.fits.parts c (λ some. absurd (let bad : false ≡ true = some in cc))
+              (λ some. absurd (let bad : false ≡ true = some in cc)) (m.fits.parts.all_sized row.frame.0 c.inside) refl objects buffers;
+          plain = plain2;
+          buffers = ap (λ z. z.size) buffers ∙ m.fits.buffers;
         };
-        waits = rw objects waits2;
-        order = e.runs.order;
-        idle = e.runs.idle;
-        grows = grows_more header h outside doing past events gone e.runs.grows m.settled (record { consequence = tt; cause = cause; own_bytes = tt; frames = suffices header h memory.frames (gone ∷ moment) frames2; inner = tt; said = tt; own = own_named h; creates = tt });
+        tasks = m.tasks;
+        regions = rw objects (regions_after leaves m.regions);
+        homes = m.homes;
+        files = rw objects m.files;
+        entries = m.entries;
+        pages = rw objects pages2;
+        uses = m.uses;
+        controls = rw objects (controls_after leaves m.controls);
+        homeless = homeless_after leaves m.homeless;
+        settled = record { none_owed = refl; shut = λ region. refl };
+        replied = replied_behind tt m.replied;
+        laundry = laundry_changed key row.frame _ _ _ _ _ k.memory memory k.laundry (returns_out h moment) m.laundry c;
+        frames = frames2;
       };
-      used = used_away k.memory.resident memory.resident e.used (away_put o p None row k.memory.resident memory.resident c.found c.row);
-      row = e.row;
-      known = rw objects e.known;
-      none = e.none;
-      referred = rw objects (but_gone o o p k.chains k.memory.objects k.memory.resident memory.resident c.row e.referred);
-    }
+      waits = rw objects waits2;
+      order = e.runs.order;
+    };
+    used = used_away k.memory.resident memory.resident e.used (away_put o p None row k.memory.resident memory.resident c.found c.row);
+    row = e.row;
+    known = rw objects e.known;
+    none = e.none;
+    referred = rw objects (but_gone o o p k.chains k.memory.objects k.memory.resident memory.resident c.row e.referred);
+  },
+  goes_one header h outside doing past events gone m.settled (record { consequence = tt; cause = cause; own_bytes = tt; frames = suffices header h memory.frames (gone ∷ moment) frames2; inner = tt; said = tt; own = own_named h; creates = tt }),
+)
   where
     m : Matches header h k ids rest (events ++ past)
     m = e.runs.matches
@@ -199,8 +197,8 @@ ends_lost header h outside doing past k ids rest key row memory events e first i
     frames2 : HasFrames (slice_get (reverse header.frames.items) h) memory.frames (frames_held header.size h (event.Dropped (host_id h) key.object key.page ∷ (events ++ past))) (frames_wired h (event.Dropped (host_id h) key.object key.page ∷ (events ++ past)))
     frames2 = rw (own_host h) (frames_changed (slice_get (reverse header.frames.items) h) key row.frame _ _ _ _ _ k.memory memory (frames_held header.size h moment) (frames_held header.size h moment - 1) (frames_wired h moment) m.frames c (λ held. let less = c.claims in omega arith))
 
-    waits2 : HasWaiters k.maps k.chains memory.resident k.memory.objects k.waits.rows (is_woken woken.Nobody) (λ t. waiting t (events ++ past))
-    waits2 = waiters_lost k.maps k.chains k.memory.resident memory.resident k.memory.objects k.memory.objects k.waits.rows (is_woken woken.Nobody) (λ t. waiting t (events ++ past)) o p row e.runs.waits c.found is_here (unsent header h outside doing past k ids rest key row events e c.found) c.row (λ object told. told) (λ object is. is)
+    waits2 : HasWaiters k.maps k.chains memory.resident k.memory.objects k.waits.rows (is_woken who) (λ t. waiting t (events ++ past))
+    waits2 = waiters_lost k.maps k.chains k.memory.resident memory.resident k.memory.objects k.memory.objects k.waits.rows (is_woken who) (λ t. waiting t (events ++ past)) o p row e.runs.waits c.found is_here (unsent header h past who k ids rest key row events e c.found) c.row (λ object told. told) (λ object is. is)
 
 -- and is off the lists
 
@@ -213,17 +211,17 @@ leaves_lists k key row held bytes memory is_here c = record {
 }
 
 -- of a declared object, which nothing holds
-pub departs_unheld : (header : Header) (h : ℕ) (outside : Outside) (doing : Command) (past : List Event) (k : Parts) (ids : Ids) (rest : List Entry) (key : PageKey) (row : PageRow) (held : Bool) (bytes : List ℕ) (memory : HostParts) (events : List Event)
-    → EndsObject header h outside doing past k ids rest key.object.0 events → key.object.0 < named header → row.here ≡ true → Changes key row.frame (Some row) None held bytes (queues_except row.frame.0 k.memory.queues) k.memory memory
+pub departs_unheld : (header : Header) (h : ℕ) (past : List Event) (who : Woken) (k : Parts) (ids : Ids) (rest : List Entry) (key : PageKey) (row : PageRow) (held : Bool) (bytes : List ℕ) (memory : HostParts) (events : List Event)
+    → EndsObject header h who k ids rest key.object.0 (events ++ past) → key.object.0 < named header → row.here ≡ true → Changes key row.frame (Some row) None held bytes (queues_except row.frame.0 k.memory.queues) k.memory memory
     → DepartsUnheld header h (events ++ past) key.object.0 key.page.0 (paging k) (paging (record k { memory = memory }))
-departs_unheld header h outside doing past k ids rest key row held bytes memory events e declared is_here c =
+departs_unheld header h past who k ids rest key row held bytes memory events e declared is_here c =
     record { declared = declared; unheld = unheld header h k ids rest (events ++ past) key.object.0 e.row e.runs.matches e.known e.none declared; departs = leaves_lists k key row held bytes memory is_here c }
 
-pub lost_plays : (header : Header) (h : ℕ) (outside : Outside) (doing : Command) (past : List Event) (k : Parts) (ids : Ids) (rest : List Entry) (key : PageKey) (row : PageRow) (memory : HostParts) (events : List Event)
-    → EndsObject header h outside doing past k ids rest key.object.0 events → row.here ≡ true → Discards key row k.memory memory
+pub lost_plays : (header : Header) (h : ℕ) (past : List Event) (who : Woken) (k : Parts) (ids : Ids) (rest : List Entry) (key : PageKey) (row : PageRow) (memory : HostParts) (events : List Event)
+    → EndsObject header h who k ids rest key.object.0 (events ++ past) → row.here ≡ true → Discards key row k.memory memory
     → Does header (events ++ past) (event.Dropped (host_id h) key.object key.page) (paging k) (paging (record k { memory = memory }))
-lost_plays header h outside doing past k ids rest key row memory events e is_here c = elim (kind_cases header key.object.0) [
-  | inl declared ↦ AsUnheld (departs_unheld header h outside doing past k ids rest key row _ _ memory events e declared is_here c)
+lost_plays header h past who k ids rest key row memory events e is_here c = elim (kind_cases header key.object.0) [
+  | inl declared ↦ AsUnheld (departs_unheld header h past who k ids rest key row _ _ memory events e declared is_here c)
   | inr temporary ↦ AsUnreached (unreached header h k ids rest (events ++ past) key.object.0 e.row e.runs.matches e.used.copies e.known e.none temporary) (leaves_lists k key row _ _ memory is_here c)
 ]
 
@@ -271,52 +269,51 @@ pub record GoesToPager (header : Header) (k : Parts) (key : PageKey) (known : Ob
   pub held : laundry.held ≡ k.laundry.held ++ row.frame ∷ []
   pub room : laundry.room + 1 ≡ k.laundry.room
 
-pub ends_returned : (header : Header) (h : ℕ) (outside : Outside) (doing : Command) (past : List Event) (k : Parts) (ids : Ids) (rest : List Entry) (key : PageKey) (known : ObjectRow) (row : PageRow) (memory : HostParts) (laundry : LaundryList) (events : List Event)
-    → EndsObject header h outside doing past k ids rest key.object.0 events → GoesToPager header k key known row memory laundry
-    → EndsObject header h outside doing past (record k { memory = memory; laundry = laundry }) ids rest key.object.0 (going_back h key known row (page_in k.memory.frames row.frame.0) ∷ events)
-ends_returned header h outside doing past k ids rest key known row memory laundry events e goes =
-    record {
-      runs = record {
-        begins = e.runs.begins;
-        matches = record {
-          ranged = m.ranged;
-          declared = m.declared;
-          kinds = kinds_same header k.memory.objects memory.objects k.chains goes.objects marks m.kinds;
-          shared = m.shared;
-          known = m.known;
-          size = m.size;
-          host = m.host;
-          fits = record {
-            parts = fit2;
-            plain = plain2;
-            buffers = ap (λ z. z.size) goes.buffers ∙ m.fits.buffers;
-          };
-          tasks = m.tasks;
-          regions = regions_after leaves (regions_controlled o known known k.chains k.memory.objects memory.objects ids (λ r. region_of header r moment) (λ o2. backing_of header o2 moment) (next_region header moment) (next_object header moment) (marked_regions header moment) goes.found put refl refl m.regions);
-          homes = m.homes;
-          files = files_same header h k.memory.objects memory.objects (λ o2. home_of o2 moment) goes.objects m.files;
-          entries = m.entries;
-          pages = rw (own_host h) (pages_known header header.size effect_at (λ o2 p2. local header.size h (place_of o2 p2) moment) (λ o2 p2. other_nested (o == o2) (p == p2)) pages2);
-          uses = m.uses;
-          controls = controls_after leaves (controls_same k.memory.objects memory.objects (λ o2. last_control h o2 moment) (λ o2. live_control h o2 moment) (λ o2. is_ready h o2 moment) m.controls goes.objects.at);
-          homeless = homeless_after leaves m.homeless;
-          settled = record { none_owed = refl; shut = λ region. refl };
-          replied = replied_behind tt m.replied;
-          laundry = rw (own_host h) (laundry_returned key row _ _ k.memory memory k.laundry laundry (returns_out h moment) m.laundry c goes.held goes.room);
-          frames = frames2;
+pub ends_returned : (header : Header) (h : ℕ) (outside : Outside) (doing : Command) (past : List Event) (who : Woken) (k : Parts) (ids : Ids) (rest : List Entry) (key : PageKey) (known : ObjectRow) (row : PageRow) (memory : HostParts) (laundry : LaundryList) (events : List Event)
+    → EndsObject header h who k ids rest key.object.0 (events ++ past) → GoesToPager header k key known row memory laundry
+    → EndsObject header h who (record k { memory = memory; laundry = laundry }) ids rest key.object.0 ((going_back h key known row (page_in k.memory.frames row.frame.0) ∷ events) ++ past) × LegalEvents header h outside doing past events (going_back h key known row (page_in k.memory.frames row.frame.0) ∷ events)
+ends_returned header h outside doing past who k ids rest key known row memory laundry events e goes = (
+  record {
+    runs = record {
+      matches = record {
+        ranged = m.ranged;
+        declared = m.declared;
+        kinds = kinds_same header k.memory.objects memory.objects k.chains goes.objects marks m.kinds;
+        shared = m.shared;
+        known = m.known;
+        size = m.size;
+        host = m.host;
+        fits = record {
+          parts = fit2;
+          plain = plain2;
+          buffers = ap (λ z. z.size) goes.buffers ∙ m.fits.buffers;
         };
-        waits = waiters_lost k.maps k.chains k.memory.resident memory.resident k.memory.objects memory.objects k.waits.rows (is_woken woken.Nobody) (λ t. waiting t moment) o p row e.runs.waits c.found goes.here (unsent header h outside doing past k ids rest key row events e c.found) c.row
-            (λ object told. record { row = told.row; found = goes.objects.at object ∙ told.found; sent = told.sent }) (λ object is. ap ready_in (goes.objects.at object) ∙ is);
-        order = e.runs.order;
-        idle = e.runs.idle;
-        grows = grows_more header h outside doing past events sent e.runs.grows m.settled (record { consequence = tt; cause = cause; own_bytes = tt; frames = suffices header h memory.frames (sent ∷ moment) frames2; inner = tt; said = (refl, long); own = own_named h; creates = tt });
+        tasks = m.tasks;
+        regions = regions_after leaves (regions_controlled o known known k.chains k.memory.objects memory.objects ids (λ r. region_of header r moment) (λ o2. backing_of header o2 moment) (next_region header moment) (next_object header moment) (marked_regions header moment) goes.found put refl refl m.regions);
+        homes = m.homes;
+        files = files_same header h k.memory.objects memory.objects (λ o2. home_of o2 moment) goes.objects m.files;
+        entries = m.entries;
+        pages = rw (own_host h) (pages_known header header.size effect_at (λ o2 p2. local header.size h (place_of o2 p2) moment) (λ o2 p2. other_nested (o == o2) (p == p2)) pages2);
+        uses = m.uses;
+        controls = controls_after leaves (controls_same k.memory.objects memory.objects (λ o2. last_control h o2 moment) (λ o2. live_control h o2 moment) (λ o2. is_ready h o2 moment) m.controls goes.objects.at);
+        homeless = homeless_after leaves m.homeless;
+        settled = record { none_owed = refl; shut = λ region. refl };
+        replied = replied_behind tt m.replied;
+        laundry = rw (own_host h) (laundry_returned key row _ _ k.memory memory k.laundry laundry (returns_out h moment) m.laundry c goes.held goes.room);
+        frames = frames2;
       };
-      used = used_away k.memory.resident memory.resident e.used (away_put o p None row k.memory.resident memory.resident c.found c.row);
-      row = e.row;
-      known = goes.objects.at o ∙ e.known;
-      none = e.none;
-      referred = but_known o known k.chains k.memory.objects memory.objects memory.resident put (λ p2 row2 found is. sym (ap is_live_in goes.found) ∙ is) (but_gone o o p k.chains k.memory.objects k.memory.resident memory.resident c.row e.referred);
-    }
+      waits = waiters_lost k.maps k.chains k.memory.resident memory.resident k.memory.objects memory.objects k.waits.rows (is_woken who) (λ t. waiting t moment) o p row e.runs.waits c.found goes.here (unsent header h past who k ids rest key row events e c.found) c.row
+          (λ object told. record { row = told.row; found = goes.objects.at object ∙ told.found; sent = told.sent }) (λ object is. ap ready_in (goes.objects.at object) ∙ is);
+      order = e.runs.order;
+    };
+    used = used_away k.memory.resident memory.resident e.used (away_put o p None row k.memory.resident memory.resident c.found c.row);
+    row = e.row;
+    known = goes.objects.at o ∙ e.known;
+    none = e.none;
+    referred = but_known o known k.chains k.memory.objects memory.objects memory.resident put (λ p2 row2 found is. sym (ap is_live_in goes.found) ∙ is) (but_gone o o p k.chains k.memory.objects k.memory.resident memory.resident c.row e.referred);
+  },
+  goes_one header h outside doing past events sent m.settled (record { consequence = tt; cause = cause; own_bytes = tt; frames = suffices header h memory.frames (sent ∷ moment) frames2; inner = tt; said = (refl, long); own = own_named h; creates = tt }),
+)
   where
     m : Matches header h k ids rest (events ++ past)
     m = e.runs.matches
@@ -489,56 +486,55 @@ controls_quiet {h = h} {home_at = home_at} control o row os os2 last_at live_at 
     ended = ap (λ b. if b then None else Some control) (itself control)
 
 -- the control ends, and its pager is told
-pub ends_told : (header : Header) (h : ℕ) (outside : Outside) (doing : Command) (past : List Event) (k : Parts) (ids : Ids) (rest : List Entry) (object : ObjectId) (events : List Event) (row : ObjectRow) (objects : ObjectTable)
-    → EndsObject header h outside doing past k ids rest object.0 events → ((p : ℕ) → row_at k.memory.resident object.0 p ≡ None) → object_at k.memory.objects object.0 ≡ Some row → row.live ≡ true
+pub ends_told : (header : Header) (h : ℕ) (outside : Outside) (doing : Command) (past : List Event) (who : Woken) (k : Parts) (ids : Ids) (rest : List Entry) (object : ObjectId) (events : List Event) (row : ObjectRow) (objects : ObjectTable)
+    → EndsObject header h who k ids rest object.0 (events ++ past) → ((p : ℕ) → row_at k.memory.resident object.0 p ≡ None) → object_at k.memory.objects object.0 ≡ Some row → row.live ≡ true
     → PutsObject object.0 (Some (quiet_row row)) k.memory.objects objects → SameMarks k.memory.objects objects
-    → EndsObject header h outside doing past (record k { memory = record k.memory { objects = objects } }) ids rest object.0 (event.Sent (Up (host_id h) object) (message.Terminate row.control) ∷ events)
-ends_told header h outside doing past k ids rest object events row objects s none found live put marks =
-    record {
-      runs = record {
-        begins = s.runs.begins;
-        matches = record {
-          ranged = m.ranged;
-          declared = m.declared;
-          kinds = kinds_put header o (quiet_row row) k.memory.objects objects k.chains put marks quiet m.kinds;
-          shared = m.shared;
-          known = m.known;
-          size = m.size;
-          host = m.host;
-          fits = record { parts = fit_objects k.memory objects m.fits.parts (same_pages k.memory.objects objects o row (quiet_row row) found refl put); plain = m.fits.plain; buffers = m.fits.buffers };
-          tasks = m.tasks;
-          regions = regions_after leaves (regions_controlled o row (quiet_row row) k.chains k.memory.objects objects ids (λ r. region_of header r moment) (λ o2. backing_of header o2 moment) (next_region header moment) (next_object header moment) (marked_regions header moment) found put refl refl m.regions);
-          homes = m.homes;
-          files = files_put header h o row (quiet_row row) k.memory.objects objects (λ o2. home_of o2 moment) found put m.files;
-          entries = m.entries;
-          pages = rw (own_host h)
-              (pages_known header header.size (λ o2 p. if o == o2 then (if is_control row.control (live_control h o2 moment) then EndsControl else Elsewhere) else Elsewhere) (λ o2 p. local header.size h (place_of o2 p) moment)
-              (λ o2 p. other_if (o == o2) (if is_control row.control (live_control h o2 moment) then EndsControl else Elsewhere) (other_if (is_control row.control (live_control h o2 moment)) EndsControl tt))
-              (pages_quiet header.size row.control o k.memory.frames k.memory.resident k.memory.objects objects (λ o2 p. known_local header o2 p (local header.size h (place_of o2 p) moment)) (λ o2. live_control h o2 moment) m.pages alive none marks));
-          uses = m.uses;
-          controls = controls_after leaves (rw (own_host h) (controls_quiet row.control o row k.memory.objects objects (λ o2. last_control h o2 moment) (λ o2. live_control h o2 moment) (λ o2. is_ready h o2 moment) m.controls found alive put));
-          homeless = homeless_after leaves m.homeless;
-          settled = record { none_owed = refl; shut = λ region. refl };
-          replied = replied_behind tt m.replied;
-          laundry = m.laundry;
-          frames = m.frames;
-        };
-        waits = waits_told k.maps k.chains k.memory.resident k.memory.objects objects k.waits.rows (is_woken woken.Nobody) (λ t. waiting t moment) s.runs.waits
-            (told_apart k.maps k.chains k.memory.objects objects o (Some (quiet_row row)) put (unreferred_region m.regions o row found unreferred) (unreferred_shadow m.regions o row found unreferred))
-            (λ o2 p page there is. elim (one_case o o2 (Some (quiet_row row)) (object_at k.memory.objects o2) (object_at objects o2) (put.at o2)) [
-              | inl this ↦ absurd (let bad : None ≡ Some page = sym (subst (λ (z : ℕ). row_at k.memory.resident z p ≡ None) this.0 (none p)) ∙ there in cc)
-              | inr other ↦ ap ready_in other.1 ∙ is
-            ]);
-        order = s.runs.order;
-        idle = s.runs.idle;
-        grows = grows_more header h outside doing past events ending s.runs.grows m.settled (record { consequence = tt; cause = cause; own_bytes = tt; frames = suffices header h k.memory.frames (ending ∷ moment) m.frames; inner = tt; said = refl; own = own_named h; creates = tt });
+    → EndsObject header h who (record k { memory = record k.memory { objects = objects } }) ids rest object.0 ((event.Sent (Up (host_id h) object) (message.Terminate row.control) ∷ events) ++ past) × LegalEvents header h outside doing past events (event.Sent (Up (host_id h) object) (message.Terminate row.control) ∷ events)
+ends_told header h outside doing past who k ids rest object events row objects s none found live put marks = (
+  record {
+    runs = record {
+      matches = record {
+        ranged = m.ranged;
+        declared = m.declared;
+        kinds = kinds_put header o (quiet_row row) k.memory.objects objects k.chains put marks quiet m.kinds;
+        shared = m.shared;
+        known = m.known;
+        size = m.size;
+        host = m.host;
+        fits = record { parts = fit_objects k.memory objects m.fits.parts (same_pages k.memory.objects objects o row (quiet_row row) found refl put); plain = m.fits.plain; buffers = m.fits.buffers };
+        tasks = m.tasks;
+        regions = regions_after leaves (regions_controlled o row (quiet_row row) k.chains k.memory.objects objects ids (λ r. region_of header r moment) (λ o2. backing_of header o2 moment) (next_region header moment) (next_object header moment) (marked_regions header moment) found put refl refl m.regions);
+        homes = m.homes;
+        files = files_put header h o row (quiet_row row) k.memory.objects objects (λ o2. home_of o2 moment) found put m.files;
+        entries = m.entries;
+        pages = rw (own_host h)
+            (pages_known header header.size (λ o2 p. if o == o2 then (if is_control row.control (live_control h o2 moment) then EndsControl else Elsewhere) else Elsewhere) (λ o2 p. local header.size h (place_of o2 p) moment)
+            (λ o2 p. other_if (o == o2) (if is_control row.control (live_control h o2 moment) then EndsControl else Elsewhere) (other_if (is_control row.control (live_control h o2 moment)) EndsControl tt))
+            (pages_quiet header.size row.control o k.memory.frames k.memory.resident k.memory.objects objects (λ o2 p. known_local header o2 p (local header.size h (place_of o2 p) moment)) (λ o2. live_control h o2 moment) m.pages alive none marks));
+        uses = m.uses;
+        controls = controls_after leaves (rw (own_host h) (controls_quiet row.control o row k.memory.objects objects (λ o2. last_control h o2 moment) (λ o2. live_control h o2 moment) (λ o2. is_ready h o2 moment) m.controls found alive put));
+        homeless = homeless_after leaves m.homeless;
+        settled = record { none_owed = refl; shut = λ region. refl };
+        replied = replied_behind tt m.replied;
+        laundry = m.laundry;
+        frames = m.frames;
       };
-      used = s.used;
-      row = quiet_row row;
-      known = known_put o (quiet_row row) k.memory.objects objects put;
-      none = unreferred;
-      referred = but_known o (quiet_row row) k.chains k.memory.objects objects k.memory.resident put (λ p row2 there is. absurd (let bad : None ≡ Some row2 = sym (none p) ∙ there in cc)) s.referred;
-    }
+      waits = waits_told k.maps k.chains k.memory.resident k.memory.objects objects k.waits.rows (is_woken who) (λ t. waiting t moment) s.runs.waits
+          (told_apart k.maps k.chains k.memory.objects objects o (Some (quiet_row row)) put (unreferred_region m.regions o row found unreferred) (unreferred_shadow m.regions o row found unreferred))
+          (λ o2 p page there is. elim (one_case o o2 (Some (quiet_row row)) (object_at k.memory.objects o2) (object_at objects o2) (put.at o2)) [
+            | inl this ↦ absurd (let bad : None ≡ Some page = sym (subst (λ (z : ℕ). row_at k.memory.resident z p ≡ None) this.0 (none p)) ∙ there in cc)
+            | inr other ↦ ap ready_in other.1 ∙ is
+          ]);
+      order = s.runs.order;
+    };
+    used = s.used;
+    row = quiet_row row;
+    known = known_put o (quiet_row row) k.memory.objects objects put;
+    none = unreferred;
+    referred = but_known o (quiet_row row) k.chains k.memory.objects objects k.memory.resident put (λ p row2 there is. absurd (let bad : None ≡ Some row2 = sym (none p) ∙ there in cc)) s.referred;
+  },
+  goes_one header h outside doing past events ending m.settled (record { consequence = tt; cause = cause; own_bytes = tt; frames = suffices header h k.memory.frames (ending ∷ moment) m.frames; inner = tt; said = refl; own = own_named h; creates = tt }),
+)
   where
     moment : List Event
     moment = events ++ past
@@ -608,14 +604,13 @@ pub record LeavesOne (k : Parts) (o left : ℕ) (row : ShadowRow) (known : Objec
   pub put : PutsObject row.under.0 (Some (record known { references = left })) k.memory.objects objects
   pub marks : SameMarks k.memory.objects objects
 
-runs_dropped : (header : Header) (h : ℕ) (outside : Outside) (doing : Command) (past : List Event) (k : Parts) (ids : Ids) (rest : List Entry) (o left : ℕ) (row : ShadowRow) (known : ObjectRow) (events : List Event) (chains : ChainTable) (objects : ObjectTable)
-    → EndsObject header h outside doing past k ids rest o events → LeavesOne k o left row known chains objects → IsInStep header h outside doing past (record k { chains = chains; memory = record k.memory { objects = objects } }) ids rest events
-runs_dropped header h outside doing past k ids rest o left row known events chains objects e leaves =
+runs_dropped : (header : Header) (h : ℕ) (past : List Event) (who : Woken) (k : Parts) (ids : Ids) (rest : List Entry) (o left : ℕ) (row : ShadowRow) (known : ObjectRow) (events : List Event) (chains : ChainTable) (objects : ObjectTable)
+    → EndsObject header h who k ids rest o (events ++ past) → LeavesOne k o left row known chains objects → IsAmid header h who (record k { chains = chains; memory = record k.memory { objects = objects } }) ids rest (events ++ past)
+runs_dropped header h past who k ids rest o left row known events chains objects e leaves =
     let moment = events ++ past in
     let m : Matches header h k ids rest moment = e.runs.matches in
     let under = row.under.0 in
     record {
-      begins = e.runs.begins;
       matches = record {
         ranged = m.ranged;
         declared = m.declared;
@@ -641,38 +636,36 @@ runs_dropped header h outside doing past k ids rest o left row known events chai
         laundry = m.laundry;
         frames = m.frames;
       };
-      waits = waits_dropped k.maps k.chains chains k.memory.resident k.memory.objects objects k.waits.rows (is_woken woken.Nobody) (λ t. waiting t moment) o under left known e.runs.waits leaves.drops
+      waits = waits_dropped k.maps k.chains chains k.memory.resident k.memory.objects objects k.waits.rows (is_woken who) (λ t. waiting t moment) o under left known e.runs.waits leaves.drops
           (unreferred_region m.regions o e.row e.known e.none) (unreferred_shadow m.regions o e.row e.known e.none) leaves.under leaves.put;
       order = e.runs.order;
-      idle = e.runs.idle;
-      grows = e.runs.grows;
     }
 
-used_dropped : (header : Header) (h : ℕ) (outside : Outside) (doing : Command) (past : List Event) (k : Parts) (ids : Ids) (rest : List Entry) (o : ℕ) (events : List Event) (chains : ChainTable) → EndsObject header h outside doing past k ids rest o events
+used_dropped : (header : Header) (h : ℕ) (past : List Event) (who : Woken) (k : Parts) (ids : Ids) (rest : List Entry) (o : ℕ) (events : List Event) (chains : ChainTable) → EndsObject header h who k ids rest o (events ++ past)
     → DropsShadow o k.chains chains → UsesAll header (record k { chains = chains }) (events ++ past)
-used_dropped header h outside doing past k ids rest o events chains e drops =
+used_dropped header h past who k ids rest o events chains e drops =
     record {
       regions = λ r row found. e.used.regions r row (sym (ap (λ f. f r) drops.regions) ∙ found);
       copies = copies_kept k.maps k.maps k.chains chains k.memory.resident k.memory.resident e.used.copies (λ t w found. record { size = refl; entries = refl }) (dropped_filled o k.chains chains drops) (rows_unmade k.chains k.memory.resident);
     }
 
 -- something else refers to that still
-pub sweeps_dropped : (header : Header) (h : ℕ) (outside : Outside) (doing : Command) (past : List Event) (k : Parts) (ids : Ids) (rest : List Entry) (o left : ℕ) (row : ShadowRow) (known : ObjectRow) (events : List Event) (chains : ChainTable) (objects : ObjectTable)
-    → EndsObject header h outside doing past k ids rest o events → LeavesOne k o left row known chains objects → 0 < left → Sweeps header h outside doing past (record k { chains = chains; memory = record k.memory { objects = objects } }) ids rest events
-sweeps_dropped header h outside doing past k ids rest o left row known events chains objects e leaves some =
+pub whole_dropped : (header : Header) (h : ℕ) (past : List Event) (who : Woken) (k : Parts) (ids : Ids) (rest : List Entry) (o left : ℕ) (row : ShadowRow) (known : ObjectRow) (events : List Event) (chains : ChainTable) (objects : ObjectTable)
+    → EndsObject header h who k ids rest o (events ++ past) → LeavesOne k o left row known chains objects → 0 < left → IsWhole header h who (record k { chains = chains; memory = record k.memory { objects = objects } }) ids rest (events ++ past)
+whole_dropped header h past who k ids rest o left row known events chains objects e leaves some =
     record {
-      runs = runs_dropped header h outside doing past k ids rest o left row known events chains objects e leaves;
-      used = used_dropped header h outside doing past k ids rest o events chains e leaves.drops;
+      runs = runs_dropped header h past who k ids rest o left row known events chains objects e leaves;
+      used = used_dropped header h past who k ids rest o events chains e leaves.drops;
       referred = referred_dropped o row.under.0 (record known { references = left }) k.chains chains k.memory.objects objects k.memory.resident leaves.drops leaves.put some (λ is. sym (ap is_live_in leaves.under) ∙ is) leaves.quiet leaves.bare e.referred;
     }
 
 -- or nothing does, and it ends too
-pub ends_dropped : (header : Header) (h : ℕ) (outside : Outside) (doing : Command) (past : List Event) (k : Parts) (ids : Ids) (rest : List Entry) (o : ℕ) (row : ShadowRow) (known : ObjectRow) (events : List Event) (chains : ChainTable) (objects : ObjectTable)
-    → EndsObject header h outside doing past k ids rest o events → LeavesOne k o 0 row known chains objects → EndsObject header h outside doing past (record k { chains = chains; memory = record k.memory { objects = objects } }) ids rest row.under.0 events
-ends_dropped header h outside doing past k ids rest o row known events chains objects e leaves =
+pub ends_dropped : (header : Header) (h : ℕ) (past : List Event) (who : Woken) (k : Parts) (ids : Ids) (rest : List Entry) (o : ℕ) (row : ShadowRow) (known : ObjectRow) (events : List Event) (chains : ChainTable) (objects : ObjectTable)
+    → EndsObject header h who k ids rest o (events ++ past) → LeavesOne k o 0 row known chains objects → EndsObject header h who (record k { chains = chains; memory = record k.memory { objects = objects } }) ids rest row.under.0 (events ++ past)
+ends_dropped header h past who k ids rest o row known events chains objects e leaves =
     record {
-      runs = runs_dropped header h outside doing past k ids rest o 0 row known events chains objects e leaves;
-      used = used_dropped header h outside doing past k ids rest o events chains e leaves.drops;
+      runs = runs_dropped header h past who k ids rest o 0 row known events chains objects e leaves;
+      used = used_dropped header h past who k ids rest o events chains e leaves.drops;
       row = record known { references = 0 };
       known = known_put row.under.0 (record known { references = 0 }) k.memory.objects objects leaves.put;
       none = refl;

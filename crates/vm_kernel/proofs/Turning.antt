@@ -1,12 +1,12 @@
 -- Frames in turn: how a queue changes where an access was run, and which frames were claimed.
-use Rattle.vm_kernel.proofs.Common.{AreQueued, Attempts, BeganInOrder, Bool, ClaimsInTurn, Did, EachGone, EachListedOnce, EachOf, Event, ForAsked, ForZeros, Found, Goes, Header, Ids, IsEnd, IsReclaim, Joins, KeepsOthers, LeavesInTurn, List, None, Nothing, On, Parts, QueueIsStill, Restarted, Restarts, RunsNobody, RunsNone, RunsNoneYet, RunsOnce, Some, Start, TaskId, Up, WaitTable, Waiting, Wants, Works, [], ap, append-nil, append_assoc, arith, begun_at, entry, eqb_tells, false, first_in_queue, frames_free, if◌then◌else◌, inl, inr, is_again, is_frame, is_listed, length, nat_lt, nat_tests, not, of_both, oldest_row, queue_without, queued, refl, reverse, reverse-append, same_others, subst, suc, sym, true, waits_for_frame, ℕ, ◌++◌, ◌==◌, ◌∙◌, ◌∷◌, ◌≡◌, ◌≢◌, ◌⊎◌}
+use Rattle.vm_kernel.proofs.Common.{AreQueued, Attempts, BeganInOrder, Bool, ClaimsInTurn, Did, EachGone, EachListedOnce, EachOf, Event, ForAsked, ForZeros, Found, Goes, Header, Ids, IsEnd, IsReclaim, Joins, KeepsOthers, LeavesInTurn, List, None, Nothing, On, Option, Parts, QueueIsStill, Restarted, Restarts, RunsNobody, RunsNone, RunsNoneYet, RunsOnce, Some, Start, TaskId, Up, WaitTable, Waiting, Wants, Works, [], ap, append-nil, append_assoc, arith, begun_at, entry, eqb_tells, false, first_in_queue, frames_free, if◌then◌else◌, inl, inr, is_again, is_frame, is_listed, length, nat_lt, nat_tests, not, of_both, oldest_row, queue_without, queued, refl, reverse, reverse-append, same_others, subst, suc, sym, true, waits_for_frame, ℕ, ◌++◌, ◌==◌, ◌∙◌, ◌∷◌, ◌≡◌, ◌≢◌, ◌⊎◌}
 use Rattle.std.specs.Prelude.{◌<◌, ◌≤◌, ◌||◌}
 use Rattle.vm_model.specs.declared.event.Event.TheVariants as event
 use Rattle.vm_model.specs.declared.message.Message.TheVariants as message
 use Rattle.vm_waits.specs.declared.waiting.On.TheVariants as on
 use Rattle.vm_supply.specs.declared.woken.Woken.TheVariants as woken
 use Rattle.vm_kernel.specs.Serving.{wants_frame}
-use Rattle.vm_kernel.specs.Turns.{Bare, ForCopy, ForUnlock, IsFront, Shadow}
+use Rattle.vm_kernel.specs.Turns.{AreCopied, Filled, ForCopy, ForUnlock, IsFront, NoPage, OnePage, Pages, RunsFront, Shadow}
 use Rattle.vm_kernel.specs.declared.attempt.Attempt.{Attempt}
 use Rattle.vm_kernel.specs.declared.attempt.Attempt.TheVariants as attempt
 use Rattle.vm_kernel.proofs.Growing.{free_is}
@@ -60,18 +60,19 @@ apart_left task left rest t once there same =
 
 pub did_kept : {rows rows2 : List Waiting} {earlier earlier2 : ℕ → Type 0} {task : TaskId} {claims : Bool} {own : List Event} → (claims ≡ true → entry rows2 task.0 ≡ entry rows task.0)
     → (claims ≡ true → (t : ℕ) → earlier2 t → earlier t × (entry rows2 t ≡ entry rows t)) → Did rows earlier task claims own → Did rows2 earlier2 task claims own
-did_kept mine others (Nothing front is) = Nothing front is
+did_kept mine others (Nothing claims front is) = Nothing claims front is
 did_kept mine others (Found front is end ends) = Found front is end ends
-did_kept mine others (ForUnlock front is host key control access) = ForUnlock front is host key control access
+did_kept mine others (Filled front copied address bytes region) = Filled front copied address bytes region
+did_kept mine others (ForUnlock claims front is host key control access) = ForUnlock claims front is host key control access
 did_kept mine others (ForZeros front is end host key ends) = ForZeros front is end host key ends
 did_kept mine others (ForCopy front is end host lower upper ends) = ForCopy front is end host lower upper ends
-did_kept mine others (ForAsked front is host key control steps row found waits none) =
-    ForAsked front is host key control steps row (mine refl ∙ found) waits (λ t w early at. let one = others refl t early in none t w one.0 (sym one.1 ∙ at))
+did_kept mine others (ForAsked claims front is host key control steps row found waits none) =
+    ForAsked claims front is host key control steps row (mine refl ∙ found) waits (λ t w early at. let one = others refl t early in none t w one.0 (sym one.1 ∙ at))
 
 -- the rows of those who left are as they were
-claims_kept : (rows rows2 : List Waiting) (left : List TaskId) (events : List Event) → ((t : ℕ) → is_listed t left ≡ true → entry rows2 t ≡ entry rows t) → ClaimsInTurn rows left events → ClaimsInTurn rows2 left events
-claims_kept rows rows2 [] events same claims = claims
-claims_kept rows rows2 (task ∷ left) events same (claims, late, own, early, is, none, did, before) = (
+claims_kept : (rows rows2 : List Waiting) (first : Option TaskId) (left : List TaskId) (events : List Event) → ((t : ℕ) → is_listed t left ≡ true → entry rows2 t ≡ entry rows t) → ClaimsInTurn rows first left events → ClaimsInTurn rows2 first left events
+claims_kept rows rows2 first [] events same claims = claims
+claims_kept rows rows2 first (task ∷ left) events same (claims, late, own, early, is, none, did, before) = (
   claims,
   late,
   own,
@@ -79,14 +80,23 @@ claims_kept rows rows2 (task ∷ left) events same (claims, late, own, early, is
   is,
   none,
   did_kept (λ claiming. same task.0 (or_left (task.0 == task.0) (is_listed task.0 left) (itself task.0))) (λ claiming t there. (there, same t (or_right (task.0 == t) (is_listed t left) there))) did,
-  claims_kept rows rows2 left early (λ t there. same t (or_right (task.0 == t) (is_listed t left) there)) before,
+  claims_kept rows rows2 (Some task) left early (λ t there. same t (or_right (task.0 == t) (is_listed t left) there)) before,
 )
 
--- more happens, but no access is run
-claims_late : (rows : List Waiting) (left : List TaskId) (more events : List Event) → EachOf RunsNone more → ClaimsInTurn rows left events → ClaimsInTurn rows left (more ++ events)
-claims_late rows [] more events none claims = of_both RunsNone more events none claims
-claims_late rows (task ∷ left) more events quiet (claims, late, own, early, is, none, one, before) =
-    (claims, more ++ late, own, early, ap (λ z. more ++ z) is ∙ sym (append_assoc more late (own ++ early)), of_both RunsNone more late quiet none, one, before)
+-- more happens, but no access is run but the first of the queue, who copies pages
+claims_late : (rows : List Waiting) (first : Option TaskId) (left : List TaskId) (more events : List Event) → EachOf (RunsFront first) more → ClaimsInTurn rows first left events → ClaimsInTurn rows first left (more ++ events)
+claims_late rows first [] more events none claims = of_both (RunsFront first) more events none claims
+claims_late rows first (task ∷ left) more events quiet (claims, late, own, early, is, none, one, before) =
+    (claims, more ++ late, own, early, ap (λ z. more ++ z) is ∙ sym (append_assoc more late (own ++ early)), of_both (RunsFront first) more late quiet none, one, before)
+
+-- nor is it by an event of no access
+none_runs : (first : Option TaskId) (e : Event) → RunsNone e → RunsFront first e
+none_runs first (event.CopiedPage task page object object_page target) bad = absurd bad
+none_runs first e none = none
+
+each_none : (first : Option TaskId) (events : List Event) → EachOf RunsNone events → EachOf (RunsFront first) events
+each_none first [] all = tt
+each_none first (e ∷ events) all = (none_runs first e all.0, each_none first events all.1)
 
 gone_quiet : (h : ℕ) (e : Event) → IsReclaim h e → RunsNone e
 gone_quiet h (event.Dropped at object page) is = tt
@@ -98,10 +108,14 @@ each_quiet : (h : ℕ) (events : List Event) → EachOf (IsReclaim h) events →
 each_quiet h [] all = tt
 each_quiet h (e ∷ events) all = (gone_quiet h e all.0, each_quiet h events all.1)
 
--- a front runs nobody
-pub front_quiet : {front : List Event} → IsFront front → EachOf RunsNone front
-front_quiet Bare = tt
+-- a front runs nobody but whose it is
+copied_quiet : {task : TaskId} {some : Bool} {front : List Event} → AreCopied task some front → EachOf (RunsFront (Some task)) front
+copied_quiet NoPage = tt
+copied_quiet (OnePage page object_page object target some front copied) = (refl, copied_quiet copied)
+
+pub front_quiet : {task : TaskId} {claims : Bool} {front : List Event} → IsFront task claims front → EachOf (RunsFront (Some task)) front
 front_quiet (Shadow region new old) = (tt, tt)
+front_quiet (Pages some front copied) = copied_quiet copied
 
 -- nobody joins or leaves
 
@@ -161,18 +175,23 @@ end_begun t task (event.Stored owner object page at bytes value) past is = refl
 end_begun t task other past is = absurd is
 
 -- nor does a front
-front_begun : {front : List Event} (t : ℕ) (events past : List Event) → IsFront front → begun_at t ((front ++ events) ++ past) ≡ begun_at t (events ++ past)
-front_begun t events past Bare = refl
+copied_begun : {task : TaskId} {some : Bool} {front : List Event} (t : ℕ) (events past : List Event) → AreCopied task some front → begun_at t ((front ++ events) ++ past) ≡ begun_at t (events ++ past)
+copied_begun t events past NoPage = refl
+copied_begun t events past (OnePage page object_page object target some front copied) = copied_begun t events past copied
+
+front_begun : {task : TaskId} {claims : Bool} {front : List Event} (t : ℕ) (events past : List Event) → IsFront task claims front → begun_at t ((front ++ events) ++ past) ≡ begun_at t (events ++ past)
 front_begun t events past (Shadow region new old) = refl
+front_begun t events past (Pages some front copied) = copied_begun t events past copied
 
 did_begun : {rows : List Waiting} {earlier : ℕ → Type 0} {task : TaskId} {claims : Bool} {own : List Event} (t : ℕ) (events past : List Event) → Did rows earlier task claims own → begun_at t ((own ++ events) ++ past) ≡ begun_at t (events ++ past)
-did_begun t events past (Nothing front is) = front_begun t events past is
+did_begun t events past (Nothing claims front is) = front_begun t events past is
 did_begun {task = task} t events past (Found front is end ends) = end_begun t task.0 end ((front ++ events) ++ past) ends ∙ front_begun t events past is
-did_begun t events past (ForUnlock front is host key control access) = front_begun t events past is
+did_begun t events past (Filled front copied address bytes region) = copied_begun t events past copied
+did_begun t events past (ForUnlock claims front is host key control access) = front_begun t events past is
 did_begun {task = task} t events past (ForZeros front is end host key ends) = end_begun t task.0 end (event.Zeroed host key.object key.page ∷ ((front ++ events) ++ past)) ends ∙ front_begun t events past is
 did_begun {task = task} t events past (ForCopy front is end host lower upper ends) =
     end_begun t task.0 end (event.Raised host lower.object lower.page upper.object upper.page ∷ ((front ++ events) ++ past)) ends ∙ front_begun t events past is
-did_begun t events past (ForAsked front is host key control steps row found waits none) = front_begun t events past is
+did_begun t events past (ForAsked claims front is host key control steps row found waits none) = front_begun t events past is
 
 unlisted : (t : ℕ) (task : TaskId) (queue : List TaskId) → (task.0 ≡ t → ⊥) → is_listed t queue ≡ false → is_listed t (queue ++ task ∷ []) ≡ false
 unlisted t task queue apart out = elim (eqb_tells task.0 t) [
@@ -184,12 +203,13 @@ unlisted t task queue apart out = elim (eqb_tells task.0 t) [
 restarts_kept : (h : ℕ) → {header : Header} {rows rows2 : List Waiting} {past : List Event} {q : List TaskId} {from : ℕ} {queue : List TaskId} {events : List Event} → ((t : ℕ) → begun_at t (events ++ past) < from → is_listed t queue ≡ false → entry rows2 t ≡ entry rows t)
     → Restarts header h rows past q from queue events → Restarts header h rows2 past q from queue events
 restarts_kept h same (Start events none) = Start events none
-restarts_kept h {past = past} same (Joins task from queue front events was le is wants mine why) =
+restarts_kept h {past = past} same (Joins task from queue claims front events was le is alone wants mine why) =
     let low = λ (t : ℕ) (below : begun_at t (events ++ past) < suc (begun_at task.0 (events ++ past))). subst (λ (z : ℕ). z < suc (begun_at task.0 (events ++ past))) (sym (front_begun t events past is)) below in
-    Joins task from queue front events
+    Joins task from queue claims front events
     (restarts_kept h (λ t below out. same t (low t (omega arith)) (unlisted t task queue (λ at. (let even : begun_at task.0 (events ++ past) ≡ begun_at t (events ++ past) = ap (λ z. begun_at z (events ++ past)) at in omega arith)) out)) was)
     le
     is
+    alone
     wants
     mine
     why
@@ -257,8 +277,12 @@ goes_on header h past q w may true old new before after from was le next run wan
     let now : Wanting header h w may ((run.more ++ before) ++ past) = subst (λ (z : List Event). Wanting header h w may (z ++ past)) run.told (wanting refl) in
     subst (λ (z : List TaskId). Restarts header h new.rows past q (suc (begun_at w.task.0 (before ++ past))) z after) (sym queue)
     (subst (λ (z : List Event). Restarts header h new.rows past q (suc (begun_at w.task.0 (before ++ past))) (old.queue ++ w.task ∷ []) z) (sym run.told)
-    (Joins w.task from old.queue run.more before was le (run.nothing refl) now.wants now.mine (why may refl now.none)))
+    (Joins w.task from old.queue run.claims run.more before was le (run.nothing refl) (empty may refl) now.wants now.mine (why may refl now.none)))
   where
+    empty : (b : Bool) → may ≡ b → run.claims ≡ true → old.queue ≡ []
+    empty true is claiming = queue_none old.queue old.rows may is next.line next.may
+    empty false is claiming = absurd (let bad : true ≡ false = sym claiming ∙ run.none is in cc)
+
     why : (b : Bool) → may ≡ b → (may ≡ true → frames_free header h ((run.more ++ before) ++ past) ≡ 0) → (old.queue ≢ []) ⊎ (frames_free header h ((run.more ++ before) ++ past) ≡ 0)
     why true is none = inr (none is)
     why false is none = inl (queue_some old.queue old.rows may is next.line next.may)
@@ -301,6 +325,11 @@ leaves_of start now before events (inr leaves) line = leaves
 leaves_of start now before events (inl (same, told)) line =
     record { left = []; queue = sym (ap (λ z. z.queue) same); once = subst (λ (z : WaitTable). EachListedOnce z.queue) same line.once; served = []; told = told; turns = tt }
 
+-- who left did so in front of the one that stands first now
+turns_kept : (w : Waiting) (old new : WaitTable) (left : List TaskId) (served : List Event) → first_in_queue old.queue ≡ Some w.task → ((t : ℕ) → is_listed t left ≡ true → entry new.rows t ≡ entry old.rows t) → ClaimsInTurn old.rows (first_in_queue old.queue) left served
+    → ClaimsInTurn new.rows (Some w.task) left served
+turns_kept w old new left served front same turns = claims_kept old.rows new.rows (Some w.task) left served same (subst (λ (z : Option TaskId). ClaimsInTurn old.rows z left served) front turns)
+
 -- the front was run
 pub leaves_ran : (q : List TaskId) (w : Waiting) (may wants : Bool) (old new : WaitTable) (start before after : List Event) → LeavesInTurn q old start before → AreQueued old.rows old.queue → first_in_queue old.queue ≡ Some w.task → is_frame w.on ≡ true
     → RunsOnce w may wants old new before after → LeavesInTurn q new start after
@@ -314,7 +343,9 @@ leaves_ran q w may true old new start before after was line front frame run =
       once = was.once;
       served = run.more ++ was.served;
       told = run.told ∙ (ap (λ z. run.more ++ z) was.told ∙ sym (append_assoc run.more was.served start));
-      turns = claims_late new.rows was.left run.more was.served (front_quiet (run.nothing refl)) (claims_kept old.rows new.rows was.left was.served (λ t there. run.rest t (apart_left w.task was.left s.rest t once there)) was.turns);
+      turns =
+          subst (λ (z : Option TaskId). ClaimsInTurn new.rows z was.left (run.more ++ was.served)) (sym (ap first_in_queue same ∙ front))
+          (claims_late new.rows (Some w.task) was.left run.more was.served (front_quiet (run.nothing refl)) (turns_kept w old new was.left was.served front (λ t there. run.rest t (apart_left w.task was.left s.rest t once there)) was.turns));
     }
 leaves_ran q w may false old new start before after was line front frame run =
     let s = split w.task old.queue front in
@@ -334,7 +365,7 @@ leaves_ran q w may false old new start before after was line front frame run =
         refl,
         tt,
         did_kept (λ claiming. refl) (λ claiming t there. (apart_left w.task was.left s.rest t once there, refl)) run.did,
-        claims_kept old.rows new.rows was.left was.served (λ t there. run.rest t (apart_left w.task was.left s.rest t once there)) was.turns,
+        turns_kept w old new was.left was.served front (λ t there. run.rest t (apart_left w.task was.left s.rest t once there)) was.turns,
       );
     }
 
@@ -348,7 +379,7 @@ leaves_gone h q old new start before after was same gone =
       once = was.once;
       served = gone.more ++ was.served;
       told = gone.is ∙ (ap (λ z. gone.more ++ z) was.told ∙ sym (append_assoc gone.more was.served start));
-      turns = claims_late old.rows was.left gone.more was.served (each_quiet h gone.more gone.each) was.turns;
+      turns = claims_late old.rows (first_in_queue old.queue) was.left gone.more was.served (each_none (first_in_queue old.queue) gone.more (each_quiet h gone.more gone.each)) was.turns;
     })
 
 -- the row of the front alone is another

@@ -1,5 +1,5 @@
 -- What a kernel's call adds to a history: a command's group, each event with its cause and its bytes, within the frames.
-use Rattle.std.specs.Prelude.{ℕ, ◌<◌, ◌≡◌, ◌==◌, Bool, true, false, List, [], ◌∷◌, ◌++◌, length, reverse, Some, None, IsSome}
+use Rattle.std.specs.Prelude.{ℕ, ◌<◌, ◌≡◌, ◌==◌, Bool, true, false, List, [], ◌∷◌, ◌++◌, length, reverse, Some, None}
 use Rattle.vm_model.specs.declared.event.Event.{Event}
 use Rattle.vm_model.specs.declared.event.Event.TheVariants as event
 use Rattle.vm_model.specs.declared.command.Command.{Command}
@@ -145,13 +145,12 @@ abbrev pub targets_here : ℕ → Command → List Event → Bool
 targets_here h (command.Copy task address bytes target to) past = lives_on h target.0 past
 targets_here h other past = true
 
--- a kernel may run a command that acts on its host, is in its ranges, isn't refused, and of which it is said what it does; its line stands in front
+-- a kernel may run a command that acts on its host, is in its ranges and isn't refused; its line stands in front
 pub record Starts (header : Header) (h : ℕ) (doing : Command) (past : List Event) (k : Parts) (ids : Ids) (events : List Event) : Type 0 where
   pub rests : Rests header h k ids past
   pub acts : acts_on h doing past ≡ true
   pub range : InRange header doing
   pub accepted : refusal header past doing ≡ None
-  pub built : IsSome (head header past doing)
   pub begins : IsLined past
   pub nothing : events ≡ []
 

@@ -14,8 +14,8 @@ use Rattle.vm_objects.specs.declared.row.PagerState.TheVariants.{Without}
 use Rattle.vm_shadow.specs.Chains.{PutsRegion}
 use Rattle.vm_kernel.specs.declared.parts.Parts.{Parts}
 
--- a region was made with one entry, over a new object
-pub record MadeRange (region : RegionId) (object : ObjectId) (pages : ℕ) (old new : Parts) : Type 0 where
+-- a region was made over a new object, which counts so many entries
+pub record MadeRange (region : RegionId) (object : ObjectId) (pages entries : ℕ) (old new : Parts) : Type 0 where
   pub host : new.host ≡ old.host
   pub size : new.size ≡ old.size
   pub declared : new.declared ≡ old.declared
@@ -23,7 +23,7 @@ pub record MadeRange (region : RegionId) (object : ObjectId) (pages : ℕ) (old 
   pub maps : new.maps ≡ old.maps
   pub laundry : new.laundry ≡ old.laundry
   pub waits : new.waits ≡ old.waits
-  pub region_row : PutsRegion region.0 (Some (record { top = object; shift = 0; pages = pages; marked = false; entries = 1 })) old.chains new.chains
+  pub region_row : PutsRegion region.0 (Some (record { top = object; shift = 0; pages = pages; marked = false; entries = entries })) old.chains new.chains
   pub object_row : PutsObject object.0 (Some (record { kind = Temp; pages = pages; state = Without; control = 0; live = false; references = 1 })) old.memory.objects new.memory.objects
   pub marks : SameMarks old.memory.objects new.memory.objects
 

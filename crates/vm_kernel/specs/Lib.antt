@@ -9,6 +9,7 @@ pub mod Matches
 pub mod Plays
 pub mod Refusing
 pub mod Serving
+pub mod Slow
 pub mod Sweeping
 pub mod Taking
 pub mod Turns

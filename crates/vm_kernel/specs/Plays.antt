@@ -105,12 +105,21 @@ pub record Copies (lower lower_page upper upper_page : ℕ) (old new : Paging) :
   pub arrives : Arrives upper upper_page old mid
   pub marks : Marks lower lower_page mid new
 
+-- a copy of a page has come to a slow copy's object, and both pages are marked as referenced
+pub record CopiesBoth (object page target index : ℕ) (old new : Paging) : Type 0 where
+  pub come : Paging
+  pub arrives : Arrives target index old come
+  pub marked : Paging
+  pub marks : Marks target index come marked
+  pub source : Marks object page marked new
+
 -- what an event behind a history says of the lists
 abbrev pub Does : Header → List Event → Event → Paging → Paging → Type 0
 Does header past (event.Loaded task object page value) old new = Marks object.0 page.0 old new
 Does header past (event.Stored task object page at size value) old new = Marks object.0 page.0 old new
 Does header past (event.Zeroed host object page) old new = Arrives object.0 page.0 old new
 Does header past (event.Raised host lower lower_page upper upper_page) old new = Copies lower.0 lower_page.0 upper.0 upper_page.0 old new
+Does header past (event.CopiedPage task page object object_page target) old new = CopiesBoth object.0 object_page.0 target.0 page.0 old new
 Does header past (event.Dropped host object page) old new = DepartsFrom header host.0 past object.0 page.0 old new
 Does header past (event.Sent (Up host object) (message.Return control page dirty false bytes)) old new =
     IsVictim header host.0 (uncreated past) object.0 page.0 old new ⊎ (DepartsUnheld header host.0 past object.0 page.0 old new ⊎ DepartsLocked host.0 past object.0 page.0 old new)

@@ -142,16 +142,6 @@ code_of k ids elsewhere (command.Wire host frames) = code_where (nat_lt (free k.
 code_of k ids elsewhere (command.Unwire host frames) = code_where (nat_lt k.memory.frames.wired frames) InvalidArgument None
 code_of k ids elsewhere other = changing_code k other
 
--- the entry is on one of so many declared objects
-abbrev pub is_declared_entry : ℕ → Option Entry → Bool
-is_declared_entry declared None = false
-is_declared_entry declared (Some row) = nat_lt row.region.0 declared
-
--- the command copies from an entry on a declared object
-abbrev pub copies_declared : Parts → Command → Bool
-copies_declared k (command.Copy task address bytes target to) = is_declared_entry (length k.declared.items) (entry_at address (rows_in task.0 k.maps))
-copies_declared k other = false
-
 -- The tasks of the command are in the maps, what it maps is one of so many declared objects, and an access is of some bytes.
 abbrev pub IsForHere : Mapped → ℕ → Command → Type 0
 IsForHere maps declared (command.Fork task child) = IsSome (entries_in task.0 maps)

@@ -1,8 +1,9 @@
 -- Accesses are run, and the frame queue is served.
-use Rattle.std.specs.Prelude.{ℕ, ◌+◌, ◌-◌, ◌<◌, ◌≡◌, ◌⊎◌, ◌||◌, Bool, true, false, List, [], ◌∷◌, ◌++◌, Option, Some, None}
+use Rattle.std.specs.Prelude.{ℕ, ◌+◌, ◌-◌, ◌<◌, ◌≤◌, ◌≡◌, ◌⊎◌, ◌||◌, Bool, true, false, List, [], ◌∷◌, ◌++◌, Option, Some, None}
 use Rattle.vm_base.specs.declared.ids.FrameNo.{FrameNo}
 use Rattle.vm_base.specs.declared.ids.PageKey.{PageKey}
 use Rattle.vm_queues.specs.Queues.{is_skipped}
+use Rattle.vm_fault.specs.Rooms.{pages_left}
 use Rattle.vm_frames.specs.Frames.{claimed, free}
 use Rattle.vm_model.specs.declared.event.Event.{Event}
 use Rattle.vm_model.specs.declared.script.Header.{Header}
@@ -25,8 +26,14 @@ use Rattle.vm_kernel.specs.declared.attempt.Attempt.{Attempt}
 use Rattle.vm_kernel.specs.declared.attempt.Attempt.TheVariants as attempt
 use Rattle.vm_kernel.specs.declared.parts.Parts.{Parts}
 
+-- how many pages the slow copies that wait have left
+abbrev pub pages_to_copy : List Waiting → ℕ
+pages_to_copy [] = 0
+pages_to_copy (w ∷ ws) = pages_left w.want + pages_to_copy ws
+
 -- an access was run: it has ended, or waits for something else than a frame
 pub record LeavesFrameQueue (was : Waiting) (old new : Parts) : Type 0 where
+  pub left : pages_to_copy new.waits.rows ≤ pages_to_copy old.waits.rows
   pub again : count_again new.waits.rows + one_again was.on ≡ count_again old.waits.rows
   pub queued : queued new.waits.rows + one_frame was.on ≡ queued old.waits.rows
   pub laundry : new.laundry ≡ old.laundry
@@ -40,10 +47,11 @@ abbrev pub IsToCopy : Header → ℕ → Parts → Option PageKey → List Event
 IsToCopy header h k None past = Unit {0}
 IsToCopy header h k (Some key) past = IsSource header h key.object.0 key.page.0 past × IsHere k key
 
--- an access wants a frame, and stands in the queue; its region may have got an object of its own
+-- an access wants a frame, and stands in the queue; its region may have got an object of its own, or it has copied pages, each in a frame
 pub record JoinsQueue (header : Header) (h : ℕ) (was : Waiting) (may_claim : Bool) (source : Option PageKey) (old new : Parts) (before after : List Event) : Type 0 where
+  pub claims : Bool
   pub front : List Event
-  pub prepared : IsFront front
+  pub prepared : IsFront was.task claims front
   pub same : after ≡ front ++ before
   pub wants : Wants header h after
   pub mine : wants.task ≡ was.task.0
@@ -51,7 +59,7 @@ pub record JoinsQueue (header : Header) (h : ℕ) (was : Waiting) (may_claim : B
   pub none : may_claim ≡ true → free new.memory.frames ≡ 0
   pub again : count_again new.waits.rows + one_again was.on ≡ count_again old.waits.rows
   pub queued : queued new.waits.rows ≡ queued old.waits.rows + (1 - one_frame was.on)
-  pub claimed : claimed new.memory.frames ≡ claimed old.memory.frames
+  pub claimed : claimed new.memory.frames + pages_to_copy new.waits.rows ≡ claimed old.memory.frames + pages_to_copy old.waits.rows
   pub laundry : new.laundry ≡ old.laundry
 
 -- an access was run, and it wants a frame or not

@@ -2,9 +2,13 @@
 use Rattle.std.specs.Prelude.{ℕ, ◌≡◌, ◌≢◌, ◌+◌, ◌-◌, ◌<◌, ◌⊎◌, ◌++◌, false, true, List, Some}
 use Rattle.vm_base.specs.declared.entry.Entry.{Entry}
 use Rattle.vm_model.specs.declared.event.Event.{Event}
+use Rattle.vm_model.specs.declared.event.Event.TheVariants as event
+use Rattle.vm_model.specs.declared.message.Channel.TheVariants.{Up}
+use Rattle.vm_model.specs.declared.message.Message.TheVariants as message
 use Rattle.vm_model.specs.declared.command.Command.{Command}
 use Rattle.vm_model.specs.declared.script.Header.{Header}
 use Rattle.vm_legal.specs.Outside.{Outside}
+use Rattle.vm_legal.specs.Stretches.{EachOf}
 use Rattle.vm_model.specs.Named.{named}
 use Rattle.vm_objects.specs.Objects.{ObjectTable, object_at}
 use Rattle.vm_objects.specs.declared.row.ObjectRow.{ObjectRow}
@@ -16,7 +20,10 @@ use Rattle.vm_state.specs.Counts.{count_on}
 use Rattle.vm_state.specs.References.{AllReferred, AllReferredBut}
 use Rattle.vm_state.specs.Filling.{IsFilledIn, fills_in}
 use Rattle.vm_waits.specs.Waits.{entry}
-use Rattle.vm_kernel.specs.Matches.{HasSlow, UsesAll}
+use Rattle.vm_kernel.specs.Matches.{HasOrder, HasSlow, HasWaits, Matches, UsesAll}
+use Rattle.vm_resident.specs.Resident.{ResidentTable, row_at}
+use Rattle.vm_resident.specs.declared.page_row.PageRow.{PageRow}
+use Rattle.vm_supply.specs.declared.woken.Woken.{Woken}
 use Rattle.vm_state.specs.Places.{has_region, region_entries, with_entries}
 use Rattle.vm_kernel.specs.declared.parts.Parts.{Parts}
 
@@ -49,13 +56,52 @@ pub record Sweeps (header : Header) (h : ℕ) (outside : Outside) (doing : Comma
   pub used : UsesAll header k (events ++ past)
   pub referred : AllReferred k.chains k.memory.objects k.memory.resident
 
+-- what is given to calls that end regions and objects: whom an answer has woken, and the entries that have gone but are still among the counts
+pub record Ending : Type 0 where
+  pub header : Header
+  pub host : ℕ
+  pub outside : Outside
+  pub past : List Event
+  pub command : Command
+  pub who : Woken
+  pub rest : List Entry
+
+-- inside any step, with some who were woken, and some entries that have just gone among the counts
+pub record IsAmid (header : Header) (h : ℕ) (who : Woken) (k : Parts) (ids : Ids) (gone : List Entry) (past : List Event) : Type 0 where
+  pub matches : Matches header h k ids gone past
+  pub waits : HasWaits k who past
+  pub order : HasOrder k past
+
+-- each region has an entry or is filled, and something refers to each object
+pub record IsWhole (header : Header) (h : ℕ) (who : Woken) (k : Parts) (ids : Ids) (gone : List Entry) (past : List Event) : Type 0 where
+  pub runs : IsAmid header h who k ids gone past
+  pub used : UsesAll header k past
+  pub referred : AllReferred k.chains k.memory.objects k.memory.resident
+
+-- pages may have gone, and nothing else has
+abbrev pub OnlyLoses : ResidentTable → ResidentTable → Type 0
+OnlyLoses old new = (o p : ℕ) (row : PageRow) → row_at new o p ≡ Some row → row_at old o p ≡ Some row
+
+-- the event takes a page from the host, or ends a control
+abbrev pub IsEnding : Event → Type 0
+IsEnding (event.Dropped host object page) = Unit {0}
+IsEnding (event.Sent (Up host object) (message.Return control page dirty keep bytes)) = Unit {0}
+IsEnding (event.Sent (Up host object) (message.Terminate control)) = Unit {0}
+IsEnding other = ⊥
+
+-- all events that were added are such
+pub record EndsOnly (old new : List Event) : Type 0 where
+  pub more : List Event
+  pub is : new ≡ more ++ old
+  pub each : EachOf IsEnding more
+
 -- a region has no entries left, and each other one has some, or is filled by an access that waits
-pub record EndsRegion (header : Header) (h : ℕ) (outside : Outside) (doing : Command) (past : List Event) (k : Parts) (ids : Ids) (gone : List Entry) (region : ℕ) (events : List Event) : Type 0 where
-  pub runs : IsInStep header h outside doing past k ids gone events
+pub record EndsRegion (header : Header) (h : ℕ) (who : Woken) (k : Parts) (ids : Ids) (gone : List Entry) (region : ℕ) (past : List Event) : Type 0 where
+  pub runs : IsAmid header h who k ids gone past
   pub there : has_region k.chains region ≡ true
   pub none : region_entries k.chains region ≡ 0
   pub others : (r : ℕ) (row : RegionRow) → r ≢ region → region_at k.chains r ≡ Some row → (0 < row.entries) ⊎ IsFilledIn k.waits.rows r
-  pub copies : HasSlow header k (events ++ past)
+  pub copies : HasSlow header k past
   pub unfilled : (task : ℕ) → fills_in region (entry k.waits.rows task) ≡ false
   pub referred : AllReferred k.chains k.memory.objects k.memory.resident
 
@@ -64,9 +110,9 @@ abbrev pub IsKnownToPager : Header → ObjectTable → ℕ → Type 0
 IsKnownToPager header objects o = (known : ObjectRow) → object_at objects o ≡ Some known → o < named header → known.live ≡ true
 
 -- nothing refers to an object any more, and something to each other one that lives, has pages or is a shadow
-pub record EndsObject (header : Header) (h : ℕ) (outside : Outside) (doing : Command) (past : List Event) (k : Parts) (ids : Ids) (gone : List Entry) (object : ℕ) (events : List Event) : Type 0 where
-  pub runs : IsInStep header h outside doing past k ids gone events
-  pub used : UsesAll header k (events ++ past)
+pub record EndsObject (header : Header) (h : ℕ) (who : Woken) (k : Parts) (ids : Ids) (gone : List Entry) (object : ℕ) (past : List Event) : Type 0 where
+  pub runs : IsAmid header h who k ids gone past
+  pub used : UsesAll header k past
   pub row : ObjectRow
   pub known : object_at k.memory.objects object ≡ Some row
   pub none : row.references ≡ 0

@@ -1,12 +1,14 @@
 -- A message of a pager is taken.
 use Rattle.std.specs.Prelude.{ℕ, ◌<◌, ◌≡◌, ◌==◌, ◌&&◌, ◌++◌, Bool, true, false, not, List, Option, Some, None}
 use Rattle.vm_base.specs.declared.ids.PageKey.{PageKey}
+use Rattle.vm_model.specs.declared.command.Command.{Command}
 use Rattle.vm_model.specs.declared.event.Event.{Event}
 use Rattle.vm_model.specs.declared.message.Message.{Message}
 use Rattle.vm_model.specs.declared.message.Message.TheVariants as message
 use Rattle.vm_model.specs.declared.script.Header.{Header}
 use Rattle.vm_model.specs.Named.{named}
 use Rattle.vm_legal.specs.Debts.{EndsWaiters, HasLocked}
+use Rattle.vm_legal.specs.Outside.{Outside}
 use Rattle.vm_legal.specs.Licences.{LockRequest, lock_taken, zeroes}
 use Rattle.vm_legal.specs.Steps.{absence_taken, error_taken, fails_access, fails_task, since}
 use Rattle.vm_legal.specs.Stretches.{EachOf}
@@ -47,6 +49,15 @@ is_away (Some row) = not row.here
 abbrev pub FailsNow : Header → ℕ → Woken → List Event → Type 0
 FailsNow header h (woken.Fails key) past = error_taken header.size past ≡ Some (record { host = h; object = key.object.0; page = key.page.0 })
 FailsNow header h other past = error_taken header.size past ≡ None
+
+-- what is told of a step whose error ends those who wait for a page
+pub record Erring : Type 0 where
+  pub header : Header
+  pub host : ℕ
+  pub outside : Outside
+  pub past : List Event
+  pub command : Command
+  pub page : PageKey
 
 -- and it has ended nobody yet
 abbrev pub EndsNobody : Woken → List Event → Type 0

@@ -1,9 +1,11 @@
 -- Frames in turn: accesses are run again in the order in which they began; who wants a frame and may have none joins the back of the queue, only fronts
 -- leave, and while somebody queues they alone claim frames.
-use Rattle.std.specs.Prelude.{◌≡◌, ◌≢◌, ◌⊎◌, ◌<◌, ◌≤◌, ℕ, suc, Bool, true, false, List, [], ◌∷◌, ◌++◌, reverse, Some, if◌then◌else◌}
+use Rattle.std.specs.Prelude.{◌≡◌, ◌≢◌, ◌⊎◌, ◌<◌, ◌≤◌, ℕ, suc, Bool, true, false, List, [], ◌∷◌, ◌++◌, reverse, Option, Some, if◌then◌else◌}
 use Rattle.vm_base.specs.declared.ids.HostId.{HostId}
+use Rattle.vm_base.specs.declared.ids.Inherit.TheVariants.{Copy}
 use Rattle.vm_base.specs.declared.ids.ObjectId.{ObjectId}
 use Rattle.vm_base.specs.declared.ids.PageKey.{PageKey}
+use Rattle.vm_base.specs.declared.ids.PageNo.{PageNo}
 use Rattle.vm_base.specs.declared.ids.RegionId.{RegionId}
 use Rattle.vm_base.specs.declared.ids.TaskId.{TaskId}
 use Rattle.vm_fault.specs.Walks.{wanted_number}
@@ -17,7 +19,7 @@ use Rattle.vm_model.specs.declared.message.Channel.TheVariants.{Up, Down}
 use Rattle.vm_model.specs.declared.message.Message.TheVariants as message
 use Rattle.vm_model.specs.declared.script.Header.{Header}
 use Rattle.vm_waits.specs.Kept.{EachListedOnce}
-use Rattle.vm_waits.specs.Waits.{WaitTable, entry, is_again, is_frame, is_listed, queue_without}
+use Rattle.vm_waits.specs.Waits.{WaitTable, entry, first_in_queue, is_again, is_frame, is_listed, queue_without}
 use Rattle.vm_waits.specs.declared.waiting.On.TheVariants as on
 use Rattle.vm_waits.specs.declared.waiting.Waiting.{Waiting}
 
@@ -80,23 +82,30 @@ pub record RunsNoneYet (events : List Event) : Type 0 where
   pub none : EachOf RunsNone late
   pub brought : IsBrought first
 
--- what stands first where an access is run: nothing, or a shadow for the region of a store
-pub data IsFront : List Event → Type 0 where
-  Bare : IsFront []
-  Shadow : (region : RegionId) → (new old : ObjectId) → IsFront (event.Shadowed region new old ∷ [])
+-- pages that a task's slow copy made, each in a frame that it claimed; and whether there are any
+pub data AreCopied (task : TaskId) : Bool → List Event → Type 0 where
+  NoPage : AreCopied task false []
+  OnePage : (page object_page : PageNo) → (object target : ObjectId) → (some : Bool) → (front : List Event) → AreCopied task some front → AreCopied task true (event.CopiedPage task page object object_page target ∷ front)
 
--- what a task's access did when it was run, and whether it claimed a frame: no more than make a shadow; it found its page and ended; it asked for the unlock of its
--- page; it claimed one for a page of zeros, or for a copy of its page, with which it ended; or it claimed one for a page that it asked for, on which it waits now,
--- and none of those that were run earlier
+-- what stands first where a task's access is run, and whether it claimed frames: a shadow for the region of a store, or the pages of a slow copy, or nothing
+pub data IsFront (task : TaskId) : Bool → List Event → Type 0 where
+  Shadow : (region : RegionId) → (new old : ObjectId) → IsFront task false (event.Shadowed region new old ∷ [])
+  Pages : (some : Bool) → (front : List Event) → AreCopied task some front → IsFront task some front
+
+-- what a task's access did when it was run, and whether it claimed a frame: no more than make a shadow, or copy pages; it found its page and ended; it copied its last
+-- page and ended; it asked for the unlock of its page; it claimed one for a page of zeros, or for a copy of its page, with which it ended; or it claimed one for a page
+-- that it asked for, on which it waits now, and none of those that were run earlier
 pub data Did (rows : List Waiting) (earlier : ℕ → Type 0) (task : TaskId) : Bool → List Event → Type 0 where
-  Nothing : (front : List Event) → IsFront front → Did rows earlier task false front
-  Found : (front : List Event) → IsFront front → (end : Event) → IsEnd task.0 end → Did rows earlier task false (end ∷ front)
-  ForUnlock : (front : List Event) → IsFront front → (host : HostId) → (key : PageKey) → (control access : ℕ) → Did rows earlier task false (event.Sent (Up host key.object) (message.Unlock control key.page access) ∷ front)
-  ForZeros : (front : List Event) → IsFront front → (end : Event) → (host : HostId) → (key : PageKey) → IsEnd task.0 end
+  Nothing : (claims : Bool) → (front : List Event) → IsFront task claims front → Did rows earlier task claims front
+  Found : (front : List Event) → IsFront task false front → (end : Event) → IsEnd task.0 end → Did rows earlier task false (end ∷ front)
+  Filled : (front : List Event) → AreCopied task true front → (address bytes : ℕ) → (region : RegionId)
+      → Did rows earlier task true (event.Entered task address bytes region 0 (record { read = true; write = true }) Copy ∷ event.CopyEnded task ∷ front)
+  ForUnlock : (claims : Bool) → (front : List Event) → IsFront task claims front → (host : HostId) → (key : PageKey) → (control access : ℕ) → Did rows earlier task claims (event.Sent (Up host key.object) (message.Unlock control key.page access) ∷ front)
+  ForZeros : (front : List Event) → IsFront task false front → (end : Event) → (host : HostId) → (key : PageKey) → IsEnd task.0 end
       → Did rows earlier task true (end ∷ event.Zeroed host key.object key.page ∷ front)
-  ForCopy : (front : List Event) → IsFront front → (end : Event) → (host : HostId) → (lower upper : PageKey) → IsEnd task.0 end
+  ForCopy : (front : List Event) → IsFront task false front → (end : Event) → (host : HostId) → (lower upper : PageKey) → IsEnd task.0 end
       → Did rows earlier task true (end ∷ event.Raised host lower.object lower.page upper.object upper.page ∷ front)
-  ForAsked : (front : List Event) → IsFront front → (host : HostId) → (key : PageKey) → (control steps : ℕ) → (row : Waiting) → entry rows task.0 ≡ Some row → row.on ≡ on.Page key
+  ForAsked : (claims : Bool) → (front : List Event) → IsFront task claims front → (host : HostId) → (key : PageKey) → (control steps : ℕ) → (row : Waiting) → entry rows task.0 ≡ Some row → row.on ≡ on.Page key
       → ((t : ℕ) (w : Waiting) → earlier t → entry rows t ≡ Some w → w.on ≢ on.Page key)
       → Did rows earlier task true (event.Sent (Up host key.object) (message.Request control key.page (wanted_number row.want steps)) ∷ front)
 
@@ -104,9 +113,9 @@ pub data Did (rows : List Waiting) (earlier : ℕ → Type 0) (task : TaskId) : 
 pub data Restarts (header : Header) (h : ℕ) (rows : List Waiting) (past : List Event) (old : List TaskId) : ℕ → List TaskId → List Event → Type 0 where
   -- none was run yet
   Start : (events : List Event) → RunsNoneYet events → Restarts header h rows past old 0 old events
-  -- one wants a frame while somebody queues or none is free: it joins the back
-  Joins : (task : TaskId) (from : ℕ) (queue : List TaskId) (front events : List Event) → Restarts header h rows past old from queue events → from ≤ begun_at task.0 (events ++ past) → IsFront front
-      → (wants : Wants header h ((front ++ events) ++ past)) → wants.task ≡ task.0 → (queue ≢ []) ⊎ (frames_free header h ((front ++ events) ++ past) ≡ 0)
+  -- one wants a frame while somebody queues or none is free: it joins the back; a slow copy has copied pages only where nobody queues
+  Joins : (task : TaskId) (from : ℕ) (queue : List TaskId) (claims : Bool) (front events : List Event) → Restarts header h rows past old from queue events → from ≤ begun_at task.0 (events ++ past) → IsFront task claims front
+      → (claims ≡ true → queue ≡ []) → (wants : Wants header h ((front ++ events) ++ past)) → wants.task ≡ task.0 → (queue ≢ []) ⊎ (frames_free header h ((front ++ events) ++ past) ≡ 0)
       → Restarts header h rows past old (suc (begun_at task.0 (events ++ past))) (queue ++ task ∷ []) (front ++ events)
   -- one doesn't join, and claims a frame only where nobody queues
   Goes : (task : TaskId) (from : ℕ) (queue : List TaskId) (claims : Bool) (own events : List Event) → Restarts header h rows past old from queue events → from ≤ begun_at task.0 (events ++ past)
@@ -117,11 +126,17 @@ pub data Restarts (header : Header) (h : ℕ) (rows : List Waiting) (past : List
 abbrev pub Restarted : Header → ℕ → List Waiting → List Event → List TaskId → List TaskId → List Event → Type 0
 Restarted header h rows past old new events = (from : ℕ) × Restarts header h rows past old from new events
 
--- those who left were run one after another, and nobody else was; the last who left stands first, as the newest event does
-abbrev pub ClaimsInTurn : List Waiting → List TaskId → List Event → Type 0
-ClaimsInTurn rows [] events = EachOf RunsNone events
-ClaimsInTurn rows (task ∷ left) events =
-    (claims : Bool) × (late own early : List Event) × (events ≡ late ++ (own ++ early)) × EachOf RunsNone late × Did rows (λ t. is_listed t left ≡ true) task claims own × ClaimsInTurn rows left early
+-- the first of a queue alone copies a page by this event, if anybody was run
+abbrev pub RunsFront : Option TaskId → Event → Type 0
+RunsFront first (event.CopiedPage task page object object_page target) = first ≡ Some task
+RunsFront first e = RunsNone e
+
+-- those who left were run one after another, and nobody else was but who stood first then, who copied pages and stayed; the last who left stands first, as the newest
+-- event does
+abbrev pub ClaimsInTurn : List Waiting → Option TaskId → List TaskId → List Event → Type 0
+ClaimsInTurn rows first [] events = EachOf (RunsFront first) events
+ClaimsInTurn rows first (task ∷ left) events =
+    (claims : Bool) × (late own early : List Event) × (events ≡ late ++ (own ++ early)) × EachOf (RunsFront first) late × Did rows (λ t. is_listed t left ≡ true) task claims own × ClaimsInTurn rows (Some task) left early
 
 -- some left from the front of a queue in which nobody stood twice, nobody joined, and frames were claimed in turn
 pub record LeavesInTurn (old : List TaskId) (new : WaitTable) (before after : List Event) : Type 0 where
@@ -130,7 +145,7 @@ pub record LeavesInTurn (old : List TaskId) (new : WaitTable) (before after : Li
   pub once : EachListedOnce old
   pub served : List Event
   pub told : after ≡ served ++ before
-  pub turns : ClaimsInTurn new.rows left served
+  pub turns : ClaimsInTurn new.rows (first_in_queue new.queue) left served
 
 -- the rows of those who don't queue are as they were
 abbrev pub KeepsOthers : List TaskId → List Waiting → List Waiting → Type 0
@@ -153,15 +168,15 @@ pub record RunsNobody (old new : List TaskId) (before after : List Event) : Type
   pub told : after ≡ more ++ before
   pub none : EachOf RunsNone more
 
--- an access was run once: it claims no frame where it may not; if it wants one still, no more than a shadow was made; it is not to be run again; and only its own row
--- has changed
+-- an access was run once: it claims no frame where it may not; if it wants one still, no more than a shadow was made, or pages were copied; it is not to be run again;
+-- and only its own row has changed
 pub record RunsOnce (was : Waiting) (may_claim wants : Bool) (old new : WaitTable) (before after : List Event) : Type 0 where
   pub more : List Event
   pub told : after ≡ more ++ before
   pub claims : Bool
   pub did : Did new.rows (λ t. t ≢ was.task.0) was.task claims more
   pub none : may_claim ≡ false → claims ≡ false
-  pub nothing : wants ≡ true → IsFront more
+  pub nothing : wants ≡ true → IsFront was.task claims more
   pub done : (w : Waiting) → entry new.rows was.task.0 ≡ Some w → is_again w.on ≡ false
   pub rest : (t : ℕ) → t ≢ was.task.0 → entry new.rows t ≡ entry old.rows t
   pub queue : QueueAfter was wants old.queue new.queue

@@ -95,7 +95,7 @@ impl Parts {
         let pages = (bytes / u64::from(self.size.bytes())) as u32;
         let region = RegionId(ids.next_region);
         let object = ObjectId(ids.next_object);
-        self.make_range(region, object, pages)?;
+        self.make_range(region, object, pages, 1)?;
         let entry = whole_entry(address, bytes, region);
         self.maps.enter(task, &entering(entry))?;
         ids.next_region += 1;
@@ -108,11 +108,17 @@ impl Parts {
         log.push(entered(task, entry))
     }
 
-    // Makes a region with one entry, over a new object.
-    fn make_range(&mut self, region: RegionId, object: ObjectId, pages: u32) -> Result<(), NoMemory>
+    // Makes a region over a new object, and counts so many entries.
+    pub fn make_range(
+        &mut self,
+        region: RegionId,
+        object: ObjectId,
+        pages: u32,
+        entries: u32,
+    ) -> Result<(), NoMemory>
         requires absent { region_at self.old.chains region.0 ≡ None }
         requires unknown { object_at self.old.memory.objects object.0 ≡ None }
-        ensures { OnOk result (MadeRange region object pages self.old self.new) }
+        ensures { OnOk result (MadeRange region object pages entries self.old self.new) }
     {
         self.memory.objects.make(object, ObjectKind::Temp, pages)?;
         self.memory.objects.refer(object);
@@ -121,7 +127,7 @@ impl Parts {
             shift: 0,
             pages,
             marked: false,
-            entries: 1,
+            entries,
         };
         self.chains.make_region(region, row)
     }

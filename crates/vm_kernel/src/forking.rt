@@ -1,15 +1,15 @@
 // Forks and copies: a task gets entries on the regions of another, or on symmetric copies of them.
-ghost use Rattle.std.specs.Prelude.{◌≡◌, OnOk, Some};
+ghost use Rattle.std.specs.Prelude.{◌≡◌, ◌^◌, OnOk, Some};
 ghost use Rattle.vm_base.specs.declared.entry.Entry.{Entry as Row};
 ghost use Rattle.vm_base.specs.declared.ids.Access.TheVariants as need;
-ghost use Rattle.vm_base.specs.Entries.{entry_at};
+ghost use Rattle.vm_base.specs.Entries.{InOrder, entry_at};
 ghost use Rattle.vm_maps.specs.Judge.{IsAllowed, place_at};
 ghost use Rattle.vm_maps.specs.Maps.{rows_in};
 ghost use Rattle.vm_model.specs.declared.command.Command.TheVariants as command;
 ghost use Rattle.vm_kernel.specs.Begun.{Ran, Given, Starts};
 ghost use Rattle.vm_kernel.specs.Forking.{CanCopy, CanShare, EntersCopy, Shares};
 ghost use Rattle.vm_kernel.specs.Plays.{Plays, paging};
-ghost use Rattle.vm_kernel.specs.Turns.{QueueIsStill};
+ghost use Rattle.vm_kernel.specs.Turns.{QueueIsStill, Restarted};
 
 use crate::building::{entered, entering, whole_entry};
 use crate::counting::{count_of, set_count};
@@ -68,18 +68,23 @@ impl Parts {
         requires { Starts given.header given.host (command.Copy task address bytes target to) given.past self.old ids.old log.old.items }
         ensures ran { OnOk result (Ran given.header given.host given.outside (command.Copy task address bytes target to) given.past self.new ids.new log.new.items) }
         ensures plays { OnOk result (Plays given.header given.past log.old.items (paging self.old) log.new.items (paging self.new)) }
-        ensures quiet { OnOk result (QueueIsStill self.old.waits.queue self.new.waits.queue log.old.items log.new.items) }
+        ensures restarts { OnOk result (Restarted given.header given.host self.new.waits.rows given.past self.old.waits.queue self.new.waits.queue log.new.items) }
     {
         let place = self.place(task, address);
+        if place.region.0 < self.declared.len() {
+            return self.begin_copy(ids, task, address, bytes, to, log);
+        }
         let range = whole_entry(to, bytes, place.region);
         self.enter_copy(ids, target, place.region, place.page.0, range, log)
     }
 
-    // Where an address of a task leads that it may read.
+    // Where an address of a task leads that it may read; the task's entries stand in their order.
     fn place(&self, task: TaskId, address: u64) -> Place
         requires { IsAllowed self.now.maps task.0 address need.Load }
-        ensures { (entry : Row) → entry_at address (rows_in task.0 self.now.maps) ≡ Some entry → result ≡ place_at self.now.maps.size address entry }
+        ensures place { (entry : Row) → entry_at address (rows_in task.0 self.now.maps) ≡ Some entry → result ≡ place_at self.now.maps.size address entry }
+        ensures order { InOrder 0 (2 ^ 32) (rows_in task.0 self.now.maps) }
     {
+        let _ = self.maps.entries(task);
         let Ok(place) = self.maps.lookup(task, address, Access::Load) else {
             unreachable!()
         };

@@ -1,5 +1,5 @@
 // One host's kernel.
-ghost use Rattle.std.specs.Prelude.{◌≡◌, ◌≢◌, ◌++◌, ◌∷◌, ◌<◌, [], length, false, true, is_none, is_some, IfOk, OnOk};
+ghost use Rattle.std.specs.Prelude.{◌≡◌, ◌≢◌, ◌++◌, ◌∷◌, ◌<◌, [], length, false, true, is_some, IfOk, OnOk};
 ghost use Rattle.vm_model.specs.declared.event.Event.TheVariants as event;
 ghost use Rattle.vm_model.specs.declared.message.Channel.TheVariants.{Down};
 ghost use Rattle.vm_waits.specs.Waits.{entry, queued};
@@ -7,14 +7,12 @@ ghost use Rattle.vm_kernel.specs.Serving.{HasQueue};
 ghost use Rattle.vm_frames.specs.Frames.{free};
 ghost use Rattle.vm_objects.specs.Objects.{object_at};
 ghost use Rattle.vm_model.specs.Ranges.{InRange};
-ghost use Rattle.vm_legal.specs.Follows.{head};
 ghost use Rattle.vm_legal.specs.Refusal.{refusal};
 ghost use Rattle.vm_kernel.specs.Begun.{Doing, Given, IsLaundered, Passed, Passing, Ran, Served, Starts, acts_on, targets_here};
 ghost use Rattle.vm_kernel.specs.Built.{kernel_runs};
 ghost use Rattle.vm_kernel.specs.Plays.{Plays, PlaysAnswer, paging};
 ghost use Rattle.vm_resident.specs.Resident.{row_at};
 ghost use Rattle.vm_supply.specs.Answers.{outcome_of};
-ghost use Rattle.vm_shadow.specs.declared.ids.Ids.{Ids as Numbers};
 ghost use Rattle.vm_state.specs.Stands.{HasTasks};
 ghost use Rattle.vm_kernel.specs.Matches.{IsRanged, Rests, first_ids, host_id};
 ghost use Rattle.vm_kernel.specs.Refusing.{maps_elsewhere, takes_name};
@@ -189,19 +187,6 @@ impl Kernel {
         ensures { result ≡ refusal given.header given.past command.now }
     {
         self.parts.refusal(command, ids, elsewhere)
-    }
-
-    /// Whether a command that isn't refused copies from an entry on a declared object.
-    pub fn copies_declared(&self, command: &Command) -> bool
-        ghost given: { Given }
-        requires rests { (ids : Numbers) × Rests given.header given.host self.now ids given.past }
-        requires acts { acts_on given.host command.now given.past ≡ true }
-        requires range { InRange given.header command.now }
-        requires built { kernel_runs command.now ≡ true }
-        requires accepted { refusal given.header given.past command.now ≡ None }
-        ensures { result ≡ is_none (head given.header given.past command.now) }
-    {
-        self.parts.copies_declared(command)
     }
 
     /// The number of frames that are neither claimed nor wired.

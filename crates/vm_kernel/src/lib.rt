@@ -17,6 +17,7 @@ mod parts;
 mod refusing;
 mod running;
 mod serving;
+mod slow;
 mod sweeping;
 mod taking;
 

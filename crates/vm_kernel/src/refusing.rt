@@ -10,7 +10,7 @@ ghost use Rattle.vm_frames.specs.Frames.{free};
 ghost use Rattle.vm_maps.specs.Maps.{entries_in, rows_in};
 ghost use Rattle.vm_kernel.specs.Begun.{Given, acts_on};
 ghost use Rattle.vm_state.specs.Stands.{HasTasks};
-ghost use Rattle.vm_kernel.specs.Refusing.{IsForHere, access_code, acting_in, change_code, changing_code, code_of, copies_declared, copy_code, fork_code, is_copy_full, is_uncopied, makes_too_many, map_code, object_total, range_code, source_code};
+ghost use Rattle.vm_kernel.specs.Refusing.{IsForHere, access_code, acting_in, change_code, changing_code, code_of, copy_code, fork_code, is_copy_full, is_uncopied, makes_too_many, map_code, object_total, range_code, source_code};
 
 use crate::changes::{enter, inheritance, protection, removal};
 use crate::copying::{copies, is_marked, meets_declared, new_marks};
@@ -351,20 +351,6 @@ impl Parts {
         match self.memory.objects.find(ObjectId(region.0)) {
             Some(known) => known.kind == ObjectKind::Wild || !own,
             None => !own,
-        }
-    }
-
-    // Whether a command copies from an entry on a declared object.
-    pub fn copies_declared(&self, command: &Command) -> bool
-        requires here { IsForHere self.now.maps (length self.now.declared.items) command.now }
-        ensures { result ≡ copies_declared self.now command.now }
-    {
-        let Command::Copy { task, address, .. } = command else {
-            return false;
-        };
-        match self.maps.entry(*task, *address) {
-            Some(entry) => entry.region.0 < self.declared.len(),
-            None => false,
         }
     }
 

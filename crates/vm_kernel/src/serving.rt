@@ -23,7 +23,7 @@ use vm_shadow::Ids;
 use vm_waits::{On, Waiting};
 
 impl Parts {
-    // Runs an access once.
+    // Runs an access once, a slow copy page by page.
     fn attempt(
         &mut self,
         ids: &mut Ids,
@@ -54,9 +54,11 @@ impl Parts {
             ids,
             log,
         )?;
+        self.waits.set_want(waiting.task, want);
         let on = match step {
             FaultStep::Done { .. } => {
                 self.waits.remove(waiting.task);
+                self.end_copy(waiting, log)?;
                 return Ok(Attempt::Ran);
             }
             FaultStep::NeedFrame { source } => {

@@ -1,8 +1,8 @@
 // What no entry leads to any more goes.
-ghost use Rattle.std.specs.Prelude.{◌≡◌, ◌+◌, ◌<◌, [], drop, length, OnOk};
+ghost use Rattle.std.specs.Prelude.{◌≡◌, ◌+◌, ◌++◌, ◌<◌, [], drop, length, OnOk};
 ghost use Rattle.vm_base.specs.Entries.{by_address};
-ghost use Rattle.vm_kernel.specs.Begun.{Doing};
-ghost use Rattle.vm_kernel.specs.Sweeping.{EndsObject, EndsRegion, IsKnownToPager, Releasing, Sweeps};
+ghost use Rattle.vm_kernel.specs.Begun.{Doing, LegalEvents};
+ghost use Rattle.vm_kernel.specs.Sweeping.{Ending, EndsObject, EndsOnly, EndsRegion, IsKnownToPager, IsWhole, OnlyLoses, Releasing, Sweeps};
 ghost use Rattle.vm_kernel.specs.Plays.{Plays, paging};
 ghost use Rattle.vm_kernel.specs.Turns.{QueueIsStill};
 
@@ -57,12 +57,20 @@ impl Parts {
     }
 
     // Ends a region without entries, and what loses its last reference by that.
-    fn end_region(&mut self, ids: &Ids, region: RegionId, log: &mut Events) -> Result<(), NoMemory>
-        ghost given: { Releasing }
-        requires { EndsRegion given.header given.host given.outside given.command given.past self.old ids.now given.rest region.0 log.old.items }
-        ensures sweeps { OnOk result (Sweeps given.header given.host given.outside given.command given.past self.new ids.now given.rest log.new.items) }
+    pub fn end_region(
+        &mut self,
+        ids: &Ids,
+        region: RegionId,
+        log: &mut Events,
+    ) -> Result<(), NoMemory>
+        ghost given: { Ending }
+        requires { EndsRegion given.header given.host given.who self.old ids.now given.rest region.0 (log.old.items ++ given.past) }
+        ensures whole { OnOk result (IsWhole given.header given.host given.who self.new ids.now given.rest (log.new.items ++ given.past)) }
+        ensures goes { OnOk result (LegalEvents given.header given.host given.outside given.command given.past log.old.items log.new.items) }
+        ensures waits { OnOk result (self.new.waits ≡ self.old.waits) }
+        ensures pages { OnOk result (OnlyLoses self.old.memory.resident self.new.memory.resident) }
         ensures plays { OnOk result (Plays given.header given.past log.old.items (paging self.old) log.new.items (paging self.new)) }
-        ensures quiet { OnOk result (QueueIsStill self.old.waits.queue self.new.waits.queue log.old.items log.new.items) }
+        ensures only { OnOk result (EndsOnly log.old.items log.new.items) }
     {
         let object = self.chains.drop_region(region);
         if self.memory.objects.unrefer(object) > 0 {
@@ -73,12 +81,15 @@ impl Parts {
 
     // Ends an object to which nothing refers any more.
     fn end_object(&mut self, ids: &Ids, object: ObjectId, log: &mut Events) -> Result<(), NoMemory>
-        ghost given: { Releasing }
-        requires ends { EndsObject given.header given.host given.outside given.command given.past self.old ids.now given.rest object.0 log.old.items }
+        ghost given: { Ending }
+        requires ends { EndsObject given.header given.host given.who self.old ids.now given.rest object.0 (log.old.items ++ given.past) }
         requires told { IsKnownToPager given.header self.old.memory.objects object.0 }
-        ensures sweeps { OnOk result (Sweeps given.header given.host given.outside given.command given.past self.new ids.now given.rest log.new.items) }
+        ensures whole { OnOk result (IsWhole given.header given.host given.who self.new ids.now given.rest (log.new.items ++ given.past)) }
+        ensures goes { OnOk result (LegalEvents given.header given.host given.outside given.command given.past log.old.items log.new.items) }
+        ensures waits { OnOk result (self.new.waits ≡ self.old.waits) }
+        ensures pages { OnOk result (OnlyLoses self.old.memory.resident self.new.memory.resident) }
         ensures plays { OnOk result (Plays given.header given.past log.old.items (paging self.old) log.new.items (paging self.new)) }
-        ensures quiet { OnOk result (QueueIsStill self.old.waits.queue self.new.waits.queue log.old.items log.new.items) }
+        ensures only { OnOk result (EndsOnly log.old.items log.new.items) }
     {
         self.memory.queues.stand_once();
         finish(

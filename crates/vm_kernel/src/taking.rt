@@ -5,7 +5,7 @@ ghost use Rattle.vm_model.specs.declared.message.Channel.TheVariants.{Down};
 ghost use Rattle.vm_supply.specs.declared.woken.Woken.TheVariants as who;
 ghost use Rattle.vm_kernel.specs.Begun.{Doing, IsLaundered, LegalEvents, Passing};
 ghost use Rattle.vm_kernel.specs.Matches.{Rests, Works, host_id};
-ghost use Rattle.vm_kernel.specs.Taking.{EndsEach, EndsNobody, FailsNow, HasAsker, HasEnded, HasFailed, IsAbsencePaid, IsAnswered, IsErrorPaid, IsLockPaid, IsWord};
+ghost use Rattle.vm_kernel.specs.Taking.{EndsEach, EndsNobody, Erring, FailsNow, HasAsker, HasEnded, HasFailed, IsAbsencePaid, IsAnswered, IsErrorPaid, IsLockPaid, IsWord};
 ghost use Rattle.vm_objects.specs.Objects.{object_at};
 ghost use Rattle.vm_resident.specs.Resident.{row_at};
 ghost use Rattle.vm_supply.specs.Answers.{IsAnswer, outcome_of};
@@ -79,10 +79,11 @@ impl Parts {
         }
     }
 
-    // Ends each access that waits for a page that its pager can't give.
+    // Ends each access that waits for a page that its pager can't give, and the region that it fills.
     #[tactic(auto, using(crate::proofs::Playing::plays_still))]
     fn fail(&mut self, ids: &Ids, key: PageKey, log: &mut Events) -> Result<(), NoMemory>
-        ghost given: { Doing }
+        ghost given: { Erring }
+        requires page { given.page ≡ key }
         requires works { Works given.header given.host self.old ids.now (who.Fails key) (log.old.items ++ given.past) }
         requires fails { FailsNow given.header given.host (who.Fails key) (log.old.items ++ given.past) }
         requires fresh { EndsNobody (who.Fails key) (log.old.items ++ given.past) }
@@ -102,6 +103,9 @@ impl Parts {
                 page: key.page,
             })?;
             self.waits.remove(waiting.task);
+            if let Some(destination) = waiting.destination {
+                self.end_region(ids, destination.region, log)?;
+            }
         }
         Ok(())
     }

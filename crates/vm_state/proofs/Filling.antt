@@ -17,9 +17,10 @@ use Rattle.vm_state.proofs.Waited.{SameOf, rows_same}
 use Rattle.vm_state.specs.Filling.{AllUsed, FitsCopy, HasCopies, IsAlone, IsFilledIn, IsInUse, filled_row, fills_in, is_destination}
 use Rattle.vm_state.specs.Stands.{HasUse}
 use Rattle.vm_state.specs.Waiters.{LeadsTo, access_in, copies_to, waiting_in}
-use Rattle.vm_waits.specs.Waits.{PutsEntry, Waked, entry, with_on}
-use Rattle.vm_waits.specs.Waits as waits
 use Rattle.vm_waits.specs.Wants.{IsOfNumber}
+use Rattle.vm_waits.specs.Waits.{PutsEntry, Waked, entry, with_on}
+use Rattle.vm_waits.specs.Wants.{IsOfNumber}
+use Rattle.vm_waits.specs.Waits as waits
 use Rattle.vm_waits.specs.declared.waiting.Destination.{Destination}
 use Rattle.vm_waits.specs.declared.waiting.On.{On}
 use Rattle.vm_waits.specs.declared.waiting.On.TheVariants as on
@@ -202,6 +203,7 @@ fits_kept header maps maps2 cs cs2 rs rs2 task (want.CopyTo address pages object
       region = now.0;
       alone = now.1;
       range = record { entry = slow.range.entry; declared = slow.range.declared; supplied = slow.range.supplied; whole = λ p less. rw (rows_same task maps maps2 same, same.size) (slow.range.whole p less) };
+      place = record { range = rw same.size slow.place.range; free = rw (rows_same task maps maps2 same, same.size) slow.place.free; room = rw (rows_same task maps maps2 same) slow.place.room };
       unmade = λ p le. unmade slow.to.region.0 object pages p slow.region slow.alone (slow.unmade p le);
     }
   where
@@ -309,6 +311,20 @@ pub number_fills : (header : Header) (maps : Mapped) (cs : ChainTable) (rs : Res
 number_fills header maps cs rs task (want.Load address bytes) destination next target number fits = fits
 number_fills header maps cs rs task (want.Store address bytes value) destination next target number fits = fits
 number_fills header maps cs rs task (want.CopyTo address pages object left) destination next target number fits = absurd number
+
+-- the history has the next page of a slow copy as the copy has it
+abbrev pub AgreesNext : Want → ℕ → Type 0
+AgreesNext (want.Load address bytes) next = Unit {0}
+AgreesNext (want.Store address bytes value) next = Unit {0}
+AgreesNext (want.CopyTo address pages object left) next = next ≡ left
+
+fits_next : (header : Header) (maps : Mapped) (cs : ChainTable) (rs : ResidentTable) (task : ℕ) (what : Want) (destination : Option Destination) (next : ℕ) (target : Option Target) → FitsCopy header maps cs rs task what destination next target → AgreesNext what next
+fits_next header maps cs rs task (want.Load address bytes) destination next target fits = tt
+fits_next header maps cs rs task (want.Store address bytes value) destination next target fits = tt
+fits_next header maps cs rs task (want.CopyTo address pages object left) destination next target fits = fits.next
+
+pub copies_next : {header : Header} {maps : Mapped} {cs : ChainTable} {rs : ResidentTable} {list : List Waiting} {next_at : ℕ → ℕ} {target_at : ℕ → Option Target} → HasCopies header maps cs rs list next_at target_at → (t : ℕ) (w : Waiting) → entry list t ≡ Some w → AgreesNext w.want (next_at t)
+copies_next {header = header} {maps = maps} {cs = cs} {rs = rs} {next_at = next_at} {target_at = target_at} copies t w found = fits_next header maps cs rs t w.want w.destination (next_at t) (target_at t) (copies.each t w found)
 
 -- no region is in use that wasn't
 pub use_refilled : (maps : Mapped) {rows rows2 : List Waiting} {r : ℕ} → SameFills rows rows2 → IsInUse maps rows r → IsInUse maps rows2 r

@@ -45,7 +45,6 @@ waits_placed maps cs cs2 rs os rows who waiting_at has placed =
       is = has.is;
       allowed = has.allowed;
       sized = has.sized;
-      numbers = has.numbers;
       reasons = λ t w found apart. reason_placed maps cs cs2 rs os t w.want w.on (placed t w.want) (has.reasons t w found apart);
       aims = λ t w key found is. placed t w.want key (has.aims t w key found is);
       askers = has.askers;

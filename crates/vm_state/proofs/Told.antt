@@ -45,7 +45,6 @@ waits_told maps cs rs os os2 rows who waiting_at has told ready =
       is = has.is;
       allowed = has.allowed;
       sized = has.sized;
-      numbers = has.numbers;
       reasons = λ t w found apart. reason_told maps cs rs os os2 t w.want w.on told (has.reasons t w found apart);
       aims = has.aims;
       askers = has.askers;

@@ -111,7 +111,6 @@ waits_kept maps maps2 cs cs2 rs os rows who waiting_at has same tops told =
       allowed = λ t w found. subst (λ (n : ℕ). IsAllowed maps2 t (address_in n w.want) (need_in w.want)) (sym (same t w found).size)
           (allowed_kept maps maps2 t (address_in maps.size w.want) (need_in w.want) (same t w found) (has.allowed t w found));
       sized = λ t w found. subst (λ (n : ℕ). IsSizedWant n w.want) (sym (same t w found).size) (has.sized t w found);
-      numbers = has.numbers;
       reasons = λ t w found apart. reason_kept maps maps2 cs cs2 rs os t w.want w.on (same t w found) tops (has.reasons t w found apart);
       aims = λ t w key found is. place_kept maps maps2 cs cs2 t w.want key (same t w found) tops (has.aims t w key found is);
       askers = has.askers;

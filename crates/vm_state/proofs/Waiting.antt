@@ -19,7 +19,7 @@ use Rattle.vm_state.specs.Waiters.{Asker, HasWaiters, IsAsked, IsLockedFor, IsPl
 use Rattle.vm_supply.specs.declared.woken.Woken.TheVariants as woken
 use Rattle.vm_waits.proofs.Entries.{puts_cases, puts_elsewhere, puts_here}
 use Rattle.vm_waits.specs.Waits.{PutsEntry, entry, is_again, is_frame, with_on}
-use Rattle.vm_waits.specs.Wants.{IsOfNumber, IsSizedWant, address_in, need_in}
+use Rattle.vm_waits.specs.Wants.{IsSizedWant, address_in, need_in}
 use Rattle.vm_waits.specs.declared.waiting.On.{On}
 use Rattle.vm_waits.specs.declared.waiting.On.TheVariants as on
 use Rattle.vm_waits.specs.declared.waiting.Waiting.{Waiting}
@@ -120,7 +120,6 @@ waiters_page maps chains rs rs2 os rows who at o p x has put before now =
       is = has.is;
       allowed = has.allowed;
       sized = has.sized;
-      numbers = has.numbers;
       reasons = λ t w is asleep. reason_kept maps chains rs rs2 os t w.want w.on (λ key same awaits. stays w.want key (ap who (sym same) ∙ asleep) awaits) (has.reasons t w is asleep);
       aims = has.aims;
       askers = λ o2 p2 row found awaits. elim (row_cases o p x rs rs2 put o2 p2) [
@@ -147,7 +146,6 @@ waiters_page maps chains rs rs2 os rows who at o p x has put before now =
 pub record Suits (maps : Mapped) (task : ℕ) (w : Waiting) : Type 0 where
   pub allowed : IsAllowed maps task (address_in maps.size w.want) (need_in w.want)
   pub sized : IsSizedWant maps.size w.want
-  pub number : IsOfNumber w.want
 
 -- whom the others ask for is asked for still
 pub asker_kept : (rows rows2 : List Waiting) (t : ℕ) (was : Waiting) (x : Option Waiting) (o p : ℕ) → PutsEntry t x rows rows2 → entry rows t ≡ Some was → (was.on ≡ on.Page (page_key o p) → ⊥) → Asker rows o p → Asker rows2 o p
@@ -172,7 +170,6 @@ waiters_put maps chains rs rs2 os rows rows2 at at2 t x has put told suits reaso
           (λ same it. subst (λ (z : ℕ). IsAllowed maps z (address_in maps.size w.want) (need_in w.want)) same (suits w it).allowed)
           (λ apart was. has.allowed u w was);
       sized = λ u w is. puts_cases {P = IsSizedWant maps.size w.want} t u x rows rows2 w put is (λ same it. (suits w it).sized) (λ apart was. has.sized u w was);
-      numbers = λ u w is. puts_cases {P = IsOfNumber w.want} t u x rows rows2 w put is (λ same it. (suits w it).number) (λ apart was. has.numbers u w was);
       reasons = λ u w is asleep. puts_cases {P = Reason maps chains rs2 os u w.want w.on} t u x rows rows2 w put is
           (λ same it. subst (λ (z : ℕ). Reason maps chains rs2 os z w.want w.on) same (reason w it))
           (λ apart was. reason_kept maps chains rs rs2 os u w.want w.on (λ key why. kept w.want key.object.0 key.page.0) (has.reasons u w was refl));
@@ -215,7 +212,7 @@ turned_is maps rows rows2 t was reason at is there put u here = elim (eqb_tells 
 turned_suits : (maps : Mapped) (chains : ChainTable) (rs : ResidentTable) (os : ObjectTable) (rows : List Waiting) (who : On → Bool) (at : ℕ → Option Access) (t : ℕ) (was w : Waiting) (reason : On)
     → HasWaiters maps chains rs os rows who at → entry rows t ≡ Some was → Some (with_on was reason) ≡ Some w → Suits maps t w
 turned_suits maps chains rs os rows who at t was w reason has there same =
-    subst (λ (z : Waiting). Suits maps t z) (some_is (with_on was reason) w same) (record { allowed = has.allowed t was there; sized = has.sized t was there; number = has.numbers t was there })
+    subst (λ (z : Waiting). Suits maps t z) (some_is (with_on was reason) w same) (record { allowed = has.allowed t was there; sized = has.sized t was there })
 
 turned_reason : (maps : Mapped) (chains : ChainTable) (rs : ResidentTable) (os : ObjectTable) (t : ℕ) (was w : Waiting) (reason : On) → Reason maps chains rs os t was.want reason → Some (with_on was reason) ≡ Some w
     → Reason maps chains rs os t w.want w.on

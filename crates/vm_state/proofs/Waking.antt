@@ -14,7 +14,7 @@ use Rattle.vm_supply.specs.declared.woken.Woken.TheVariants as woken
 use Rattle.vm_waits.proofs.Entries.{waked_cases}
 use Rattle.vm_waits.specs.Waits.{Waked, entry, with_on}
 use Rattle.vm_waits.specs.Waits as waits
-use Rattle.vm_waits.specs.Wants.{IsOfNumber, IsSizedWant, address_in, need_in}
+use Rattle.vm_waits.specs.Wants.{IsSizedWant, address_in, need_in}
 use Rattle.vm_waits.specs.declared.waiting.On.{On}
 use Rattle.vm_waits.specs.declared.waiting.On.TheVariants as on
 use Rattle.vm_waits.specs.declared.waiting.Waiting.{Waiting}
@@ -43,7 +43,6 @@ waits_woken maps chains rs os rows rows2 who at has wakes apart =
       allowed = λ t v is. waked_cases {P = IsAllowed maps t (address_in maps.size v.want) (need_in v.want)} who (entry rows t) (entry rows2 t) v (wakes t) is (λ was asleep. has.allowed t v was)
           (λ w was passes same. subst (λ (z : Waiting). IsAllowed maps t (address_in maps.size z.want) (need_in z.want)) same (has.allowed t w was));
       sized = λ t v is. waked_cases {P = IsSizedWant maps.size v.want} who (entry rows t) (entry rows2 t) v (wakes t) is (λ was asleep. has.sized t v was) (λ w was passes same. subst (λ (z : Waiting). IsSizedWant maps.size z.want) same (has.sized t w was));
-      numbers = λ t v is. waked_cases {P = IsOfNumber v.want} who (entry rows t) (entry rows2 t) v (wakes t) is (λ was asleep. has.numbers t v was) (λ w was passes same. subst (λ (z : Waiting). IsOfNumber z.want) same (has.numbers t w was));
       reasons = λ t v is asleep. waked_cases {P = Reason maps chains rs os t v.want v.on} who (entry rows t) (entry rows2 t) v (wakes t) is (λ was still. has.reasons t v was still)
           (λ w was passes same. subst (λ (z : Waiting). Reason maps chains rs os t z.want z.on) same tt);
       aims = λ t v key is waits. waked_cases {P = IsPlaceOf maps chains t v.want key} who (entry rows t) (entry rows2 t) v (wakes t) is (λ was asleep. has.aims t v key was waits)

@@ -1,8 +1,8 @@
 -- The slow copies that wait on a host: the region that each fills, and what its kernel keeps of it.
-use Rattle.std.specs.Prelude.{ℕ, ◌*◌, ◌+◌, ◌<◌, ◌≤◌, ◌≡◌, ◌==◌, ◌⊎◌, Bool, true, false, List, Option, Some, None}
+use Rattle.std.specs.Prelude.{ℕ, ◌*◌, ◌+◌, ◌<◌, ◌≤◌, ◌≡◌, ◌==◌, ◌⊎◌, Bool, true, false, List, length, Option, Some, None}
 use Rattle.vm_base.specs.declared.entry.Entry.{Entry}
 use Rattle.vm_base.specs.declared.ids.ObjectId.{ObjectId}
-use Rattle.vm_base.specs.Entries.{entry_at}
+use Rattle.vm_base.specs.Entries.{entry_at, is_range, meets_range, most_entries}
 use Rattle.vm_legal.specs.Outside.{is_wild}
 use Rattle.vm_maps.specs.Maps.{Mapped, rows_in}
 use Rattle.vm_model.specs.declared.script.Header.{Header}
@@ -41,6 +41,12 @@ pub record IsCopied (header : Header) (maps : Mapped) (task address pages : ℕ)
   pub supplied : is_wild header entry.region.0 ≡ false
   pub whole : (p : ℕ) → p < pages → entry_at (address + p * maps.size) (rows_in task maps) ≡ Some entry
 
+-- a task can get an entry of so many pages from an address on
+pub record IsFreeFor (maps : Mapped) (task address pages : ℕ) : Type 0 where
+  pub range : is_range maps.size address (pages * maps.size) ≡ true
+  pub free : meets_range address (pages * maps.size) (rows_in task maps) ≡ false
+  pub room : length (rows_in task maps) < most_entries
+
 -- the region alone is over the object, and no shadow is
 pub record IsAlone (chains : ChainTable) (r o : ℕ) : Type 0 where
   pub tops : (q : ℕ) (row : RegionRow) → region_at chains q ≡ Some row → row.top.0 ≡ o → q ≡ r
@@ -51,7 +57,7 @@ abbrev pub filled_row : ObjectId → ℕ → RegionRow
 filled_row target pages = record { top = target; shift = 0; pages = pages; marked = false; entries = 0 }
 
 -- A slow copy from an address on goes into the region of its destination, over its target; the history has the same, and its next page. The target's pages from
--- that one on have no row.
+-- that one on have no row, and the destination is free.
 pub record IsSlow (header : Header) (maps : Mapped) (chains : ChainTable) (resident : ResidentTable) (task address pages : ℕ) (target : ObjectId) (first : ℕ) (destination : Option Destination) (next_now : ℕ) (target_now : Option Target) : Type 0 where
   pub to : Destination
   pub goes : destination ≡ Some to
@@ -60,6 +66,7 @@ pub record IsSlow (header : Header) (maps : Mapped) (chains : ChainTable) (resid
   pub region : region_at chains to.region.0 ≡ Some (filled_row target pages)
   pub alone : IsAlone chains to.region.0 target.0
   pub range : IsCopied header maps task address pages
+  pub place : IsFreeFor maps task to.address pages
   pub unmade : (p : ℕ) → first ≤ p → row_at resident target.0 p ≡ None
 
 -- a load or a store has no destination, and a slow copy is as the history and the tables have it

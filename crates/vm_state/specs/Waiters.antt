@@ -13,7 +13,7 @@ use Rattle.vm_shadow.specs.Chains.{ChainTable}
 use Rattle.vm_supply.specs.declared.woken.Woken.{Woken}
 use Rattle.vm_supply.specs.declared.woken.Woken.TheVariants as woken
 use Rattle.vm_waits.specs.Waits.{entry, woken_page, woken_ready}
-use Rattle.vm_waits.specs.Wants.{IsOfNumber, IsSizedWant, address_in, need_in}
+use Rattle.vm_waits.specs.Wants.{IsSizedWant, address_in, need_in}
 use Rattle.vm_waits.specs.declared.waiting.Destination.{Destination}
 use Rattle.vm_waits.specs.declared.waiting.On.{On}
 use Rattle.vm_waits.specs.declared.waiting.On.TheVariants as on
@@ -100,13 +100,12 @@ is_woken (woken.ReadyOf object) reason = woken_ready object.0 reason
 is_woken (woken.Page key) reason = woken_page key reason
 is_woken (woken.Fails key) reason = woken_page key reason
 
--- The accesses of tasks here that wait in the history wait here, each with an entry that allows it, within a page, and no slow copy waits; each has a reason, but those
--- that are to be woken may have lost theirs; and somebody waits for each page that is asked, whose pager is ready, and for each unlock that is outstanding.
+-- The accesses of tasks here that wait in the history wait here, each with an entry that allows it, within a page; each has a reason, but those that are to be woken
+-- may have lost theirs; and somebody waits for each page that is asked, whose pager is ready, and for each unlock that is outstanding.
 pub record HasWaiters (maps : Mapped) (chains : ChainTable) (resident : ResidentTable) (objects : ObjectTable) (rows : List Waiting) (who : On → Bool) (waiting_at : ℕ → Option Access) : Type 0 where
   pub is : (t : ℕ) → is_some (entries_in t maps) ≡ true → waiting_at t ≡ waiting_in maps.size (entry rows t)
   pub allowed : (t : ℕ) (w : Waiting) → entry rows t ≡ Some w → IsAllowed maps t (address_in maps.size w.want) (need_in w.want)
   pub sized : (t : ℕ) (w : Waiting) → entry rows t ≡ Some w → IsSizedWant maps.size w.want
-  pub numbers : (t : ℕ) (w : Waiting) → entry rows t ≡ Some w → IsOfNumber w.want
   pub reasons : (t : ℕ) (w : Waiting) → entry rows t ≡ Some w → who w.on ≡ false → Reason maps chains resident objects t w.want w.on
   pub aims : (t : ℕ) (w : Waiting) (key : PageKey) → entry rows t ≡ Some w → w.on ≡ on.Page key → IsPlaceOf maps chains t w.want key
   pub askers : (o p : ℕ) (row : PageRow) → row_at resident o p ≡ Some row → is_awaited row ≡ true → Asker rows o p

@@ -1,23 +1,24 @@
 use Rattle.vm_kernel.proofs.Common.{Still, arith}
-use Rattle.vm_kernel.proofs.Finishing.{pager_knows}
-use Rattle.vm_kernel.proofs.Strands.{ends_top, loses_region, referred_some, referred_there, sweeps_region, top_referred}
+use Rattle.vm_kernel.proofs.Finishing.{only_none, pager_knows}
+use Rattle.vm_kernel.proofs.Growing.{goes_none}
+use Rattle.vm_kernel.proofs.Strands.{ends_top, loses_region, referred_some, referred_there, top_referred, whole_region}
 use Rattle.vm_kernel.proofs.parts.Parts.end_region.Goals as goal
 
 pub unrefer-requires-clause-there : goal.unrefer-requires-clause-there
 unrefer-requires-clause-there g c =
     referred_there c.args.self.now.memory.objects c.drop_region-object.result.0
-    (top_referred g.given.header g.given.host g.given.outside g.given.command g.given.past c.args.self.now c.args.ids.now g.given.rest c.args.region.0 c.args.log.now.items c.drop_region-object.result c.requires c.drop_region-object.ensures.top)
+    (top_referred g.given.header g.given.host g.given.past g.given.who c.args.self.now c.args.ids.now g.given.rest c.args.region.0 c.args.log.now.items c.drop_region-object.result c.requires c.drop_region-object.ensures.top)
 
 pub unrefer-requires-clause-some : goal.unrefer-requires-clause-some
 unrefer-requires-clause-some g c =
     referred_some c.args.self.now.memory.objects c.drop_region-object.result.0
-    (top_referred g.given.header g.given.host g.given.outside g.given.command g.given.past c.args.self.now c.args.ids.now g.given.rest c.args.region.0 c.args.log.now.items c.drop_region-object.result c.requires c.drop_region-object.ensures.top)
+    (top_referred g.given.header g.given.host g.given.past g.given.who c.args.self.now c.args.ids.now g.given.rest c.args.region.0 c.args.log.now.items c.drop_region-object.result c.requires c.drop_region-object.ensures.top)
 
-pub returns-then-unrefer-gt0-clause-sweeps : goal.returns-then-unrefer-gt0-clause-sweeps
-returns-then-unrefer-gt0-clause-sweeps g c =
+pub returns-then-unrefer-gt0-clause-whole : goal.returns-then-unrefer-gt0-clause-whole
+returns-then-unrefer-gt0-clause-whole g c =
     let object = c.drop_region-object.result in
-    let loses = loses_region g.given.header g.given.host g.given.outside g.given.command g.given.past c.args.self.now c.args.ids.now g.given.rest c.args.region.0 c.unrefer.result c.args.log.now.items object c.drop_region-object.new.self c.unrefer.new.self c.requires c.drop_region-object.ensures.top c.drop_region-object.ensures.dropped c.unrefer.ensures.left c.unrefer.ensures.object c.unrefer.ensures.marks in
-    sweeps_region g.given.header g.given.host g.given.outside g.given.command g.given.past c.args.self.now c.args.ids.now g.given.rest c.args.region.0 c.unrefer.result c.args.log.now.items object c.drop_region-object.new.self c.unrefer.new.self c.requires loses c.if-unrefer-gt0.true
+    let loses = loses_region g.given.header g.given.host g.given.past g.given.who c.args.self.now c.args.ids.now g.given.rest c.args.region.0 c.unrefer.result c.args.log.now.items object c.drop_region-object.new.self c.unrefer.new.self c.requires c.drop_region-object.ensures.top c.drop_region-object.ensures.dropped c.unrefer.ensures.left c.unrefer.ensures.object c.unrefer.ensures.marks in
+    whole_region g.given.header g.given.host g.given.past g.given.who c.args.self.now c.args.ids.now g.given.rest c.args.region.0 c.unrefer.result c.args.log.now.items object c.drop_region-object.new.self c.unrefer.new.self c.requires loses c.if-unrefer-gt0.true
 
 pub returns-then-unrefer-gt0-clause-plays : goal.returns-then-unrefer-gt0-clause-plays
 returns-then-unrefer-gt0-clause-plays g c = Still
@@ -25,8 +26,14 @@ returns-then-unrefer-gt0-clause-plays g c = Still
 pub end_object-requires : goal.end_object-requires
 end_object-requires g c =
     let object = c.drop_region-object.result in
-    let loses = loses_region g.given.header g.given.host g.given.outside g.given.command g.given.past c.args.self.now c.args.ids.now g.given.rest c.args.region.0 c.unrefer.result c.args.log.now.items object c.drop_region-object.new.self c.unrefer.new.self c.requires c.drop_region-object.ensures.top c.drop_region-object.ensures.dropped c.unrefer.ensures.left c.unrefer.ensures.object c.unrefer.ensures.marks in
+    let loses = loses_region g.given.header g.given.host g.given.past g.given.who c.args.self.now c.args.ids.now g.given.rest c.args.region.0 c.unrefer.result c.args.log.now.items object c.drop_region-object.new.self c.unrefer.new.self c.requires c.drop_region-object.ensures.top c.drop_region-object.ensures.dropped c.unrefer.ensures.left c.unrefer.ensures.object c.unrefer.ensures.marks in
     let none = c.if-unrefer-gt0.false in (
-      ends_top g.given.header g.given.host g.given.outside g.given.command g.given.past c.args.self.now c.args.ids.now g.given.rest c.args.region.0 c.unrefer.result c.args.log.now.items object c.drop_region-object.new.self c.unrefer.new.self c.requires loses (omega (arith, none)),
-      pager_knows g.given.header g.given.host g.given.outside g.given.command g.given.past c.args.self.now c.args.ids.now g.given.rest c.args.region.0 c.unrefer.result c.args.log.now.items object c.drop_region-object.new.self c.unrefer.new.self c.requires loses,
+      ends_top g.given.header g.given.host g.given.past g.given.who c.args.self.now c.args.ids.now g.given.rest c.args.region.0 c.unrefer.result c.args.log.now.items object c.drop_region-object.new.self c.unrefer.new.self c.requires loses (omega (arith, none)),
+      pager_knows g.given.header g.given.host g.given.past g.given.who c.args.self.now c.args.ids.now g.given.rest c.args.region.0 c.unrefer.result c.args.log.now.items object c.drop_region-object.new.self c.unrefer.new.self c.requires loses,
     )
+
+pub returns-then-unrefer-gt0-clause-goes : goal.returns-then-unrefer-gt0-clause-goes
+returns-then-unrefer-gt0-clause-goes g c = goes_none g.given.header g.given.host g.given.outside g.given.command g.given.past c.args.log.now.items
+
+pub returns-then-unrefer-gt0-clause-only : goal.returns-then-unrefer-gt0-clause-only
+returns-then-unrefer-gt0-clause-only g c = only_none c.args.log.now.items

@@ -1,7 +1,9 @@
-use Rattle.vm_kernel.proofs.Common.{Event, List, Still, [], fails_access, inl, page_frame, paging, refl, rules, since, subst, sym, true, ◌++◌, ◌≡◌}
+use Rattle.vm_kernel.proofs.Common.{EndsRegion, Event, IsWhole, List, PageKey, Still, [], ap, fails_access, inl, page_frame, paging, refl, rules, since, subst, sym, true, ◌++◌, ◌∷◌, ◌≡◌}
 use Rattle.vm_model.specs.declared.event.Event.TheVariants as event
+use Rattle.vm_supply.specs.declared.woken.Woken.TheVariants as who
+use Rattle.vm_kernel.proofs.Ends.{ends_nobody, nobody_both}
 use Rattle.vm_kernel.proofs.Playing.{plays_both, plays_one}
-use Rattle.vm_kernel.proofs.Failing.{EndsOr, Failing, before_none, ends_all, ends_or, failed_one, since_now}
+use Rattle.vm_kernel.proofs.Failing.{EndsOr, FailedOne, Failing, before_none, ends_all, ends_filled, ends_or, failed_ended, failed_one, failed_plain, or_ended, since_goes, since_now}
 use Rattle.vm_kernel.proofs.Ordering.{without_keeps}
 use Rattle.vm_kernel.proofs.Turning.{nobody_more, quiet_unlisted}
 use Rattle.vm_kernel.proofs.parts.Parts.fail.Goals as goal
@@ -13,7 +15,7 @@ all-init g c =
       works = search rules;
       fails = search rules;
       answered = search rules;
-      before = before_none c.args.key c.args.self.now.waits.rows past c.requires.1.1.0;
+      before = before_none c.args.key c.args.self.now.waits.rows past c.requires.1.1.1.0;
       goes = search rules;
       plays = Still;
       each = search rules;
@@ -21,16 +23,31 @@ all-init g c =
       quiet = record { queue = refl; more = []; told = refl; none = tt };
     }
 
+pub end_region-requires : goal.end_region-requires
+end_region-requires g c =
+    let key = c.args.key in
+    let w = c.in-Some.waiting in
+    let was = c.all.invariant in
+    let all : Failing g.given.header g.given.host g.given.outside g.given.command g.given.past c.args.log.now.items c.all.log.items key c.all.self c.args.ids.now = record { works = was.works; fails = was.fails; answered = was.answered; before = was.before; goes = was.goes } in
+    let one =
+    failed_one g.given.header g.given.host g.given.outside g.given.command g.given.past c.args.log.now.items c.all.log.items key c.all.self c.args.ids.now w c.remove.new.self all c.in-Some.ensures.row.0 c.in-Some.ensures.row.1 (sym c.in-Some.ensures.oldest)
+    (record { entry = c.remove.ensures.entry; order = without_keeps w.task.0 c.all.self.waits.rows c.remove.new.self.rows c.remove.ensures.rows }) in
+    let ends = ends_filled g.given.header g.given.host g.given.outside g.given.command g.given.past c.args.log.now.items c.all.log.items key c.all.self c.args.ids.now w c.in-Some-destination.destination c.remove.new.self all c.in-Some.ensures.row.0 c.in-Some-destination.is c.remove.ensures.entry one in
+    let paged = subst (λ (z : PageKey). EndsRegion g.given.header g.given.host (who.Fails z) (record c.all.self { waits = c.remove.new.self }) c.args.ids.now [] c.in-Some-destination.destination.region.0 (event.Failed w.task key.object key.page ∷ (c.all.log.items ++ g.given.past))) (sym c.requires.0) ends in
+    subst (λ (z : List Event). EndsRegion g.given.header g.given.host (who.Fails g.given.page) (record c.all.self { waits = c.remove.new.self }) c.args.ids.now [] c.in-Some-destination.destination.region.0 (z ++ g.given.past)) (sym c.in_ok-push.ensures.ok) paged
+
+-- one that filled nothing
 pub all-preserved : goal.all-preserved
 all-preserved g c =
     let key = c.args.key in
     let w = c.in-Some.waiting in
     let was = c.all.invariant in
+    let all : Failing g.given.header g.given.host g.given.outside g.given.command g.given.past c.args.log.now.items c.all.log.items key c.all.self c.args.ids.now = record { works = was.works; fails = was.fails; answered = was.answered; before = was.before; goes = was.goes } in
     let one =
-    failed_one g.given.header g.given.host g.given.outside g.given.command g.given.past c.args.log.now.items c.all.log.items key c.all.self c.args.ids.now w c.remove.new.self
-    (record { works = was.works; fails = was.fails; answered = was.answered; before = was.before; goes = was.goes }) c.in-Some.ensures.row.0 c.in-Some.ensures.row.1 (sym c.in-Some.ensures.oldest)
+    failed_one g.given.header g.given.host g.given.outside g.given.command g.given.past c.args.log.now.items c.all.log.items key c.all.self c.args.ids.now w c.remove.new.self all c.in-Some.ensures.row.0 c.in-Some.ensures.row.1 (sym c.in-Some.ensures.oldest)
     (record { entry = c.remove.ensures.entry; order = without_keeps w.task.0 c.all.self.waits.rows c.remove.new.self.rows c.remove.ensures.rows }) in
-    let now = subst (λ (z : List Event). Failing g.given.header g.given.host g.given.outside g.given.command g.given.past c.args.log.now.items z key (record c.all.self { waits = c.remove.new.self }) c.args.ids.now) (sym c.in_ok-push.ensures.ok) one in
+    let plain = failed_plain g.given.header g.given.host g.given.outside g.given.command g.given.past c.args.log.now.items c.all.log.items key c.all.self c.args.ids.now w c.remove.new.self all c.in-Some.ensures.row.0 c.in_default-destination.is c.remove.ensures.entry one in
+    let now = subst (λ (z : List Event). Failing g.given.header g.given.host g.given.outside g.given.command g.given.past c.args.log.now.items z key (record c.all.self { waits = c.remove.new.self }) c.args.ids.now) (sym c.in_ok-push.ensures.ok) plain in
     record {
       works = now.works;
       fails = now.fails;
@@ -39,16 +56,53 @@ all-preserved g c =
       goes = now.goes;
       plays = plays_both was.plays (plays_one g.given.header g.given.past c.all.log.items _ (event.Failed w.task key.object key.page) (paging c.all.self) (paging c.all.self) c.in_ok-push.ensures.ok refl);
       each =
-          subst (λ (z : List Event). EndsOr key c.args.self.now.waits.rows c.remove.new.self.rows (z ++ g.given.past)) (sym c.in_ok-push.ensures.ok)
-          (ends_or key w c.args.self.now.waits.rows c.all.self.waits.rows c.remove.new.self.rows (c.all.log.items ++ g.given.past) was.each c.remove.ensures.entry);
+          (subst (λ (z : List Event). EndsOr key c.args.self.now.waits.rows c.remove.new.self.rows (z ++ g.given.past)) (sym c.in_ok-push.ensures.ok)
+          (ends_or key w c.args.self.now.waits.rows c.all.self.waits.rows c.remove.new.self.rows (c.all.log.items ++ g.given.past) was.each c.remove.ensures.entry));
       some =
           inl
           (subst (λ (z : List Event). since (fails_access key.object.0 key.page.0) (z ++ g.given.past) ≡ true) (sym c.in_ok-push.ensures.ok)
           (since_now key w.task (c.all.log.items ++ g.given.past)));
       quiet =
-          nobody_more c.args.self.now.waits.queue c.all.self.waits.queue c.args.log.now.items c.all.log.items c.push.new.self.items _ was.quiet
+          (nobody_more c.args.self.now.waits.queue c.all.self.waits.queue c.args.log.now.items c.all.log.items c.push.new.self.items _ was.quiet
           (quiet_unlisted c.all.self.waits.rows c.all.self.waits.queue c.remove.new.self.queue w c.all.log.items c.push.new.self.items _ c.next_on.ensures.line c.in-Some.ensures.row.0 (page_frame key w.on c.in-Some.ensures.row.1) c.remove.ensures.queue c.in_ok-push.ensures.ok tt).queue
-          c.in_ok-push.ensures.ok tt;
+          c.in_ok-push.ensures.ok tt);
+    }
+
+-- one that filled a region, which has ended too
+pub all-preserved-in-Continue-branch-2 : goal.all-preserved-in-Continue-branch-2
+all-preserved-in-Continue-branch-2 g c =
+    let key = c.args.key in
+    let w = c.in-Some.waiting in
+    let was = c.all.invariant in
+    let all : Failing g.given.header g.given.host g.given.outside g.given.command g.given.past c.args.log.now.items c.all.log.items key c.all.self c.args.ids.now = record { works = was.works; fails = was.fails; answered = was.answered; before = was.before; goes = was.goes } in
+    let one =
+    failed_one g.given.header g.given.host g.given.outside g.given.command g.given.past c.args.log.now.items c.all.log.items key c.all.self c.args.ids.now w c.remove.new.self all c.in-Some.ensures.row.0 c.in-Some.ensures.row.1 (sym c.in-Some.ensures.oldest)
+    (record { entry = c.remove.ensures.entry; order = without_keeps w.task.0 c.all.self.waits.rows c.remove.new.self.rows c.remove.ensures.rows }) in
+    let ends = c.in_ok-end_region.ensures in
+    let whole = subst (λ (z : PageKey). IsWhole g.given.header g.given.host (who.Fails z) c.end_region.new.self c.args.ids.now [] (c.end_region.new.log.items ++ g.given.past)) c.requires.0 ends.whole in
+    let then = subst (λ (z : List Event). FailedOne g.given.header g.given.host g.given.outside g.given.command g.given.past c.args.log.now.items z key (record c.all.self { waits = c.remove.new.self }) c.args.ids.now) (sym c.in_ok-push.ensures.ok) one in
+    let now = failed_ended g.given.header g.given.host g.given.outside g.given.command g.given.past c.args.log.now.items c.push.new.self.items c.end_region.new.log.items key (record c.all.self { waits = c.remove.new.self }) c.end_region.new.self c.args.ids.now then whole ends.goes ends.waits ends.pages ends.only in
+    record {
+      works = now.works;
+      fails = now.fails;
+      answered = now.answered;
+      before = now.before;
+      goes = now.goes;
+      plays = plays_both (plays_both was.plays (plays_one g.given.header g.given.past c.all.log.items _ (event.Failed w.task key.object key.page) (paging c.all.self) (paging c.all.self) c.in_ok-push.ensures.ok refl)) ends.plays;
+      each =
+          or_ended key c.args.self.now.waits.rows c.remove.new.self.rows c.end_region.new.self.waits.rows g.given.past c.push.new.self.items c.end_region.new.log.items ends.only (ap (λ z. z.rows) ends.waits)
+          (subst (λ (z : List Event). EndsOr key c.args.self.now.waits.rows c.remove.new.self.rows (z ++ g.given.past)) (sym c.in_ok-push.ensures.ok)
+          (ends_or key w c.args.self.now.waits.rows c.all.self.waits.rows c.remove.new.self.rows (c.all.log.items ++ g.given.past) was.each c.remove.ensures.entry));
+      some =
+          inl
+          (since_goes (fails_access key.object.0 key.page.0) g.given.header g.given.host g.given.outside g.given.command g.given.past c.push.new.self.items c.end_region.new.log.items ends.goes
+          (subst (λ (z : List Event). since (fails_access key.object.0 key.page.0) (z ++ g.given.past) ≡ true) (sym c.in_ok-push.ensures.ok)
+          (since_now key w.task (c.all.log.items ++ g.given.past))));
+      quiet = nobody_both c.args.self.now.waits.queue c.remove.new.self.queue c.end_region.new.self.waits.queue c.args.log.now.items c.push.new.self.items c.end_region.new.log.items
+          (nobody_more c.args.self.now.waits.queue c.all.self.waits.queue c.args.log.now.items c.all.log.items c.push.new.self.items _ was.quiet
+          (quiet_unlisted c.all.self.waits.rows c.all.self.waits.queue c.remove.new.self.queue w c.all.log.items c.push.new.self.items _ c.next_on.ensures.line c.in-Some.ensures.row.0 (page_frame key w.on c.in-Some.ensures.row.1) c.remove.ensures.queue c.in_ok-push.ensures.ok tt).queue
+          c.in_ok-push.ensures.ok tt)
+          (ends_nobody c.remove.new.self c.end_region.new.self.waits c.push.new.self.items c.end_region.new.log.items ends.waits ends.only);
     }
 
 pub returns-clause-ended : goal.returns-clause-ended

@@ -1,4 +1,4 @@
-use Rattle.vm_kernel.proofs.Common.{Asker, FailsNow, IsAnswered, LegalEvents, Plays, RunsNobody, Works, fails_access, length, paging, since, true, ◌++◌, ◌≡◌}
+use Rattle.vm_kernel.proofs.Common.{Asker, FailsNow, IsAnswered, LegalEvents, Plays, RunsNobody, Works, [], fails_access, length, paging, since, true, ◌++◌, ◌≡◌}
 use Rattle.std.proofs.Common.{◌⊎◌}
 use Rattle.vm_supply.specs.declared.woken.Woken.TheVariants as woken
 use Rattle.vm_kernel.proofs.Failing.{EndsBefore, EndsOr}
@@ -19,3 +19,6 @@ invariant-all g l = record {
 
 abbrev pub decreases-all : goal.decreases-all
 decreases-all g l = length l.self.waits.rows
+
+abbrev pub ghost-end_region : goal.ghost-end_region
+ghost-end_region g a = record { header = g.given.header; host = g.given.host; outside = g.given.outside; past = g.given.past; command = g.given.command; who = woken.Fails g.given.page; rest = [] }

@@ -21,7 +21,7 @@ reclaim_but-requires g c =
         c.requires.1.0,
         (
           subst (λ (z : List FrameNo). AreSpared g.given.header g.given.host before (paging k).frame_at z) (sym (skips g c))
-              (are_spared g.given.header g.given.host k c.args.ids.now before c.args.spared c.requires.0.matches c.requires.0.waits c.in_ok-skip.ensures.once c.requires.1.1),
+              (are_spared g.given.header g.given.host k c.args.ids.now before c.args.spared c.requires.0.matches c.requires.0.waits c.requires.0.used.copies c.in_ok-skip.ensures.once c.requires.1.1),
           subst (λ (z : List FrameNo). SkipLocked k.memory.resident z) (sym (skips g c))
               (skips_locked g.given.header g.given.host k c.args.ids.now before c.args.spared c.requires.0.matches c.requires.0.waits),
         ),

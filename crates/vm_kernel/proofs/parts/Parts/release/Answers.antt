@@ -1,5 +1,5 @@
 use Rattle.vm_kernel.proofs.Common.{PutsEntries, Still, arith, by_address, subst, sym, ℕ, ◌-◌, ◌∙◌}
-use Rattle.vm_kernel.proofs.Ends.{ends_less, some_left, sweeps_less, sweeps_next}
+use Rattle.vm_kernel.proofs.Ends.{ends_less, ends_still, some_left, sweeps_less, sweeps_next, sweeps_on}
 use Rattle.vm_kernel.proofs.parts.Parts.release.Goals as goal
 
 pub overflow_sub-count : goal.overflow_sub-count
@@ -34,3 +34,12 @@ returns-else-count-eq1-clause-sweeps g c =
 
 pub returns-else-count-eq1-clause-plays : goal.returns-else-count-eq1-clause-plays
 returns-else-count-eq1-clause-plays g c = Still
+
+pub returns-in_ok-end_region-clause-sweeps : goal.returns-in_ok-end_region-clause-sweeps
+returns-in_ok-end_region-clause-sweeps g c =
+    let now = c.args.self.now in
+    let sweeps = sweeps_next g.given.header g.given.host g.given.outside g.given.command g.given.past now c.args.ids.now (by_address c.args.gone.now) g.given.rest c.args.i c.at.result.now c.args.log.now.items c.at.ensures c.requires.1.0 c.requires.1.1 in
+    sweeps_on sweeps c.in_ok-end_region.ensures.whole c.in_ok-end_region.ensures.goes c.in_ok-end_region.ensures.waits
+
+pub returns-in_ok-end_region-clause-quiet : goal.returns-in_ok-end_region-clause-quiet
+returns-in_ok-end_region-clause-quiet g c = ends_still c.args.self.now.waits c.end_region.new.self.waits c.args.log.now.items c.end_region.new.log.items c.in_ok-end_region.ensures.waits c.in_ok-end_region.ensures.only

@@ -39,9 +39,6 @@ returns-in-Task-clause-restarts g c = on_ok c.make_task.result _ _ (restarts_qui
 pub returns-in-Fork-clause-restarts : goal.returns-in-Fork-clause-restarts
 returns-in-Fork-clause-restarts g c = on_ok c.fork.result _ _ (restarts_quiet g.given.header g.given.host c.fork.new.self.waits.rows g.given.past c.args.self.now.waits.queue c.fork.new.self.waits.queue c.args.log.now.items c.fork.new.log.items c.requires.0.nothing) c.fork.ensures.quiet
 
-pub returns-in-Copy-clause-restarts : goal.returns-in-Copy-clause-restarts
-returns-in-Copy-clause-restarts g c = on_ok c.copy.result _ _ (restarts_quiet g.given.header g.given.host c.copy.new.self.waits.rows g.given.past c.args.self.now.waits.queue c.copy.new.self.waits.queue c.args.log.now.items c.copy.new.log.items c.requires.0.nothing) c.copy.ensures.quiet
-
 pub returns-in-Map-clause-restarts : goal.returns-in-Map-clause-restarts
 returns-in-Map-clause-restarts g c = on_ok c.map.result _ _ (restarts_quiet g.given.header g.given.host c.map.new.self.waits.rows g.given.past c.args.self.now.waits.queue c.map.new.self.waits.queue c.args.log.now.items c.map.new.log.items c.requires.0.nothing) c.map.ensures.quiet
 

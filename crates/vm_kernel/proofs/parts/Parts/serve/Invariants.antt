@@ -1,5 +1,6 @@
 use Rattle.vm_kernel.proofs.Common.{KeepsOthers, LegalEvents, Plays, Rests, claimed, frame_count, paging, queued, ◌*◌, ◌++◌, ◌+◌}
 use Rattle.vm_kernel.proofs.Turning.{Serving}
+use Rattle.vm_kernel.specs.Serving.{pages_to_copy}
 use Rattle.vm_kernel.proofs.parts.Parts.serve.Given as goal
 
 abbrev pub ghost-attempt : goal.ghost-attempt
@@ -18,4 +19,4 @@ invariant-serve g l = record {
 }
 
 abbrev pub decreases-serve : goal.decreases-serve
-decreases-serve g l = queued l.self.waits.rows * (frame_count l.self.memory.frames + 1) + claimed l.self.memory.frames
+decreases-serve g l = queued l.self.waits.rows * (frame_count l.self.memory.frames + 1) + claimed l.self.memory.frames + pages_to_copy l.self.waits.rows

@@ -10,4 +10,4 @@ source-requires g c =
 
 pub returns : goal.returns
 returns g c =
-    to_copy g.given.header g.given.host c.args.self.now c.args.ids.now (c.args.log.now.items ++ g.given.past) woken.Nobody c.in_ok-waiting.waiting.task.0 c.in_ok-waiting.waiting c.source.result c.requires.matches c.requires.waits c.in_ok-waiting.ensures.row.0 c.source.ensures
+    to_copy g.given.header g.given.host c.args.self.now c.args.ids.now (c.args.log.now.items ++ g.given.past) woken.Nobody c.in_ok-waiting.waiting.task.0 c.in_ok-waiting.waiting c.source.result c.requires.matches c.requires.waits c.requires.used.copies c.in_ok-waiting.ensures.row.0 c.source.ensures
