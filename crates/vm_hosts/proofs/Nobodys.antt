@@ -1,5 +1,5 @@
 -- What is no host's leaves all kernels what they stand for.
-use Rattle.vm_hosts.proofs.Common.{AllInner, AllLicensed, AllQueued, AllRest, Code, Command, Down, EachIn, EachOf, EntersNext, Event, HasCause, Header, HostTable, Ids, InRange, IsAbroad, IsCommon, IsNobodys, Licensed, List, Message, None, ObjectKind, Option, Outside, PagerSends, Says, Temp, Up, [], ap, false, inl, inr, just_begun, kind_of, length, next_object, next_region, nobodys_abroad, nobodys_shut, owed, queue_abroad, refl, region_of, rests_abroad, sound_caused, subst, sym, true, ℕ, ◌++◌, ◌∙◌, ◌∷◌, ◌≡◌, ◌≤◌, ◌⊎◌}
+use Rattle.vm_hosts.proofs.Common.{AllInner, AllLicensed, AllQueued, AllRest, Code, Command, Down, EachIn, EachOf, EntersNext, Event, HasCause, Header, HostTable, Ids, InRange, IsAbroad, IsCommon, IsNobodys, Licensed, List, Message, None, ObjectKind, Outside, PagerSends, Says, Temp, Up, [], ap, false, inl, inr, just_begun, kind_of, length, next_object, next_region, nobodys_abroad, nobodys_shut, owed, queue_abroad, refl, region_of, rests_abroad, sound_caused, subst, sym, true, ℕ, ◌++◌, ◌∙◌, ◌∷◌, ◌≡◌, ◌≤◌, ◌⊎◌}
 use Rattle.vm_legal.proofs.Owing.{behind_none}
 use Rattle.vm_model.specs.declared.event.Event.TheVariants as event
 use Rattle.vm_model.specs.declared.message.Message.TheVariants as message

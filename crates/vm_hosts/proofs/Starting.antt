@@ -1,7 +1,5 @@
 -- A command's step.
 use Rattle.vm_hosts.proofs.Common.{AllRest, Began, Command, Event, Header, Heads, HostTable, Ids, InRange, IsDone, IsLined, List, None, Outside, Parts, Ran, Starts, Went, [], acts_on, ap, done_more, kernel_runs, length, paid_of, refl, refusal, subst, sym, true, ℕ, ◌++◌, ◌<◌, ◌∙◌, ◌≡◌}
-use Rattle.std.specs.Prelude.{IsSome}
-use Rattle.vm_legal.specs.Follows.{head}
 use Rattle.vm_hosts.proofs.Acting.{Acts, acting_rests, acting_stretch, makes_all}
 use Rattle.vm_hosts.proofs.Stretches.{heads_more}
 use Rattle.vm_hosts.proofs.Tables.{Found, all_suffice, common_all, put}
@@ -27,14 +25,13 @@ module _ (header : Header) (outside : Outside) (doing : Command) (past events : 
 
 -- a kernel may run the command
 pub starts_of : (header : Header) (doing : Command) (past : List Event) (hosts : HostTable) (h : ℕ) (k : Parts) → Found header hosts past h k → acts_on h doing past ≡ true → InRange header doing → refusal header past doing ≡ None
-    → IsLined past → IsSome (head header past doing) → Starts header k.host.0 doing past k hosts.ids []
-starts_of header doing past hosts h k found acts range accepted begins built =
+    → IsLined past → Starts header k.host.0 doing past k hosts.ids []
+starts_of header doing past hosts h k found acts range accepted begins =
     record {
       rests = found.rests;
       acts = ap (λ (z : ℕ). acts_on z doing past) found.number ∙ acts;
       range = range;
       accepted = accepted;
-      built = built;
       begins = begins;
       nothing = refl;
     }

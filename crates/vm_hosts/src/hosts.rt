@@ -1,5 +1,5 @@
 // The kernels of all hosts.
-ghost use Rattle.std.specs.Prelude.{◌≡◌, ◌<◌, ◌∷◌, ◌++◌, [], length, true, false, None, Some, IfOk, OnOk, IsSome, MatchOption, is_none, is_some, option_map};
+ghost use Rattle.std.specs.Prelude.{◌≡◌, ◌<◌, ◌∷◌, ◌++◌, [], length, true, false, None, Some, IfOk, OnOk, MatchOption, is_some, option_map};
 ghost use Rattle.vm_base.specs.declared.code.Code.TheVariants as code;
 ghost use Rattle.vm_base.specs.declared.ids.HostId.{HostId};
 ghost use Rattle.vm_model.specs.declared.event.Event.TheVariants as event;
@@ -9,7 +9,6 @@ ghost use Rattle.vm_model.specs.Ranges.{InRange};
 ghost use Rattle.vm_model.specs.Tasks.{host_of};
 ghost use Rattle.vm_model.specs.Waiting.{waiting};
 ghost use Rattle.vm_legal.specs.Licences.{Licensed};
-ghost use Rattle.vm_legal.specs.Follows.{head};
 ghost use Rattle.vm_legal.specs.Refusal.{is_elsewhere, refusal};
 ghost use Rattle.vm_kernel.specs.Begun.{IsLined, targets_here};
 ghost use Rattle.vm_kernel.specs.Built.{kernel_runs};
@@ -75,7 +74,6 @@ impl Hosts {
         requires range { InRange given.header command.now }
         requires built { kernel_runs command.now ≡ true }
         requires accepted { refusal given.header given.past command.now ≡ None }
-        requires head { IsSome (head given.header given.past command.now) }
         requires begins { IsLined given.past }
         ensures began { IfOk result (λ events. Began given.header given.outside command.now given.past self.new events.items) }
     {
@@ -199,21 +197,6 @@ impl Hosts {
         }
         let elsewhere = self.maps_elsewhere(host, command);
         self.kernels[host.0 as usize].refusal(command, &self.ids, elsewhere)
-    }
-
-    /// Whether a command that isn't refused copies from an entry on a declared object, which isn't built.
-    pub fn copies_declared(&self, command: &Command) -> bool
-        ghost given: { Step }
-        requires rests { AllRest given.header self.now given.past }
-        requires range { InRange given.header command.now }
-        requires built { kernel_runs command.now ≡ true }
-        requires accepted { refusal given.header given.past command.now ≡ None }
-        ensures { result ≡ is_none (head given.header given.past command.now) }
-    {
-        let Some(host) = self.host_for(command) else {
-            unreachable!()
-        };
-        self.kernels[host.0 as usize].copies_declared(command)
     }
 
     /// Whether a control of an object lives on a host.

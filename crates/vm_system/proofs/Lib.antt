@@ -11,7 +11,6 @@ pub mod Filing
 pub mod Flattened
 pub mod Following
 pub mod Growth
-pub mod Headed
 pub mod Hearing
 pub mod Homes
 pub mod Lawfulness

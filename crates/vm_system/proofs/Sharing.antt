@@ -1,8 +1,8 @@
 -- What the laws of shared memory say of a system's history, and of the server that stands for it.
-use Rattle.vm_system.proofs.Common.{AllSupplied, BeforeSteps, Bool, EachEvent, EachMoment, Event, HasCause, HasOneWriter, Header, IsPaid, List, MeetsProtocol, Message, ObjectId, Outside, OwnBytes, [], arith, false, is_shared, kind_of, named, nat_lt, nat_tests, never, page_part, queue, refl, subst, sym, true, up, up_word, ℕ, ◌&&◌, ◌∷◌, ◌≡◌, ◌<◌, ◌||◌, first, if◌then◌else◌, AllServed, ◌==◌}
+use Rattle.vm_system.proofs.Common.{AllSupplied, BeforeSteps, Bool, EachEvent, EachMoment, Event, HasCause, HasOneWriter, Header, IsPaid, List, MeetsProtocol, Message, ObjectId, Outside, OwnBytes, [], arith, false, is_shared, named, nat_lt, nat_tests, never, page_part, queue, refl, subst, sym, true, up, up_word, ℕ, ◌&&◌, ◌∷◌, ◌≡◌, ◌||◌, first, if◌then◌else◌, AllServed, ◌==◌}
 use Rattle.vm_base.specs.declared.ids.ObjectKind.{ObjectKind}
 use Rattle.vm_base.specs.declared.ids.ObjectKind.TheVariants as kinds
-use Rattle.vm_legal.specs.Outside.{is_file_kept, is_file_kind, is_shared_kind, is_wild, is_wild_kind, kind_in}
+use Rattle.vm_legal.specs.Outside.{is_file_kept, is_file_kind, is_shared_kind, kind_in}
 use Rattle.vm_model.specs.Named.{declared}
 use Rattle.vm_model.specs.declared.script.Declared.{Declared}
 use Rattle.std.proofs.Common.{Option, Some, None}
@@ -13,28 +13,21 @@ use Rattle.vm_shared.proofs.Pages.{one_writer}
 use Rattle.vm_shared.proofs.Protocol.{completed_mine, ended_mine, request_alone, unlock_alone}
 use Rattle.vm_shared.specs.Kinds.{NoneIsTemporary}
 
--- a declared object that is a file or a shared one is neither temporary nor wild
-
-known_kind : (header : Header) (o : ℕ) → AllSupplied header → o < named header → (kind_of header o ≡ kinds.Temp → ⊥) × (is_wild header o ≡ false)
-known_kind header o supplied below = by (nat_lt o (named header)) (declared header o) (grind (arith, nat_tests)) (supplied o below)
+-- a declared object that is a file or a shared one is no temporary one
+pub none_temporary : (header : Header) → AllSupplied header → NoneIsTemporary header
+none_temporary header supplied o below = by (nat_lt o (named header)) (declared header o) (grind (arith, nat_tests)) (supplied o below)
   where
-    at : (kind : ObjectKind) → is_file_kind kind || is_shared_kind kind ≡ true → (kind ≡ kinds.Temp → ⊥) × (is_wild_kind kind ≡ false)
+    at : (kind : ObjectKind) → is_file_kind kind || is_shared_kind kind ≡ true → kind ≡ kinds.Temp → ⊥
     at kinds.Temp is = never is
-    at kinds.File is = (λ same. absurd (cc), refl)
-    at kinds.Shared is = (λ same. absurd (cc), refl)
+    at kinds.File is = λ same. absurd (cc)
+    at kinds.Shared is = λ same. absurd (cc)
     at kinds.Wild is = never is
 
     by : (b : Bool) (row : Option Declared) → b ≡ true → (b && is_file_kept row) || is_shared_kind (if b then kind_in row else kinds.Temp) ≡ true
-        → ((if b then kind_in row else kinds.Temp) ≡ kinds.Temp → ⊥) × (is_wild_kind (if b then kind_in row else kinds.Temp) ≡ false)
+        → (if b then kind_in row else kinds.Temp) ≡ kinds.Temp → ⊥
     by true None low is = never is
     by true (Some object) low is = at object.kind is
     by false row low is = never low
-
-pub none_temporary : (header : Header) → AllSupplied header → NoneIsTemporary header
-none_temporary header supplied o below = (known_kind header o supplied below).0
-
-pub tame : (header : Header) (o : ℕ) → AllSupplied header → o < named header → is_wild header o ≡ false
-tame header o supplied below = (known_kind header o supplied below).1
 
 -- a shared page has one writer at every moment
 pub writers : (header : Header) (outside : Outside) (history : List Event) → EachEvent (HasCause header outside) history → EachEvent (OwnBytes header) history → EachMoment (HasOneWriter header) history

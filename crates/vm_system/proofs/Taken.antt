@@ -1,5 +1,5 @@
 -- A message is taken: what stands in front of that, and its cause.
-use Rattle.vm_system.proofs.Common.{AllFilesServe, AllInner, AllLicensed, AllQueued, AllRest, AllServe, AllServed, AreSame, Bool, Channel, ChannelId, Command, Device, Down, EachIn, EachOf, Event, FileTable, FilesCarry, FramesSuffice, Gives, Header, HostTable, IfSome, IsConsequence, IsSupplied, IsOrderly, IsPaid, Lawful, Letter, Licensed, List, MatchOption, MayTake, MayTakeFrom, Message, MomentsIn, None, Option, Outside, OwnBytes, ReturnsOn, ServerStands, ServerTable, SlotTable, Some, State, Step, TakesStep, Told, Up, [], all_lined, all_suffice, ap, arith, change_where, channel_number, content_of, devices, each_both, false, first, frames_after, frames_held, frames_used, if◌then◌else◌, is_channel, is_control, length, licensed_both, lined, live_control, local, messages_on, moments_both, nat_tests, owed, queue, queue_is, queued_lined, refl, reverse, same_channel, slice_get, subst, suc, sym, taken_down_change, taken_up_change, true, undelivered, zero, ℕ, ◌++◌, ◌<◌, ◌∙◌, ◌∷◌, ◌≡◌, ◌≤◌}
+use Rattle.vm_system.proofs.Common.{AllFilesServe, AllInner, AllLicensed, AllQueued, AllRest, AllServe, AllServed, AreSame, Bool, Channel, ChannelId, Command, Device, Down, EachIn, Event, FileTable, FilesCarry, FramesSuffice, Gives, Header, HostTable, IfSome, IsConsequence, IsSupplied, IsOrderly, IsPaid, Lawful, Letter, Licensed, List, MayTake, MayTakeFrom, Message, MomentsIn, None, Option, Outside, OwnBytes, ServerStands, ServerTable, SlotTable, Some, State, Step, TakesStep, Told, Up, [], all_lined, all_suffice, ap, arith, change_where, channel_number, content_of, devices, each_both, false, first, frames_after, frames_held, frames_used, if◌then◌else◌, is_channel, is_control, length, licensed_both, lined, live_control, local, messages_on, moments_both, nat_tests, owed, queue, queue_is, queued_lined, refl, reverse, same_channel, slice_get, subst, suc, sym, taken_down_change, taken_up_change, true, undelivered, zero, ℕ, ◌++◌, ◌<◌, ◌∙◌, ◌∷◌, ◌≡◌, ◌≤◌}
 use Rattle.vm_legal.proofs.Owing.{behind_none}
 use Rattle.std.proofs.Common.{◌==◌, ◌&&◌}
 use Rattle.vm_model.specs.declared.event.Event.TheVariants as event

@@ -13,7 +13,7 @@ use Rattle.vm_legal.specs.Follows.{IsConsequence}
 use Rattle.vm_legal.specs.Frames.{FramesSuffice}
 use Rattle.vm_legal.specs.Licences.{AllLicensed, MayTake}
 use Rattle.vm_legal.specs.Prompt.{AllServed, Prompt}
-use Rattle.vm_legal.specs.Stretches.{AllInner, EachIn, EachOf, MomentsIn}
+use Rattle.vm_legal.specs.Stretches.{AllInner, EachIn, MomentsIn}
 use Rattle.vm_hosts.specs.Hosts.{AllRest}
 use Rattle.vm_hosts.specs.Steps.{EventsFollow, Going, PagerStep, Step}
 use Rattle.vm_system.specs.Channels.{channel_number}

@@ -1,9 +1,8 @@
 // Why a command is refused.
-ghost use Rattle.std.specs.Prelude.{◌≡◌, ◌<◌, ◌&&◌, true, is_none, length, None, Some};
+ghost use Rattle.std.specs.Prelude.{◌≡◌, ◌<◌, true, length, None, Some};
 ghost use Rattle.vm_model.specs.declared.command.Command.TheVariants as command;
 ghost use Rattle.vm_model.specs.declared.message.Message.{Message as Word};
 ghost use Rattle.vm_model.specs.Ranges.{InRange};
-ghost use Rattle.vm_legal.specs.Follows.{head};
 ghost use Rattle.vm_legal.specs.Refusal.{refusal};
 ghost use Rattle.vm_model.specs.Named.{named};
 ghost use Rattle.vm_system.specs.Refusing.{channel_code, clean_code};
@@ -67,22 +66,6 @@ impl State {
             Code::InvalidArgument
         } else {
             Code::NoSuchName
-        }
-    }
-
-    // Whether a command that isn't refused copies from an entry on a declared object, which isn't built.
-    pub fn copies_declared(&self, command: &Command) -> bool
-        ghost given: { Step }
-        requires stands { SystemStands given.header given.outside self.now }
-        requires past { given.past ≡ self.now.history.items }
-        requires range { InRange given.header command.now }
-        ensures { result ≡ (is_none (refusal given.header self.now.history.items command.now) && is_none (head given.header self.now.history.items command.now)) }
-    {
-        match command {
-            Command::Copy { .. } => {
-                self.refusal(command).is_none() && self.hosts.copies_declared(command)
-            }
-            _ => false,
         }
     }
 

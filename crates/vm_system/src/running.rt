@@ -1,5 +1,5 @@
 // Steps of commands that take no message.
-ghost use Rattle.std.specs.Prelude.{◌≡◌, ◌∷◌, ◌++◌, ℕ, List, None, Some, OnOk, OnErr, true, false, [], IfOk, IsSome};
+ghost use Rattle.std.specs.Prelude.{◌≡◌, ◌∷◌, ◌++◌, ℕ, List, None, Some, OnOk, OnErr, true, false, [], IfOk};
 ghost use Rattle.vm_base.specs.declared.code.Code.{Code};
 ghost use Rattle.vm_model.specs.declared.command.Numbered.{Numbered};
 ghost use Rattle.vm_model.specs.declared.event.Event.TheVariants as event;
@@ -27,7 +27,6 @@ impl State {
         requires range { InRange given.header command.now }
         requires run { is_run command.now ≡ true }
         requires accepted { refusal given.header self.old.history.items command.now ≡ None }
-        requires head { IsSome (head given.header given.past command.now) }
         ensures made { OnOk result (Makes given.header given.outside (record { line = line; command = command.now }) self.old self.new) }
         ensures spares { Spares given.header given.outside self.old self.new }
         ensures err { OnErr result (self.new.history.items ≡ self.old.history.items) }

@@ -1,11 +1,10 @@
 // One command's step.
-ghost use Rattle.std.specs.Prelude.{◌≡◌, ◌∷◌, ℕ, List, false, true, None, Some, IsSome, OnErr, OnOk};
+ghost use Rattle.std.specs.Prelude.{◌≡◌, ◌∷◌, ℕ, List, false, true, None, Some, OnErr, OnOk};
 ghost use Rattle.vm_model.specs.Moments.{before_last_line};
 ghost use Rattle.vm_model.specs.Ranges.{InRange};
 ghost use Rattle.vm_model.specs.declared.event.Device.TheVariants as device;
 ghost use Rattle.vm_outside.specs.Areas.{Told};
 ghost use Rattle.vm_system.specs.Keeping.{FilesCarry};
-ghost use Rattle.vm_legal.specs.Follows.{head};
 ghost use Rattle.vm_legal.specs.Refusal.{refusal};
 ghost use Rattle.vm_model.specs.declared.message.Channel.{Channel};
 ghost use Rattle.vm_model.specs.declared.command.Command.TheVariants as command;
@@ -34,7 +33,6 @@ impl State {
         requires kept { PagingIsKept given.header given.outside (P.area paging.old.inner) self.old }
         requires files { FilesAreKept given.header given.outside (F.area files.old.inner) self.old }
         requires range { InRange given.header command.now }
-        requires head { refusal given.header self.old.history.items command.now ≡ None → IsSome (head given.header self.old.history.items command.now) }
         ensures made { OnOk result (Makes given.header given.outside (record { line = line; command = command.now }) self.old self.new) }
         ensures grew { GrowsWithinLimit self.old.history.items self.new.history.items }
         ensures memory { OnErr result (MayCut given.header given.outside (record { line = line; command = command.now }) self.old.history.items self.new.history.items) }

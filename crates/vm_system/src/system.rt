@@ -1,5 +1,5 @@
 // The whole system.
-ghost use Rattle.std.specs.Prelude.{◌≡◌, ◌≢◌, ◌+◌, ◌≤◌, ◌<◌, ◌↔◌, ◌⊎◌, ◌&&◌, ◌^◌, ◌∷◌, ℕ, List, [], true, false, None, Ok, Some, IfOk, IsErrOf, IsOkAnd, IsSome, IsTrue, OnOk, OnErr, is_none, length, nat_le, reverse};
+ghost use Rattle.std.specs.Prelude.{◌≡◌, ◌≢◌, ◌+◌, ◌≤◌, ◌<◌, ◌↔◌, ◌⊎◌, ◌^◌, ◌∷◌, ℕ, List, [], true, false, None, Ok, Some, IfOk, IsErrOf, IsOkAnd, IsTrue, OnOk, OnErr, length, nat_le, reverse};
 ghost use Rattle.vm_base.specs.Limits.{most_slots};
 ghost use Rattle.vm_base.specs.declared.code.Code.{Code};
 ghost use Rattle.vm_model.specs.Limits.{most_events};
@@ -16,7 +16,6 @@ ghost use Rattle.vm_model.specs.declared.event.Event.TheVariants as event;
 ghost use Rattle.vm_legal.specs.Steps.{before_step, takings};
 ghost use Rattle.vm_model.specs.Moments.{before_last_line};
 ghost use Rattle.vm_kernel.specs.Matches.{IsRanged};
-ghost use Rattle.vm_legal.specs.Follows.{head};
 ghost use Rattle.vm_model.specs.Named.{named};
 ghost use Rattle.vm_hosts.specs.Steps.{Step};
 ghost use Rattle.vm_system.specs.Stands.{AllFilesServe, AllTold, AreEmpty, AreNumbered, FilesAreKept, IsSupplied, PagingIsKept, SystemStands};
@@ -95,17 +94,6 @@ impl System {
         self.state.refusal(command)
     }
 
-    /// Whether a command that isn't refused copies from an entry on a declared object, which isn't built. It
-    /// takes no memory.
-    pub fn copies_declared(&self, command: &Command) -> bool
-        ghost given: { Setting }
-        requires stands { SystemStands given.header given.outside self.now }
-        requires range { InRange given.header command.now }
-        ensures { result ≡ (is_none (refusal given.header self.now.history.items command.now) && is_none (head given.header self.now.history.items command.now)) }
-    {
-        self.state.copies_declared(command)
-    }
-
     /// Makes one command's step, and gives the number of events that it added; of a `settle` that
     /// is its line alone.
     ///
@@ -123,7 +111,6 @@ impl System {
         requires kept { PagingIsKept given.header given.outside (P.area paging.old.inner) self.old }
         requires files { FilesAreKept given.header given.outside (F.area files.old.inner) self.old }
         requires range { InRange given.header command.now }
-        requires head { refusal given.header self.old.history.items command.now ≡ None → IsSome (head given.header self.old.history.items command.now) }
         ensures stands { OnOk result (SystemStands given.header given.outside self.new) }
         ensures legal { OnOk result (KeepsLegal given.header given.outside (record { line = line; command = command.now }) self.old.history.items self.new.history.items) }
         ensures count { IfOk result (λ n. length self.new.history.items ≡ length self.old.history.items + n) }

@@ -61,7 +61,7 @@ none_legal script outside = record {
 }
 
 -- a run that was made of a part is legal as far as it goes
-pub part_so_far : (script : Script) (outside : Outside) (later run : List Numbered) (h : List Event) → IsPart script outside later run h → LegalSoFar script outside h
+part_so_far : (script : Script) (outside : Outside) (later run : List Numbered) (h : List Event) → IsPart script outside later run h → LegalSoFar script outside h
 part_so_far script outside later run h part = record {
   later = later;
   run = run;

@@ -12,7 +12,7 @@ use Rattle.vm_model.specs.declared.fault.ScriptFault.TheVariants as fault
 use Rattle.vm_model.specs.declared.script.Declared.{Declared}
 use Rattle.vm_model.specs.declared.script.Header.{Header}
 use Rattle.vm_model.specs.declared.script.Script.{Script}
-use Rattle.vm_model.specs.Named.{declared, named}
+use Rattle.vm_model.specs.Named.{named}
 use Rattle.vm_model.proofs.Names.{each_declared, named_once}
 use Rattle.vm_base.specs.declared.ids.ObjectKind.{ObjectKind}
 use Rattle.vm_base.specs.declared.ids.ObjectKind.TheVariants as kinds
@@ -25,17 +25,17 @@ use Rattle.vm_top.specs.declared.top.Status.{Status}
 use Rattle.vm_top.specs.declared.top.Status.TheVariants as status
 use Rattle.vm_top.specs.declared.words.Report.{Report}
 use Rattle.vm_top.specs.declared.words.Report.TheVariants as reports
-use Rattle.vm_top.specs.Ending.{EndsAs, RunHasEnded, Tells, WroteStuck, status_after}
+use Rattle.vm_top.specs.Ending.{EndsAs, RunHasEnded, Tells, status_after}
 use Rattle.vm_top.specs.Reading.{ReadWhole}
-use Rattle.vm_top.specs.Run.{CutIn, IsOutOfEvents, IsRunnable, IsStuck, IsWholeRun, report_text}
+use Rattle.vm_top.specs.Run.{CutIn, IsOutOfEvents, IsRunnable, IsWholeRun, report_text}
 use Rattle.vm_legal.specs.Legal.{LegalSoFar}
 use Rattle.vm_legal.specs.Outside.{Outside, is_file_kind, is_shared_kind}
 use Rattle.vm_quiet.specs.Quiet.{AllSupplied}
 use Rattle.vm_legal.proofs.Groups.{cut_of}
-use Rattle.vm_top.specs.Top.{IsBad, IsReadFrom, IsBadFrom, IsUnbuiltFrom, IsHeaderBuilt, NothingRun, IsRunDone, IsEventLimit, IsStopped, IsNotBuilt, IsOutputFault, IsNoMemory, WroteFailed, WroteStopped, bad_text, not_built_text, stopped_text}
+use Rattle.vm_top.specs.Top.{IsBad, IsReadFrom, IsBadFrom, IsUnbuiltFrom, IsHeaderBuilt, NothingRun, IsRunDone, IsEventLimit, IsStopped, IsNotBuilt, IsOutputFault, IsNoMemory, WroteFailed, WroteStopped, bad_text, not_built_text}
 use Rattle.vm_top.specs.Writing.{WroteStart}
 use Rattle.vm_top.proofs.Keeping.{file_below}
-use Rattle.vm_top.proofs.Closing.{full_so_far, none_legal, part_so_far, whole_so_far}
+use Rattle.vm_top.proofs.Closing.{full_so_far, whole_so_far}
 use Rattle.vm_top.proofs.Readings.{no_longer}
 use Rattle.vm_top.proofs.Writings.{start_all}
 
@@ -91,19 +91,6 @@ ready_of told after bytes first second script read one spells two none built =
       header = record { lines = unbuilt_from told after bytes (whole_script script) None read same (ap unbuilt_of (sym two) ∙ sym none); built = built (ap script_of (two ∙ sym one) ∙ spells) };
     }
 
-stuck_stops : (told : Option (List ℕ)) (run : Script) (outside : Header → Outside) (script : Option Script) (h : List Event) (line : ℕ) → IsReady told run → script ≡ Some run → IsStuck run (outside run.header) line h
-    → IsStopped told outside line script h
-stuck_stops told run outside script h line ready held stuck = record {
-  run = run;
-  held = record { held = held; read = ready.read };
-  stops = inr (ready.header, stuck);
-  legal = part_so_far run (outside run.header) _ _ h stuck.part;
-}
-
-stuck_wrote : (told : Option (List ℕ)) (run : Script) (outside : Header → Outside) (script : Option Script) (h : List Event) (before after : Option (List ℕ)) → IsReady told run → script ≡ Some run → WroteStuck run (outside run.header) h before after
-    → WroteStopped told outside script h before after
-stuck_wrote told run outside script h before after ready held wrote = (wrote.0, stuck_stops told run outside script h wrote.0 ready held wrote.1, wrote.2)
-
 pub done_of : (told before after : Option (List ℕ)) (outside : Header → Outside) (report : Report) (run : Script) (script : Option Script) (h : List Event) (s : Status)
     → IsReady told run → RunHasEnded report run (outside run.header) script h before after s → s ≡ status.Done → IsRunDone told outside report script h before after
 done_of told before after outside report run script h s ready has is =
@@ -116,25 +103,17 @@ full_of told before after outside report run script h s ready has is =
     let ends = subst (EndsAs report run (outside run.header) h before after) is has.ends in
     record { run = run; held = record { held = has.held; read = ready.read }; header = ready.header; full = ends.0; written = ends.1 }
 
-pub not_built_of : (told before after : Option (List ℕ)) (outside : Header → Outside) (report : Report) (run : Script) (script : Option Script) (h : List Event) (s : Status) (line : ℕ)
-    → IsReady told run → RunHasEnded report run (outside run.header) script h before after s → s ≡ status.NotBuilt line → IsNotBuilt told outside line script h before after
-not_built_of told before after outside report run script h s line ready has is =
-    let ends = subst (EndsAs report run (outside run.header) h before after) is has.ends in
-    record { stopped = stuck_stops told run outside script h line ready has.held ends.0; written = ends.1 }
-
 pub output_of : (told before after : Option (List ℕ)) (outside : Header → Outside) (report : Report) (run : Script) (script : Option Script) (h : List Event) (s : Status)
     → IsReady told run → RunHasEnded report run (outside run.header) script h before after s → s ≡ status.OutputFault → IsOutputFault told outside report script h before after
-output_of told before after outside report run script h s ready has is = elim (subst (EndsAs report run (outside run.header) h before after) is has.ends) [
-  | inl failed ↦ inl (record { run = run; held = record { held = has.held; read = ready.read }; header = ready.header; failed = failed })
-  | inr stuck ↦ inr (inl (stuck_wrote told run outside script h before after ready has.held stuck))
-]
+output_of told before after outside report run script h s ready has is =
+    let ends = subst (EndsAs report run (outside run.header) h before after) is has.ends in
+    inl (record { run = run; held = record { held = has.held; read = ready.read }; header = ready.header; failed = ends })
 
 pub memory_of : (told before after : Option (List ℕ)) (outside : Header → Outside) (report : Report) (run : Script) (script : Option Script) (h : List Event) (s : Status)
     → IsReady told run → RunHasEnded report run (outside run.header) script h before after s → s ≡ status.NoMemory → IsNoMemory told outside report script h before after
-memory_of told before after outside report run script h s ready has is = elim (subst (EndsAs report run (outside run.header) h before after) is has.ends) [
-  | inl cut ↦ inr (inl (record { run = run; held = record { held = has.held; read = ready.read }; header = ready.header; cut = cut.0 }, cut.1))
-  | inr stuck ↦ inr (inr (inl (stuck_wrote told run outside script h before after ready has.held stuck)))
-]
+memory_of told before after outside report run script h s ready has is =
+    let ends = subst (EndsAs report run (outside run.header) h before after) is has.ends in
+    inr (inl (record { run = run; held = record { held = has.held; read = ready.read }; header = ready.header; cut = ends.0 }, ends.1))
 
 -- the first fault was told
 pub bad_of : (told before after : Option (List ℕ)) (line named : ℕ) (kind other : ScriptFault) (script : Option Script) (h : List Event) (s : Status) → NothingRun script h → IsBadFrom told line kind
@@ -160,38 +139,30 @@ never_read report run outside script h before after s has is = subst (EndsAs rep
 pub never_bad : (report : Report) (run : Script) (outside : Outside) (script : Option Script) (h : List Event) (before after : Option (List ℕ)) (s : Status) (line : ℕ) (kind : ScriptFault) → RunHasEnded report run outside script h before after s → s ≡ status.BadScript line kind → ⊥
 never_bad report run outside script h before after s line kind has is = subst (EndsAs report run outside h before after) is has.ends
 
+pub never_unbuilt : (report : Report) (run : Script) (outside : Outside) (script : Option Script) (h : List Event) (before after : Option (List ℕ)) (s : Status) (line : ℕ) → RunHasEnded report run outside script h before after s → s ≡ status.NotBuilt line → ⊥
+never_unbuilt report run outside script h before after s line has is = subst (EndsAs report run outside h before after) is has.ends
+
 -- a script was read whose header has a line that isn't built
-pub header_stops : (told : Option (List ℕ)) (run : Script) (outside : Header → Outside) (script : Option Script) (h : List Event) (line : ℕ) → IsReadFrom told run → IsUnbuiltFrom told (Some line) → script ≡ Some run → h ≡ []
-    → IsStopped told outside line script h
-header_stops told run outside script h line read unbuilt held empty = record {
-  run = run;
-  held = record { held = held; read = read };
-  stops = inl (unbuilt, empty);
-  legal = rw empty (none_legal run (outside run.header));
-}
+pub header_stops : (told : Option (List ℕ)) (run : Script) (script : Option Script) (h : List Event) (line : ℕ) → IsReadFrom told run → IsUnbuiltFrom told (Some line) → script ≡ Some run → h ≡ [] → IsStopped told line script h
+header_stops told run script h line read unbuilt held empty = record { run = run; held = record { held = held; read = read }; unbuilt = unbuilt; empty = empty }
 
 -- whatever telling a text ends with, a first part of it was written
 pub tells_start : (told status : Status) (text : List ℕ) (before after : Option (List ℕ)) → Tells told text before after status → WroteStart before after text
 tells_start told status text before after (inl wrote) = start_all before after text wrote.1
 tells_start told status text before after (inr wrote) = wrote.1
 
--- nothing was run, so the text of the run is that of the line
-header_text : (h : List Event) (line : ℕ) → h ≡ [] → not_built_text line ≡ stopped_text h line
-header_text h line empty = rw empty refl
-
-pub header_not_built : (told : Option (List ℕ)) (outside : Header → Outside) (script : Option Script) (h : List Event) (line named : ℕ) (before after : Option (List ℕ)) (s : Status)
-    → IsStopped told outside line script h → h ≡ [] → Tells (status.NotBuilt line) (not_built_text line) before after s → s ≡ status.NotBuilt named → IsNotBuilt told outside named script h before after
-header_not_built told outside script h line named before after s stopped empty (inl wrote) is =
+-- the line that isn't built was told
+pub header_not_built : (told : Option (List ℕ)) (script : Option Script) (h : List Event) (line named : ℕ) (before after : Option (List ℕ)) (s : Status)
+    → IsStopped told line script h → Tells (status.NotBuilt line) (not_built_text line) before after s → s ≡ status.NotBuilt named → IsNotBuilt told named script h before after
+header_not_built told script h line named before after s stopped (inl wrote) is =
     let same : line ≡ named = cc in
-    subst (λ z. IsNotBuilt told outside z script h before after) same (record { stopped = stopped; written = subst (Appends before after) (header_text h line empty) wrote.1 })
-header_not_built told outside script h line named before after s stopped empty (inr (inl failed, wrote)) is = absurd (cc)
-header_not_built told outside script h line named before after s stopped empty (inr (inr none, wrote)) is = absurd (cc)
+    subst (λ z. IsNotBuilt told z script h before after) same (record { stopped = stopped; written = wrote.1 })
+header_not_built told script h line named before after s stopped (inr (inl failed, wrote)) is = absurd (cc)
+header_not_built told script h line named before after s stopped (inr (inr none, wrote)) is = absurd (cc)
 
-pub header_wrote : (told : Option (List ℕ)) (outside : Header → Outside) (script : Option Script) (h : List Event) (line : ℕ) (before after : Option (List ℕ)) (s : Status)
-    → IsStopped told outside line script h → h ≡ [] → Tells (status.NotBuilt line) (not_built_text line) before after s → WroteStopped told outside script h before after
-header_wrote told outside script h line before after s stopped empty tells =
-    let start = tells_start (status.NotBuilt line) s (not_built_text line) before after tells in
-    (line, stopped, (start.0, rw (← header_text h line empty) start.1))
+pub header_wrote : (told : Option (List ℕ)) (script : Option Script) (h : List Event) (line : ℕ) (before after : Option (List ℕ)) (s : Status)
+    → IsStopped told line script h → Tells (status.NotBuilt line) (not_built_text line) before after s → WroteStopped told script h before after
+header_wrote told script h line before after s stopped tells = (line, stopped, tells_start (status.NotBuilt line) s (not_built_text line) before after tells)
 
 -- a script that keeps its ranges and has one host, and whose objects are files, can be run
 -- an object of such a kind is a file or a shared one, and no temporary one
@@ -245,8 +216,8 @@ pub done_ends : (report : Report) (run : Script) (outside : Outside) (h : List E
     → (IsErrOf wrote stop.NoMemory → WroteStart start after (report_text report h)) → EndsAs report run outside h start after (status_after wrote status.Done)
 done_ends report run outside h start after (Ok done) whole written failed memory = (whole, written)
 done_ends report run outside h start after (Err stop.Failed) whole written failed memory =
-    inl (summary_failed report run outside h start after (whole_so_far run outside h whole) (failed refl))
-done_ends report run outside h start after (Err stop.NoMemory) whole written failed memory = inl (uncut run outside h (whole_so_far run outside h whole), memory refl)
+    summary_failed report run outside h start after (whole_so_far run outside h whole) (failed refl)
+done_ends report run outside h start after (Err stop.NoMemory) whole written failed memory = (uncut run outside h (whole_so_far run outside h whole), memory refl)
 
 -- and of a run that came to a full history
 pub full_ends : (report : Report) (run : Script) (outside : Outside) (h : List Event) (start after : Option (List ℕ)) (wrote : Result (Unit {0}) WriteStop) → IsOutOfEvents run outside h
@@ -254,5 +225,5 @@ pub full_ends : (report : Report) (run : Script) (outside : Outside) (h : List E
     → (IsErrOf wrote stop.NoMemory → WroteStart start after (report_text report h)) → EndsAs report run outside h start after (status_after wrote status.EventLimit)
 full_ends report run outside h start after (Ok done) full written failed memory = (full, written)
 full_ends report run outside h start after (Err stop.Failed) full written failed memory =
-    inl (summary_failed report run outside h start after (full_so_far run outside h full) (failed refl))
-full_ends report run outside h start after (Err stop.NoMemory) full written failed memory = inl (uncut run outside h (full_so_far run outside h full), memory refl)
+    summary_failed report run outside h start after (full_so_far run outside h full) (failed refl)
+full_ends report run outside h start after (Err stop.NoMemory) full written failed memory = (uncut run outside h (full_so_far run outside h full), memory refl)

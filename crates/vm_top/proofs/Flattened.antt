@@ -1,15 +1,12 @@
 -- However a run ended, its history is legal but that the last step may be cut; so the files hold the flat map.
-use Rattle.std.proofs.Common.{◌≡◌, ℕ, inl, inr, List, [], ◌∷◌, refl, subst, sym, Some, None, Option}
-use Rattle.std.specs.Prelude.{◌≢◌}
+use Rattle.std.proofs.Common.{◌≡◌, ℕ, List, [], refl, subst, sym, Some, Option}
 use Rattle.vm_model.specs.declared.command.Numbered.{Numbered}
 use Rattle.vm_model.specs.declared.event.Event.{Event}
-use Rattle.vm_model.specs.declared.script.Header.{Header}
 use Rattle.vm_model.specs.declared.script.Script.{Script}
 use Rattle.vm_legal.proofs.Groups.{cut, cut_of}
 use Rattle.vm_legal.specs.Legal.{LegalSoFar}
 use Rattle.vm_legal.specs.Outside.{Outside}
 use Rattle.vm_outside.specs.Areas.{Told}
-use Rattle.vm_system.specs.Flat.{FilesAreFlat}
 use Rattle.vm_system.specs.Keeping.{FilesCarry}
 use Rattle.vm_system.specs.Steps.{LegalCut}
 use Rattle.vm_system.proofs.Flattened.{flat_files}
@@ -21,7 +18,7 @@ use Rattle.vm_top.specs.declared.words.Report.{Report}
 use Rattle.vm_top.specs.Ending.{EndsAs}
 use Rattle.vm_top.specs.Flat.{FilesFlatAt}
 use Rattle.vm_top.specs.Run.{IsRunnable, outside_of}
-use Rattle.vm_top.proofs.Closing.{none_legal, part_so_far}
+use Rattle.vm_top.proofs.Closing.{none_legal}
 use Rattle.vm_top.proofs.Keeping.{carried_none, files_told}
 use Rattle.vm_top.proofs.Resting.{ends_legal}
 
@@ -33,17 +30,14 @@ cut_so_far : (run : Script) (outside : Outside) (h : List Event) → LegalSoFar 
 cut_so_far run outside h legal = (legal.run, record { follows = cut_of run.header outside legal.run h legal.follows; holds = legal.holds })
 
 ends_cut : (report : Report) (run : Script) (outside : Outside) (h : List Event) (before after : Option (List ℕ)) (s : Status) → EndsAs report run outside h before after s → IsLegalCut run outside h
-ends_cut report run outside h before after status.NoMemory ends = elim ends [
-  | inl short ↦ (short.0.run, short.0.legal)
-  | inr stuck ↦ cut_so_far run outside h (part_so_far run outside _ _ h stuck.1.part)
-]
+ends_cut report run outside h before after status.NoMemory ends = (ends.0.run, ends.0.legal)
 ends_cut report run outside h before after status.Done ends = cut_so_far run outside h (ends_legal report run outside h before after status.Done ends (λ is. absurd (cc)))
 ends_cut report run outside h before after status.EventLimit ends = cut_so_far run outside h (ends_legal report run outside h before after status.EventLimit ends (λ is. absurd (cc)))
-ends_cut report run outside h before after (status.NotBuilt line) ends = cut_so_far run outside h (ends_legal report run outside h before after (status.NotBuilt line) ends (λ is. absurd (cc)))
 ends_cut report run outside h before after status.OutputFault ends = cut_so_far run outside h (ends_legal report run outside h before after status.OutputFault ends (λ is. absurd (cc)))
 ends_cut report run outside h before after status.Usage ends = absurd ends
 ends_cut report run outside h before after status.ReadFault ends = absurd ends
 ends_cut report run outside h before after (status.BadScript line kind) ends = absurd ends
+ends_cut report run outside h before after (status.NotBuilt line) ends = absurd ends
 
 pub files_flat : (report : Report) (run : Script) (files paging now : List ℕ → Told) (h : List Event) (before after : Option (List ℕ)) (s : Status) → IsRunnable run → EndsAs report run (outside_of files paging run.header) h before after s
     → FilesCarry run.header files now h → FilesFlatAt (outside_of files paging) files now (Some run) h

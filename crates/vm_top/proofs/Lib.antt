@@ -9,7 +9,6 @@ pub mod Readings
 pub mod Resting
 pub mod Settling
 pub mod Starts
-pub mod Stops
 pub mod Sums
 pub mod Turns
 pub mod Writings

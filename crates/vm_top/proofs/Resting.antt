@@ -1,5 +1,5 @@
 -- A run that ended, and whose last step isn't cut, is legal as far as it goes; so the laws of who waits and of what is on its way hold.
-use Rattle.std.proofs.Common.{◌≡◌, ℕ, inl, inr, List, [], ◌∷◌, refl, Some, None, Option}
+use Rattle.std.proofs.Common.{◌≡◌, ℕ, List, [], ◌∷◌, refl, Some, None, Option}
 use Rattle.std.specs.Prelude.{◌≢◌}
 use Rattle.vm_model.specs.declared.event.Event.{Event}
 use Rattle.vm_model.specs.declared.script.Header.{Header}
@@ -23,7 +23,7 @@ use Rattle.vm_top.specs.Ending.{EndsAs}
 use Rattle.vm_top.specs.Resting.{CarriesAll, WaitsForFramesAlone}
 use Rattle.vm_top.specs.Run.{IsRunnable}
 use Rattle.vm_top.specs.Top.{WroteFailed}
-use Rattle.vm_top.proofs.Closing.{full_so_far, part_so_far, whole_so_far}
+use Rattle.vm_top.proofs.Closing.{full_so_far, whole_so_far}
 
 -- also where a write failed
 failed_legal : (report : Report) (run : Script) (outside : Outside) (h : List Event) (before after : Option (List ℕ)) → WroteFailed report run outside h before after → LegalSoFar run outside h
@@ -40,15 +40,12 @@ failed_legal Summary run outside h before after failed = failed.0
 pub ends_legal : (report : Report) (run : Script) (outside : Outside) (h : List Event) (before after : Option (List ℕ)) (s : Status) → EndsAs report run outside h before after s → s ≢ status.NoMemory → LegalSoFar run outside h
 ends_legal report run outside h before after status.Done ends uncut = whole_so_far run outside h ends.0
 ends_legal report run outside h before after status.EventLimit ends uncut = full_so_far run outside h ends.0
-ends_legal report run outside h before after (status.NotBuilt line) ends uncut = part_so_far run outside _ _ h ends.0.part
-ends_legal report run outside h before after status.OutputFault ends uncut = elim ends [
-  | inl failed ↦ failed_legal report run outside h before after failed
-  | inr stuck ↦ part_so_far run outside _ _ h stuck.1.part
-]
+ends_legal report run outside h before after status.OutputFault ends uncut = failed_legal report run outside h before after ends
 ends_legal report run outside h before after status.NoMemory ends uncut = absurd (uncut refl)
 ends_legal report run outside h before after status.Usage ends uncut = absurd ends
 ends_legal report run outside h before after status.ReadFault ends uncut = absurd ends
 ends_legal report run outside h before after (status.BadScript line kind) ends uncut = absurd ends
+ends_legal report run outside h before after (status.NotBuilt line) ends uncut = absurd ends
 
 causes_of : (run : Script) (outside : Outside) (h : List Event) → LegalSoFar run outside h → EachEvent (HasCause run.header outside) h
 causes_of run outside h legal = so_far run.header outside legal.run h legal.follows

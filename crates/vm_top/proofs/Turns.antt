@@ -1,6 +1,6 @@
 -- A command's step keeps what a run keeps, or stops it.
 use Rattle.std.proofs.Common.{◌≡◌, ℕ, ◌+◌, ◌-◌, ◌<◌, ◌≤◌, ◌⊎◌, inl, inr, List, [], ◌∷◌, ◌++◌, Bool, length, reverse, slice_get, take, true, false, Option, Some, None, Err, refl, ap, sym, ◌∙◌, subst, arith, append_assoc, append-nil}
-use Rattle.std.specs.Prelude.{◌&&◌, IsErrOf, IsSome, is_none}
+use Rattle.std.specs.Prelude.{IsErrOf}
 use Rattle.std.specs.Io.KnownBytes.{Appends}
 use Rattle.std.proofs.KnownBytes.{Appends-nil}
 use Rattle.vm_model.specs.Limits.{most_events}
@@ -20,8 +20,6 @@ use Rattle.vm_legal.specs.Legal.{LegalFor}
 use Rattle.vm_legal.specs.Outside.{Outside}
 use Rattle.vm_legal.specs.Steps.{takings}
 use Rattle.vm_legal.proofs.Groups.{cut_of as follows_cut, open_of}
-use Rattle.vm_legal.specs.Follows.{head}
-use Rattle.vm_legal.specs.Refusal.{refusal}
 use Rattle.vm_outside.specs.Arming.{Arming, ArmedLater}
 use Rattle.vm_system.proofs.Settled.{may_be_cut}
 use Rattle.vm_system.specs.Steps.{DevicesHaveCause, GrowsWithinLimit, IsNextLegal, KeepsLegal, LeavesBacking, LegalCut, LegalOpen, MayCut, IsBelowLimit, IsMemoryStop, arms, settles, takes_any, took_up}
@@ -280,38 +278,6 @@ part_of : {F P : Type 0} (report : Report) (given : Running F P) (n : Numbered) 
 part_of report given n h now f p e runs follows = record {
   order = order_left given.script.commands.items (count_of is_line h) n follows;
   legal = runs.legal;
-}
-
--- a command that isn't refused and has no head; or it has one
-pub none_there : {A B : Type 0} (a : Option A) (b : Option B) (both : Bool) → both ≡ (is_none a && is_none b) → both ≡ true → (a ≡ None) × (b ≡ None)
-none_there None None both is true_is = (refl, refl)
-none_there None (Some y) both is true_is = let bad : false ≡ true = sym is ∙ true_is in absurd (cc)
-none_there (Some x) b both is true_is = let bad : false ≡ true = sym is ∙ true_is in absurd (cc)
-
-pub head_there : {A B : Type 0} (a : Option A) (b : Option B) (both : Bool) → both ≡ (is_none a && is_none b) → both ≡ false → a ≡ None → IsSome b
-head_there a None both is false_is none = let bad : true ≡ false = sym (is ∙ ap (λ z. is_none z && true) none) ∙ false_is in absurd (cc)
-head_there a (Some y) both is false_is none = refl
-
--- what the next command does isn't built
-pub unbuilt_stops : {F P : Type 0} (report : Report) (given : Running F P) (n : Numbered) (h : List Event) (now : Option (List ℕ)) (f : Arming F) (p : Arming P) (e : FaultCounts) → IsBetweenCommands report given h now f p e → IsNextOf given.script n h
-    → length h < most_events → refusal given.script.header h n.command ≡ None → head given.script.header h n.command ≡ None → RunStops report given h now f p e (ends.NotBuilt n.line)
-unbuilt_stops report given n h now f p e runs follows below accepted unbuilt = record {
-  ran = (
-    record {
-      later = left_of given h;
-      next = n;
-      run = ran_of given.script h;
-      part = part_of report given n h now f p e runs follows;
-      at = refl;
-      below = below;
-      accepted = accepted;
-      unbuilt = unbuilt;
-    },
-    runs.keeps.written,
-  );
-  below = runs.keeps.below;
-  arms = runs.keeps.arms;
-  failed = runs.keeps.failed;
 }
 
 -- the history is full

@@ -1,5 +1,5 @@
 -- What is written grows with the events.
-use Rattle.std.proofs.Common.{◌≡◌, ℕ, suc, ◌+◌, ◌-◌, ◌<◌, List, [], ◌∷◌, ◌++◌, length, drop, take, get_or, reverse, refl, ap, sym, ◌∙◌, subst, append_assoc, append-nil, arith, slice_get, Some, None, Option}
+use Rattle.std.proofs.Common.{◌≡◌, ℕ, suc, ◌+◌, ◌-◌, ◌<◌, List, [], ◌∷◌, ◌++◌, length, drop, take, get_or, reverse, refl, ap, sym, ◌∙◌, append_assoc, append-nil, arith, slice_get, Some, None, Option}
 use Rattle.std.proofs.Math.Seq.{drop-cons, drop-append_seam, take-append-add, take-append_seam}
 use Rattle.std.proofs.Common.{length-append}
 use Rattle.std.proofs.lemmas.List.{get_or-reverse, length-reverse}
@@ -90,10 +90,3 @@ start_of_write before after piece text (Err stop.NoMemory) same wrote = start_no
 -- a front of the text, and all of it
 pub front_start : (before after : Option (List ℕ)) (front more : List ℕ) → Appends before after front → WroteStart before after (front ++ more)
 front_start before after front more wrote = (length front, rw (take-append_seam front more) wrote)
-
--- whatever a write of the last piece answers, a first part of the whole was written
-pub piece_start : (start old new : Option (List ℕ)) (front piece whole : List ℕ) (result : Result (Unit {0}) WriteStop) → front ++ piece ≡ whole
-    → Appends start old front → WriteEffects old new result piece → WroteStart start new whole
-piece_start start old new front piece whole (Ok done) is one two = start_all start new whole (whole_of start old new front piece whole (Ok done) is one two)
-piece_start start old new front piece whole (Err stop.Failed) is one two = let beyond = beyond_of start old new front piece whole two.0 is one two.1 in (beyond.0, beyond.2)
-piece_start start old new front piece whole (Err stop.NoMemory) is one two = subst (WroteStart start new) is (front_start start new front piece (keeps_more start old new front one two))

@@ -6,11 +6,11 @@ use Rattle.vm_base.specs.declared.failure.WriteStop.TheVariants as stop
 use Rattle.vm_model.specs.declared.event.Event.{Event}
 use Rattle.vm_model.specs.declared.script.Script.{Script}
 use Rattle.vm_legal.specs.Outside.{Outside}
-use Rattle.vm_top.specs.Run.{CutIn, IsOutOfEvents, IsStuck, IsWholeRun, report_text}
-use Rattle.vm_top.specs.Top.{WroteFailed, stopped_text}
+use Rattle.vm_top.specs.Run.{CutIn, IsOutOfEvents, IsWholeRun, report_text}
+use Rattle.vm_top.specs.Top.{WroteFailed}
 use Rattle.vm_top.specs.Writing.{WroteStart}
 use Rattle.vm_top.specs.declared.top.Status.{Status}
-use Rattle.vm_top.specs.declared.top.Status.TheVariants.{Done, OutputFault, EventLimit, NoMemory, NotBuilt}
+use Rattle.vm_top.specs.declared.top.Status.TheVariants.{Done, OutputFault, EventLimit, NoMemory}
 use Rattle.vm_top.specs.declared.words.Report.{Report}
 
 -- this status, unless the write failed
@@ -24,24 +24,15 @@ abbrev pub Tells : Status → List ℕ → Option (List ℕ) → Option (List �
 Tells told text before after status =
     ((status ≡ told) × Appends before after text) ⊎ (((status ≡ OutputFault) ⊎ (status ≡ NoMemory)) × WroteStart before after text)
 
--- a run stopped at a line that isn't built, and a first part of what tells that was written
-abbrev pub WroteStuck : Script → Outside → List Event → Option (List ℕ) → Option (List ℕ) → Type 0
-WroteStuck run outside history before after =
-    (line : ℕ) × IsStuck run outside line history × WroteStart before after (stopped_text history line)
-
 -- a script was run, and that is the status
 abbrev pub EndsAs : Report → Script → Outside → List Event → Option (List ℕ) → Option (List ℕ) → Status → Type 0
 EndsAs report run outside history before after Done =
     IsWholeRun run outside history × Appends before after (report_text report history)
 EndsAs report run outside history before after EventLimit =
     IsOutOfEvents run outside history × Appends before after (report_text report history)
-EndsAs report run outside history before after (NotBuilt line) =
-    IsStuck run outside line history × Appends before after (stopped_text history line)
-EndsAs report run outside history before after OutputFault =
-    WroteFailed report run outside history before after ⊎ WroteStuck run outside history before after
+EndsAs report run outside history before after OutputFault = WroteFailed report run outside history before after
 EndsAs report run outside history before after NoMemory =
-    (CutIn run outside history × WroteStart before after (report_text report history))
-    ⊎ WroteStuck run outside history before after
+    CutIn run outside history × WroteStart before after (report_text report history)
 EndsAs report run outside history before after other = ⊥
 
 -- the script is held

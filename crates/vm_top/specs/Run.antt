@@ -1,5 +1,5 @@
 -- What running a script gives.
-use Rattle.std.specs.Prelude.{ℕ, zero, suc, ◌*◌, ◌≡◌, ◌≢◌, ◌⊎◌, ◌<◌, ◌≤◌, ◌&&◌, ◌||◌, not, Bool, true, if◌then◌else◌, List, [], ◌∷◌, ◌++◌, length, Option, Some, None, is_some, unwrap_or}
+use Rattle.std.specs.Prelude.{ℕ, zero, suc, ◌*◌, ◌≡◌, ◌≢◌, ◌⊎◌, ◌≤◌, ◌&&◌, ◌||◌, not, Bool, true, if◌then◌else◌, List, [], ◌∷◌, ◌++◌, length, Option, Some, None, is_some, unwrap_or}
 use Rattle.std.specs.Io.KnownBytes.{Appends}
 use Rattle.std.specs.List.{All}
 use Rattle.vm_base.specs.Limits.{most_slots}
@@ -16,9 +16,7 @@ use Rattle.vm_model.specs.Ranges.{InRange}
 use Rattle.vm_model.specs.Summary.{summary_text}
 use Rattle.vm_model.specs.Text.{text}
 use Rattle.vm_legal.specs.Legal.{Legal, LegalFor}
-use Rattle.vm_legal.specs.Follows.{head}
 use Rattle.vm_legal.specs.Outside.{FilesAtStart, Outside, Told as FilesTold, Untold, is_file_kind}
-use Rattle.vm_legal.specs.Refusal.{refusal}
 use Rattle.vm_legal.specs.Steps.{before_step}
 use Rattle.vm_legal.specs.Undelivered.{undelivered}
 use Rattle.vm_outside.specs.Areas.{Told, read_at}
@@ -99,17 +97,6 @@ pub record IsOutOfEvents (script : Script) (outside : Outside) (history : List E
   pub full : most_events ≤ length history
   pub left : IsLeft script outside history ⊎ SettlesOn script outside history
 
--- all commands in front of one were run, a step may begin, and the command isn't refused and has no head: that isn't built
-pub record IsStuck (script : Script) (outside : Outside) (line : ℕ) (history : List Event) : Type 0 where
-  pub later : List Numbered
-  pub next : Numbered
-  pub run : List Numbered
-  pub part : IsPart script outside (later ++ next ∷ []) run history
-  pub at : next.line ≡ line
-  pub below : length history < most_events
-  pub accepted : refusal script.header history next.command ≡ None
-  pub unbuilt : head script.header history next.command ≡ None
-
 -- the events in front of the last step of a command: the taking of a `take` is one step with its line
 abbrev pub front_of : Command → List Event → List Event
 front_of (command.Settle count) history = before_step history
@@ -142,7 +129,7 @@ report_text History history = text history
 report_text Summary history = summary_text history
 
 -- how a run ends: the whole script ran; or a write failed, in the text of the last step; or memory ended; or the
--- history is full; or what a command does isn't built
+-- history is full
 abbrev pub RanAs : Report → Script → Outside → List Event → RunEnd → Option (List ℕ) → Option (List ℕ) → Type 0
 RanAs report script outside history end.Done before after =
     IsWholeRun script outside history × Appends before after (text_so_far report history)
@@ -152,5 +139,3 @@ RanAs report script outside history end.NoMemory before after =
     CutIn script outside history × WroteStart before after (text_so_far report history)
 RanAs report script outside history end.EventLimit before after =
     IsOutOfEvents script outside history × Appends before after (text_so_far report history)
-RanAs report script outside history (end.NotBuilt line) before after =
-    IsStuck script outside line history × Appends before after (text_so_far report history)

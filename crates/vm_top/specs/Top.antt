@@ -11,14 +11,14 @@ use Rattle.vm_model.specs.declared.script.Script.{Script}
 use Rattle.vm_model.specs.Fault.{fault_number}
 use Rattle.vm_legal.specs.Legal.{LegalSoFar}
 use Rattle.vm_legal.specs.Outside.{Outside}
-use Rattle.vm_model.specs.Text.{text, field}
+use Rattle.vm_model.specs.Text.{field}
 use Rattle.vm_text.specs.Script.{script_of, whole_script}
 use Rattle.vm_text.specs.Unbuilt.{IsBuilt, unbuilt_of}
 use Rattle.vm_outside.specs.Areas.{SameAreas, Told}
 use Rattle.vm_outside.specs.Arming.{Arming}
 use Rattle.vm_system.specs.Keeping.{FilesCarry, PagingKeepsPages}
 use Rattle.vm_top.specs.Arming.{BackingLeft, ran_of}
-use Rattle.vm_top.specs.Run.{CutIn, FailedIn, IsOutOfEvents, IsStuck, IsWholeRun, report_text}
+use Rattle.vm_top.specs.Run.{CutIn, FailedIn, IsOutOfEvents, IsWholeRun, report_text}
 use Rattle.vm_top.specs.Writing.{WroteStart}
 use Rattle.vm_top.specs.declared.words.Report.{Report}
 use Rattle.vm_top.specs.declared.words.Report.TheVariants.{History, Summary}
@@ -93,26 +93,17 @@ pub record IsEventLimit (told : Option (List ℕ)) (outside : Header → Outside
   pub full : IsOutOfEvents run (outside run.header) history
   pub written : Appends before after (report_text report history)
 
--- this line isn't built: one of the header, and nothing was run; or that of a command, and those in front of it were run
-abbrev pub StopsUnbuilt : Option (List ℕ) → Outside → Script → ℕ → List Event → Type 0
-StopsUnbuilt told outside run line history =
-    (IsUnbuiltFrom told (Some line) × (history ≡ [])) ⊎ (IsHeaderBuilt told run × IsStuck run outside line history)
-
--- a script was read, and run up to the line that isn't built
-pub record IsStopped (told : Option (List ℕ)) (outside : Header → Outside) (line : ℕ) (script : Option Script) (history : List Event) : Type 0 where
+-- a script was read whose header isn't built from this line on, and nothing was run
+pub record IsStopped (told : Option (List ℕ)) (line : ℕ) (script : Option Script) (history : List Event) : Type 0 where
   pub run : Script
   pub held : IsHeld told run script
-  pub stops : StopsUnbuilt told (outside run.header) run line history
-  pub legal : LegalSoFar run (outside run.header) history
+  pub unbuilt : IsUnbuiltFrom told (Some line)
+  pub empty : history ≡ []
 
--- the text of what was run, and then the line
-abbrev pub stopped_text : List Event → ℕ → List ℕ
-stopped_text history line = text history ++ not_built_text line
-
--- the script isn't built from this line on, and that was written behind the text of what was run
-pub record IsNotBuilt (told : Option (List ℕ)) (outside : Header → Outside) (line : ℕ) (script : Option Script) (history : List Event) (before after : Option (List ℕ)) : Type 0 where
-  pub stopped : IsStopped told outside line script history
-  pub written : Appends before after (stopped_text history line)
+-- so it is, and that was written
+pub record IsNotBuilt (told : Option (List ℕ)) (line : ℕ) (script : Option Script) (history : List Event) (before after : Option (List ℕ)) : Type 0 where
+  pub stopped : IsStopped told line script history
+  pub written : Appends before after (not_built_text line)
 
 -- the script has a fault: nothing was run, and its first fault was written
 pub record IsBad (told : Option (List ℕ)) (line : ℕ) (kind : ScriptFault) (script : Option Script) (history : List Event) (before after : Option (List ℕ)) : Type 0 where
@@ -141,10 +132,9 @@ pub record IsCut (told : Option (List ℕ)) (outside : Header → Outside) (scri
   pub cut : CutIn run (outside run.header) history
 
 -- a first part of what tells the line that isn't built
-abbrev pub WroteStopped : Option (List ℕ) → (Header → Outside) → Option Script → List Event → Option (List ℕ) → Option (List ℕ)
-    → Type 0
-WroteStopped told outside script history before after =
-    (line : ℕ) × IsStopped told outside line script history × WroteStart before after (stopped_text history line)
+abbrev pub WroteStopped : Option (List ℕ) → Option Script → List Event → Option (List ℕ) → Option (List ℕ) → Type 0
+WroteStopped told script history before after =
+    (line : ℕ) × IsStopped told line script history × WroteStart before after (not_built_text line)
 
 -- a first part of what tells the first fault
 abbrev pub WroteBad : Option (List ℕ) → Option Script → List Event → Option (List ℕ) → Option (List ℕ) → Type 0
@@ -157,7 +147,7 @@ abbrev pub IsOutputFault : Option (List ℕ) → (Header → Outside) → Report
     → Option (List ℕ) → Type 0
 IsOutputFault told outside report script history before after =
     IsFailed told outside report script history before after
-    ⊎ (WroteStopped told outside script history before after ⊎ WroteBad told script history before after)
+    ⊎ (WroteStopped told script history before after ⊎ WroteBad told script history before after)
 
 -- memory ended: nothing was read, or a first part of one of these was written
 abbrev pub IsNoMemory : Option (List ℕ) → (Header → Outside) → Report → Option Script → List Event → Option (List ℕ)
@@ -165,7 +155,7 @@ abbrev pub IsNoMemory : Option (List ℕ) → (Header → Outside) → Report �
 IsNoMemory told outside report script history before after =
     NothingDone script history before after
     ⊎ ((IsCut told outside script history × WroteStart before after (report_text report history))
-    ⊎ (WroteStopped told outside script history before after ⊎ WroteBad told script history before after))
+    ⊎ (WroteStopped told script history before after ⊎ WroteBad told script history before after))
 
 -- each host's paging area goes on telling, and each page that was returned and not lost stands at its slot
 abbrev pub KeptAt : (Header → Outside) → (List ℕ → Told) → (List ℕ → Told) → Option Script → List Event → Type 0

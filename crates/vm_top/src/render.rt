@@ -5,7 +5,7 @@ ghost use Rattle.std.specs.declared.option.Option.{Option};
 ghost use Rattle.vm_model.specs.Text.{text, field};
 ghost use Rattle.vm_outside.specs.Causes.{CountRises};
 ghost use Rattle.vm_top.specs.Run.{report_text, text_so_far};
-ghost use Rattle.vm_top.specs.Top.{bad_text, fault_name, not_built_text, stopped_text};
+ghost use Rattle.vm_top.specs.Top.{bad_text, fault_name, not_built_text};
 ghost use Rattle.vm_top.specs.Writing.{oldest_items, WroteBeyond, WroteStart};
 
 use crate::summary::summary_text;
@@ -16,12 +16,16 @@ use vm_model::{History, ScriptFault};
 use vm_outside::Sink;
 use vm_text::write_event;
 
+// About as many bytes as an event's line has, for the room that a step's text takes at once.
+const USUAL_BYTES: usize = 40;
+
 // The text of the events from an index on.
 fn step_text(alloc: Global, history: &History, from: u32) -> Result<Vec<u8>, NoMemory>
     requires { from ≤ length history.now.items }
     ensures { IfOk result (λ bytes. text (oldest_items from history.now.items) ++ bytes.items ≡ text history.now.items) }
 {
-    let mut bytes = Vec::new(alloc);
+    let events = (history.len() - from) as usize;
+    let mut bytes = Vec::with_capacity(alloc, USUAL_BYTES * events)?;
     for i in from..history.len() {
         let line = write_event(alloc, history.at(i))?;
         bytes.extend_from_slice(line.as_slice())?;
@@ -66,22 +70,14 @@ fn number_into(bytes: &mut Vec<u8>, number: u32) -> Result<(), NoMemory>
     Ok(())
 }
 
-// The line that tells what isn't built, behind other bytes.
-fn not_built_into(bytes: &mut Vec<u8>, line: u32) -> Result<(), NoMemory>
-    ensures { OnOk result (bytes.new.items ≡ bytes.old.items ++ not_built_text line) }
-{
-    bytes.extend_from_slice(b"notbuilt")?;
-    number_into(bytes, line)?;
-    bytes.push(b'\n')?;
-    Ok(())
-}
-
 /// The line that tells what isn't built.
 pub fn not_built_text(alloc: Global, line: u32) -> Result<Vec<u8>, NoMemory>
     ensures { IfOk result (λ bytes. bytes.items ≡ not_built_text line) }
 {
     let mut bytes = Vec::new(alloc);
-    not_built_into(&mut bytes, line)?;
+    bytes.extend_from_slice(b"notbuilt")?;
+    number_into(&mut bytes, line)?;
+    bytes.push(b'\n')?;
     Ok(bytes)
 }
 
@@ -113,25 +109,6 @@ pub fn bad_text(alloc: Global, line: u32, kind: ScriptFault) -> Result<Vec<u8>, 
     Ok(bytes)
 }
 
-// What stands behind what is shown of a run that stops at a line that isn't built.
-fn stop_text(
-    alloc: Global,
-    report: Report,
-    history: &History,
-    line: u32,
-) -> Result<Vec<u8>, NoMemory>
-    ensures { IfOk result (λ bytes. text_so_far report history.now.items ++ bytes.items
-        ≡ stopped_text history.now.items line) }
-{
-    let from = match report {
-        Report::History => history.len(),
-        Report::Summary => 0,
-    };
-    let mut bytes = step_text(alloc, history, from)?;
-    not_built_into(&mut bytes, line)?;
-    Ok(bytes)
-}
-
 /// Writes what is left to be written of a run that has ended.
 pub fn write_report<K: Sink>(
     alloc: Global,
@@ -159,25 +136,4 @@ pub fn write_report<K: Sink>(
             out.write(&bytes)
         }
     }
-}
-
-/// Writes what is left to be written of a run that stops at a line that isn't built.
-pub fn write_stop<K: Sink>(
-    alloc: Global,
-    report: Report,
-    history: &History,
-    line: u32,
-    out: &mut K,
-) -> Result<(), WriteStop>
-    ensures later { K.faults out.old ≤ K.faults out.new }
-    ensures cause { IsErrOf result WriteStop.Failed → CountRises (K.faults out.old) (K.faults out.new) }
-    ensures written { (start : Option (List ℕ)) → Appends start (K.written out.old) (text_so_far report history.now.items)
-        → OnOk result (Appends start (K.written out.new) (stopped_text history.now.items line)) }
-    ensures start { (start : Option (List ℕ)) → Appends start (K.written out.old) (text_so_far report history.now.items)
-        → WroteStart start (K.written out.new) (stopped_text history.now.items line) }
-{
-    let Ok(bytes) = stop_text(alloc, report, history, line) else {
-        return Err(WriteStop::NoMemory);
-    };
-    out.write(&bytes)
 }

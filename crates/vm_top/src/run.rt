@@ -1,5 +1,5 @@
 // Runs a script, and writes each step's events when it has ended.
-ghost use Rattle.std.specs.Prelude.{◌≡◌, ◌≢◌, ◌+◌, ◌⊎◌, ◌<◌, ◌≤◌, [], true, false, List, ℕ, None, length, IfOk, IsSome, OnOk, IsErrOf};
+ghost use Rattle.std.specs.Prelude.{◌≡◌, ◌≢◌, ◌+◌, ◌⊎◌, ◌<◌, ◌≤◌, [], true, false, List, ℕ, length, IfOk, OnOk, IsErrOf};
 ghost use Rattle.std.specs.Io.KnownBytes.{Appends};
 ghost use Rattle.std.specs.declared.option.Option.{Option};
 ghost use Rattle.vm_model.specs.Limits.{most_events};
@@ -7,8 +7,6 @@ ghost use Rattle.vm_model.specs.Ranges.{InRange};
 ghost use Rattle.vm_model.specs.Summary.{count_of, is_line};
 ghost use Rattle.vm_model.specs.Text.{text};
 ghost use Rattle.vm_model.specs.declared.event.Device.TheVariants as device;
-ghost use Rattle.vm_legal.specs.Follows.{head};
-ghost use Rattle.vm_legal.specs.Refusal.{refusal};
 ghost use Rattle.vm_legal.specs.Steps.{takings};
 ghost use Rattle.vm_legal.specs.Undelivered.{undelivered};
 ghost use Rattle.vm_outside.specs.Causes.{CountRises};
@@ -40,8 +38,6 @@ pub enum RunEnd {
     NoMemory,
     /// A step is left, and the history has 200,000 events or more.
     EventLimit,
-    /// What the command of this line does isn't built: it copies from a declared object.
-    NotBuilt { line: u32 },
 }
 
 /// The history of a run, and how the run ended.
@@ -110,7 +106,6 @@ fn turn<K: Sink, F: Backing, P: Backing>(
     requires files_kept { FilesAreKept given.script.header given.outside (F.area files.old.inner) system.old }
     requires carried { FilesCarry given.script.header (F.area given.files.inner) (F.area files.old.inner) system.old.history.items }
     requires range { InRange given.script.header numbered.now.command }
-    requires head { refusal given.script.header system.old.history.items numbered.now.command ≡ None → IsSome (head given.script.header system.old.history.items numbered.now.command) }
     requires below { length system.old.history.items < most_events }
     requires runs { IsBetweenCommands report given system.old.history.items (K.written out.old) files.old paging.old (record { files = ⟦<Armed<F> as Backing>⟧.faults files.old; paging = ⟦<Armed<P> as Backing>⟧.faults paging.old }) }
     requires next { IsNextOf given.script numbered.now system.old.history.items }
@@ -212,8 +207,7 @@ fn settle<K: Sink, F: Backing, P: Backing>(
 }
 
 /// Runs the script to its end, or to a write that fails, or until memory ends, or until the history
-/// has 200,000 events where a step is left, or to a copy from a declared object, which
-/// isn't built.
+/// has 200,000 events where a step is left.
 pub fn run_script<K: Sink, F: Backing, P: Backing>(
     alloc: Global,
     report: Report,
@@ -319,11 +313,6 @@ fn run_one<K: Sink, F: Backing, P: Backing>(
 {
     if system.history().len() >= MOST_EVENTS {
         return Err(RunEnd::EventLimit);
-    }
-    if system.copies_declared(&numbered.command) {
-        return Err(RunEnd::NotBuilt {
-            line: numbered.line,
-        });
     }
     turn(alloc, report, system, numbered, out, files, paging)?;
     match numbered.command {

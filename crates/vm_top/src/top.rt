@@ -23,7 +23,7 @@ ghost use Rattle.vm_top.specs.declared.words.Job.TheVariants as jobs;
 ghost use Rattle.vm_top.specs.declared.words.Report.{Report};
 
 use crate::reading::{ReadStop, read_all};
-use crate::render::{bad_text, not_built_text, write_report, write_stop};
+use crate::render::{bad_text, not_built_text, write_report};
 use crate::run::{Ran, RunEnd, run_script};
 use crate::words::{Job, Report, asked};
 use std::alloc::Global;
@@ -52,8 +52,7 @@ pub enum Status {
     EventLimit,
     /// No memory was there.
     NoMemory,
-    /// `line` is the first that isn't built: a header line for a wild object, or a `copy` from a
-    /// declared object.
+    /// `line` is the first that isn't built: a header line for a wild object.
     NotBuilt { line: u32 },
 }
 
@@ -158,10 +157,6 @@ fn finish<K: Sink>(alloc: Global, report: Report, ran: &Ran, out: &mut K) -> Sta
                 Status::EventLimit,
             )
         }
-        RunEnd::NotBuilt { line } => status_after(
-            write_stop(alloc, report, &ran.history, line, out),
-            Status::NotBuilt { line },
-        ),
         RunEnd::Failed => Status::OutputFault,
         RunEnd::NoMemory => Status::NoMemory,
     }
@@ -227,7 +222,7 @@ fn run<S: Source, K: Sink, F: Backing, P: Backing>(
     ensures carried { result.status ≢ Status.NoMemory → CarriesAll result.script result.history.items }
     ensures ranges { IfSome result.script KeepsRanges }
     ensures limit { IsBelowLimit result.history.items }
-    ensures not_built { (line : ℕ) → result.status ≡ Status.NotBuilt line → IsNotBuilt (S.left source.old) (outside_of (F.area files.old.inner) (P.area paging.old.inner)) line result.script result.history.items (K.written out.old) (K.written out.new) }
+    ensures not_built { (line : ℕ) → result.status ≡ Status.NotBuilt line → IsNotBuilt (S.left source.old) line result.script result.history.items (K.written out.old) (K.written out.new) }
     ensures source { OfBytes (S.left source.old) (λ bytes. LeavesBytes result.status result.script bytes (S.left source.new)) }
     ensures read_cause { result.status ≡ Status.ReadFault → CountRises (S.faults source.old) (S.faults source.new) }
     ensures output_cause { result.status ≡ Status.OutputFault → CountRises (K.faults out.old) (K.faults out.new) }
@@ -364,10 +359,10 @@ pub fn pagers_main<S: Source, K: Sink, F: Backing, P: Backing>(
         → IsEventLimit (S.left script.old) (outside_of (F.area files.old.inner) (P.area paging.old.inner)) report result.script result.history.items (K.written out.old) (K.written out.new) }
     ensures limit { IsBelowLimit result.history.items }
 
-    // The script isn't built from exactly this line on.
+    // This line of the header isn't built: nothing was run of the script, and that was written.
     ensures not_built { (line : ℕ) → result.status ≡ Status.NotBuilt line → (report : Report)
         → asked_by words.now ≡ Some (jobs.Run report)
-        → IsNotBuilt (S.left script.old) (outside_of (F.area files.old.inner) (P.area paging.old.inner)) line result.script result.history.items (K.written out.old) (K.written out.new) }
+        → IsNotBuilt (S.left script.old) line result.script result.history.items (K.written out.old) (K.written out.new) }
 
     // Words that ask for no run leave the source as it was; a run reads it to its end, or beyond what a script may have.
     ensures source { LeavesSource S.left (asked_by words.now) result.status result.script script.old script.new }

@@ -1,12 +1,10 @@
 use Rattle.std.proofs.Common.{◌≡◌, ◌<◌, ◌≤◌, ◌∙◌, arith, length, refl, subst, sym, ap, Err}
 use Rattle.vm_outside.specs.Causes.{sum_count}
 use Rattle.vm_model.specs.Limits.{most_events}
-use Rattle.vm_legal.specs.Follows.{head}
-use Rattle.vm_legal.specs.Refusal.{refusal}
 use Rattle.vm_top.specs.Running.{FaultCounts, RunStops}
 use Rattle.vm_top.specs.declared.run.RunEnd.TheVariants as ends
 use Rattle.vm_top.proofs.Settling.{turned_none, turned_settles}
-use Rattle.vm_top.proofs.Turns.{full_stops, head_there, none_there, same_end, settles_none, turned_runs, unbuilt_stops}
+use Rattle.vm_top.proofs.Turns.{full_stops, same_end, settles_none, turned_runs}
 use Rattle.vm_top.proofs.run.run_one.Goals as goal
 
 pub returns-then-len-ge-MOST_EVENTS-clause-stops : goal.returns-then-len-ge-MOST_EVENTS-clause-stops
@@ -18,24 +16,12 @@ returns-then-len-ge-MOST_EVENTS-clause-stops g c = λ end is.
     subst (RunStops c.args.report g.given c.args.system.now.history.items (g.K.Sink.written c.args.out.now) c.args.files.now c.args.paging.now faults) same
     (full_stops c.args.report g.given c.args.numbered.now c.args.system.now.history.items (g.K.Sink.written c.args.out.now) c.args.files.now c.args.paging.now faults c.requires.1.1.1.1.1.1.1.1.0 c.requires.1.1.1.1.1.1.1.1.1 full)
 
-pub returns-then-copies_declared-clause-stops : goal.returns-then-copies_declared-clause-stops
-returns-then-copies_declared-clause-stops g c = λ end is.
-    let faults : FaultCounts = record { files = sum_count (g.F.Backing.faults c.args.files.now.inner) c.args.files.now.reached; paging = sum_count (g.P.Backing.faults c.args.paging.now.inner) c.args.paging.now.reached } in
-    let h = c.args.system.now.history.items in
-    let same : ends.NotBuilt c.args.numbered.now.line ≡ end = same_end is in
-    let size : c.len.result ≡ length h = c.len.ensures ∙ ap (λ z. length z.items) c.history.ensures in
-    let below : length h < most_events = omega (arith, size, c.if-len-ge-MOST_EVENTS.false) in
-    let stuck = none_there (refusal g.given.script.header h c.args.numbered.now.command) (head g.given.script.header h c.args.numbered.now.command) c.copies_declared.result c.copies_declared.ensures c.if-copies_declared.true in
-    subst (RunStops c.args.report g.given h (g.K.Sink.written c.args.out.now) c.args.files.now c.args.paging.now faults) same
-    (unbuilt_stops c.args.report g.given c.args.numbered.now h (g.K.Sink.written c.args.out.now) c.args.files.now c.args.paging.now faults c.requires.1.1.1.1.1.1.1.1.0 c.requires.1.1.1.1.1.1.1.1.1 below stuck.0 stuck.1)
-
 pub turn-requires : goal.turn-requires
 turn-requires g c = λ lifetimes held.
     let h = c.args.system.now.history.items in
     let size : c.len.result ≡ length h = c.len.ensures ∙ ap (λ z. length z.items) c.history.ensures in
     let below : length h < most_events = omega (arith, size, c.if-len-ge-MOST_EVENTS.false) in
-    let some = head_there (refusal g.given.script.header h c.args.numbered.now.command) (head g.given.script.header h c.args.numbered.now.command) c.copies_declared.result c.copies_declared.ensures c.if-copies_declared.false in
-    (held.0, (held.1.0, (held.1.1, (c.requires.1.1.1.0, (c.requires.1.1.1.1.0, (c.requires.1.1.1.1.1.0, (c.requires.1.1.1.1.1.1.0, (c.requires.1.1.1.1.1.1.1.0, (some, (below, (c.requires.1.1.1.1.1.1.1.1.0, c.requires.1.1.1.1.1.1.1.1.1)))))))))))
+    (held.0, (held.1.0, (held.1.1, (c.requires.1.1.1.0, (c.requires.1.1.1.1.0, (c.requires.1.1.1.1.1.0, (c.requires.1.1.1.1.1.1.0, (c.requires.1.1.1.1.1.1.1.0, (below, (c.requires.1.1.1.1.1.1.1.1.0, c.requires.1.1.1.1.1.1.1.1.1))))))))))
 
 pub returns-in_err-turn-clause-stops : goal.returns-in_err-turn-clause-stops
 returns-in_err-turn-clause-stops g c = λ end is.

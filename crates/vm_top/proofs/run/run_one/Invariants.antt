@@ -1,9 +1,6 @@
 use Rattle.vm_model.specs.declared.command.Command.TheVariants as command
 use Rattle.vm_top.proofs.run.run_one.Given as goal
 
-abbrev pub ghost-copies_declared : goal.ghost-copies_declared
-ghost-copies_declared g a = record { header = g.given.script.header; outside = g.given.outside }
-
 abbrev pub ghost-turn : goal.ghost-turn
 ghost-turn g a = g.given
 

@@ -1,4 +1,4 @@
-use Rattle.std.proofs.Common.{refl, subst, sym, ◌<◌, ◌∙◌}
+use Rattle.std.proofs.Common.{refl, subst, sym, ◌<◌}
 use Rattle.vm_model.specs.declared.event.Device.TheVariants as device
 use Rattle.vm_outside.specs.Causes.{sum_count}
 use Rattle.vm_system.specs.Keeping.{FilesCarry, PagingKeepsPages}

@@ -4,7 +4,7 @@ use Rattle.vm_text.specs.Unbuilt.{unbuilt_of}
 use Rattle.vm_top.specs.declared.top.Status.TheVariants.{BadScript}
 use Rattle.vm_top.specs.Ending.{Tells}
 use Rattle.vm_top.specs.Top.{bad_text}
-use Rattle.vm_top.proofs.Ends.{bad_from, bad_of, done_of, full_of, header_not_built, header_stops, header_wrote, held_ranges, memory_of, never_read, not_built_of, output_of, read_from, ready_of, runnable, tells_start, unbuilt_from}
+use Rattle.vm_top.proofs.Ends.{bad_from, bad_of, done_of, full_of, header_not_built, header_stops, header_wrote, held_ranges, memory_of, never_read, never_unbuilt, output_of, read_from, ready_of, runnable, tells_start, unbuilt_from}
 use Rattle.vm_top.proofs.Resting.{none_carry, none_wait_for_frames}
 use Rattle.vm_top.proofs.Readings.{failed_leaves, read_leaves, stopped_leaves, tells_no_read}
 use Rattle.vm_model.specs.declared.event.Device.TheVariants as device
@@ -79,9 +79,7 @@ returns-in-None-clause-full g c =
     full_of _ _ _ _ c.args.report c.in-Ok-read_script.script _ _ _ ready c.run_read.ensures.ended
 
 pub returns-in-None-clause-not_built : goal.returns-in-None-clause-not_built
-returns-in-None-clause-not_built g c = λ line.
-    let ready = ready_of (g.S.Source.left c.args.source.now) _ c.in-Ok.bytes.items c.deref.result.now c.deref-2.result.now c.in-Ok-read_script.script c.in-Ok.ensures.whole c.deref.ensures.value c.in-Ok-read_script.ensures.exact c.deref-2.ensures.value c.in-None.ensures.exact (c.unbuilt_header.ensures.built c.in-None.is c.in-Ok-read_script.script) in
-    not_built_of _ _ _ _ c.args.report c.in-Ok-read_script.script _ _ _ line ready c.run_read.ensures.ended
+returns-in-None-clause-not_built g c = λ line is. absurd (never_unbuilt c.args.report c.in-Ok-read_script.script _ _ _ _ _ _ line c.run_read.ensures.ended is)
 
 pub returns-clause-output : goal.returns-clause-output
 returns-clause-output g c = λ is.
@@ -89,8 +87,8 @@ returns-clause-output g c = λ is.
     let unbuilt = ap unbuilt_of (sym c.deref-2.ensures.value) ∙ sym c.in-Some.ensures.exact in
     let read = read_from (g.S.Source.left c.args.source.now) _ c.in-Ok.bytes.items c.in-Ok-read_script.script c.in-Ok.ensures.whole spells in
     let header = unbuilt_from (g.S.Source.left c.args.source.now) _ c.in-Ok.bytes.items (whole_script c.in-Ok-read_script.script) (Some c.in-Some.line) c.in-Ok.ensures.whole spells unbuilt in
-    let stopped = header_stops (g.S.Source.left c.args.source.now) c.in-Ok-read_script.script _ (Some c.in-Ok-read_script.script) c.new.result.items c.in-Some.line read header refl c.new.ensures in
-    inr (inl (header_wrote _ _ _ _ c.in-Some.line _ _ _ stopped c.new.ensures c.tell_not_built-status.ensures.told))
+    let stopped = header_stops (g.S.Source.left c.args.source.now) c.in-Ok-read_script.script (Some c.in-Ok-read_script.script) c.new.result.items c.in-Some.line read header refl c.new.ensures in
+    inr (inl (header_wrote _ _ _ c.in-Some.line _ _ _ stopped c.tell_not_built-status.ensures.told))
 
 pub returns-clause-memory : goal.returns-clause-memory
 returns-clause-memory g c = λ is.
@@ -98,8 +96,8 @@ returns-clause-memory g c = λ is.
     let unbuilt = ap unbuilt_of (sym c.deref-2.ensures.value) ∙ sym c.in-Some.ensures.exact in
     let read = read_from (g.S.Source.left c.args.source.now) _ c.in-Ok.bytes.items c.in-Ok-read_script.script c.in-Ok.ensures.whole spells in
     let header = unbuilt_from (g.S.Source.left c.args.source.now) _ c.in-Ok.bytes.items (whole_script c.in-Ok-read_script.script) (Some c.in-Some.line) c.in-Ok.ensures.whole spells unbuilt in
-    let stopped = header_stops (g.S.Source.left c.args.source.now) c.in-Ok-read_script.script _ (Some c.in-Ok-read_script.script) c.new.result.items c.in-Some.line read header refl c.new.ensures in
-    inr (inr (inl (header_wrote _ _ _ _ c.in-Some.line _ _ _ stopped c.new.ensures c.tell_not_built-status.ensures.told)))
+    let stopped = header_stops (g.S.Source.left c.args.source.now) c.in-Ok-read_script.script (Some c.in-Ok-read_script.script) c.new.result.items c.in-Some.line read header refl c.new.ensures in
+    inr (inr (inl (header_wrote _ _ _ c.in-Some.line _ _ _ stopped c.tell_not_built-status.ensures.told)))
 
 pub returns-clause-not_built : goal.returns-clause-not_built
 returns-clause-not_built g c = λ line is.
@@ -107,8 +105,8 @@ returns-clause-not_built g c = λ line is.
     let unbuilt = ap unbuilt_of (sym c.deref-2.ensures.value) ∙ sym c.in-Some.ensures.exact in
     let read = read_from (g.S.Source.left c.args.source.now) _ c.in-Ok.bytes.items c.in-Ok-read_script.script c.in-Ok.ensures.whole spells in
     let header = unbuilt_from (g.S.Source.left c.args.source.now) _ c.in-Ok.bytes.items (whole_script c.in-Ok-read_script.script) (Some c.in-Some.line) c.in-Ok.ensures.whole spells unbuilt in
-    let stopped = header_stops (g.S.Source.left c.args.source.now) c.in-Ok-read_script.script _ (Some c.in-Ok-read_script.script) c.new.result.items c.in-Some.line read header refl c.new.ensures in
-    header_not_built _ _ _ _ c.in-Some.line line _ _ _ stopped c.new.ensures c.tell_not_built-status.ensures.told is
+    let stopped = header_stops (g.S.Source.left c.args.source.now) c.in-Ok-read_script.script (Some c.in-Ok-read_script.script) c.new.result.items c.in-Some.line read header refl c.new.ensures in
+    header_not_built _ _ _ c.in-Some.line line _ _ _ stopped c.tell_not_built-status.ensures.told is
 
 pub returns-clause-quiet : goal.returns-clause-quiet
 returns-clause-quiet g c = λ uncut. none_wait_for_frames c.in-Ok-read_script.script c.new.result.items c.new.ensures

@@ -9,7 +9,7 @@ begin-requires g c =
     let hosts : HostTable = record { kernels = c.self.inside.kernels.items; ids = c.self.inside.ids } in
     let all : AllRest given.header hosts given.past = subst (λ (z : HostTable). AllRest given.header z given.past) (sym c.self.view_is) c.requires.0 in
     let at = found given.header hosts given.past c.in-Some.host.0 c.index_mut.result.now all c.in-Some.ensures.known c.index_mut.ensures.value in
-    (starts_of given.header c.args.command.now given.past hosts c.in-Some.host.0 c.index_mut.result.now at c.in-Some.ensures.acts c.requires.1.1.0 c.requires.1.1.1.1.0 c.requires.1.1.1.1.1.1 c.requires.1.1.1.1.1.0, c.requires.1.1.1.0)
+    (starts_of given.header c.args.command.now given.past hosts c.in-Some.host.0 c.index_mut.result.now at c.in-Some.ensures.acts c.requires.1.1.0 c.requires.1.1.1.1.0 c.requires.1.1.1.1.1, c.requires.1.1.1.0)
 
 pub serve-requires : goal.serve-requires
 serve-requires g c =
@@ -28,6 +28,6 @@ returns g c =
     record {
       began =
           began given.header given.outside c.args.command.now given.past c.in_ok-log.log.items hosts c.in-Some.host.0 c.index_mut.result.now.host.0 c.begin.new.self c.begin.new.ids c.serve.new.self c.serve.new.log.items at.number c.in-Some.ensures.known
-          all c.in_ok-log.ensures.ran c.requires.1.1.1.0 c.requires.1.1.1.1.1.1
+          all c.in_ok-log.ensures.ran c.requires.1.1.1.0 c.requires.1.1.1.1.1
           (subst (λ (z : Command). Went given.header given.outside z given.past c.in_ok-log.log.items c.serve.new.self c.serve.new.log.items) c.requires.1.0 c.in_ok-serve.ensures.went);
     }

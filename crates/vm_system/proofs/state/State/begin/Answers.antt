@@ -18,8 +18,8 @@ begin-requires g c =
           (
             c.requires.1.1.1.0,
             (
-              subst (λ (z : Step). refusal z.header z.past doing ≡ None) is (refusal_line given.header c.args.line h doing ∙ c.requires.1.1.1.1.0),
-              (c.requires.1.1.1.1.1, subst (λ (z : Step). IsLined z.past) is (record { line = c.args.line; before = h; is = refl })),
+              subst (λ (z : Step). refusal z.header z.past doing ≡ None) is (refusal_line given.header c.args.line h doing ∙ c.requires.1.1.1.1),
+              subst (λ (z : Step). IsLined z.past) is (record { line = c.args.line; before = h; is = refl }),
             ),
           ),
         ),
@@ -40,7 +40,7 @@ returns-clause-made g c =
     let events = c.in_ok-events.events.items in
     let stands = c.requires.1.0 in
     let began = subst (λ (z : Step). Began z.header z.outside c.args.command.now z.past hosts events) c.requires.0 c.in_ok-events.ensures.began in
-    let legal = legal_began given.header given.outside (record { line = c.args.line; command = c.args.command.now }) s.history.items events hosts stands.built.supplied c.requires.1.1.1.1.0 began in
+    let legal = legal_began given.header given.outside (record { line = c.args.line; command = c.args.command.now }) s.history.items events hosts stands.built.supplied c.requires.1.1.1.1 began in
     let told = told_said given.header given.outside c.args.command.now c.args.line events hosts s stands began.heads.stretch began.ended.rests began.ended.queues in
     on_both c.append.result (λ posts grown. makes_told given.header given.outside (record { line = c.args.line; command = c.args.command.now }) events hosts s c.append.new.self stands told legal c.append.ensures.hosts posts grown)
     c.append.ensures.posts c.append.ensures.history
