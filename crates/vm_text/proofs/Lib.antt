@@ -1,3 +1,4 @@
+mod Behind
 mod Counts
 mod Headers
 mod Hexadecimal

@@ -7,7 +7,7 @@ ghost use Rattle.vm_text.specs.Kinds.{is_of_region, is_of_entry, begins_access, 
 
 use crate::Line;
 use crate::fields::{inherit_number, numbers_line, numbers_text, prot_number};
-use crate::messages::{channel_text, message_text};
+use crate::messages::{put_channel, put_message};
 use std::alloc::Global;
 use vm_base::{Code, HostId, Inherit, NoMemory, ObjectId, PageNo, Prot, RegionId, TaskId};
 use vm_model::{Channel, Device, Event, Message, Way};
@@ -471,11 +471,10 @@ fn message_line(
 ) -> Result<Line, NoMemory>
     ensures { IfOk result (λ line. line ≡ word.now ++ text_of_channel channel ++ codes " " ++ text_of_message message.now ++ newline) }
 {
-    let mut line = Line::new(alloc);
-    line.put_word(word)?;
-    line.put_word(channel_text(alloc, channel)?.as_slice())?;
+    let mut line = Line::begun(alloc, word)?;
+    put_channel(&mut line, channel)?;
     line.put_word(b" ")?;
-    line.put_word(message_text(alloc, message)?.as_slice())?;
+    put_message(&mut line, message)?;
     line.end()?;
     Ok(line)
 }
@@ -542,8 +541,7 @@ fn device_failed(
 ) -> Result<Line, NoMemory>
     ensures { IfOk result (λ line. line ≡ line_of (Event.DeviceFailed who way object page)) }
 {
-    let mut line = Line::new(alloc);
-    line.put_word(b"device")?;
+    let mut line = Line::begun(alloc, b"device")?;
     line.put_word(device_word(who))?;
     line.put_word(way_word(way))?;
     line.put_fields(&[u64::from(object.0), u64::from(page.0)])?;

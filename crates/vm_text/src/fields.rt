@@ -1,5 +1,5 @@
 // A line of text, and the fields that are put behind it.
-ghost use Rattle.std.specs.Prelude.{◌≡◌, ◌<◌, ◌≤◌, ◌++◌, [], ◌∷◌, length, take, decimal, OnOk, IfOk};
+ghost use Rattle.std.specs.Prelude.{◌≡◌, ◌<◌, ◌≤◌, ◌++◌, [], ◌∷◌, length, take, fold, bit_or, decimal, OnOk, IfOk};
 ghost use Rattle.std.specs.List.{flat_map};
 ghost use Rattle.vm_base.specs.Pages.{little_endian_bytes};
 ghost use Rattle.vm_model.specs.Text.{field, flag as flag_of, prot_number as prot_of, inherit_number as inherit_of, hex_digit as digit_of, byte_hex as hex_of, trimmed, page_field, newline};
@@ -9,6 +9,12 @@ use itoa::Buffer;
 use std::alloc::Global;
 use std::marker::Model;
 use vm_base::{Inherit, NoMemory, Prot};
+
+// Most lines of a history are shorter, line end and all.
+const USUAL_BYTES: usize = 64;
+
+// Zeros at the end of a page are skipped by so many.
+const BLOCK_BYTES: usize = 64;
 
 /// A line of text, which contracts see as its bytes.
 #[derive(Drop)]
@@ -32,13 +38,14 @@ impl Line {
         &self.bytes
     }
 
-    /// An empty line, which takes no memory. Each call that puts something fails for want of memory alone.
-    pub(crate) fn new(alloc: Global) -> Line
-        ensures { result ≡ [] }
+    /// A line that begins with a word, and room for what most lines have behind it. It fails for want of
+    /// memory alone, and so does each call that puts something.
+    pub(crate) fn begun(alloc: Global, word: &[u8]) -> Result<Line, NoMemory>
+        ensures { IfOk result (λ line. line ≡ word.now) }
     {
-        Line {
-            bytes: Vec::new(alloc),
-        }
+        let mut bytes = Vec::with_capacity(alloc, USUAL_BYTES)?;
+        bytes.extend_from_slice(word)?;
+        Ok(Line { bytes })
     }
 
     fn put_byte(&mut self, byte: u8) -> Result<(), NoMemory>
@@ -99,6 +106,7 @@ impl Line {
     fn put_hex(&mut self, bytes: &[u8]) -> Result<(), NoMemory>
         ensures { OnOk result (self.new ≡ self.old ++ flat_map hex_of bytes.now) }
     {
+        self.bytes.reserve(2 * bytes.len())?;
         for byte in bytes {
             self.put_hex_byte(*byte)?;
         }
@@ -131,6 +139,16 @@ impl Line {
         self.put_hex(&bytes[..end])
     }
 
+    /// A word, without a space in front, and a field for each number.
+    #[tactic(auto, using(crate::proofs::Behind::behind_front))]
+    pub(crate) fn put_text(&mut self, word: &[u8], numbers: &[u64]) -> Result<(), NoMemory>
+        ensures { OnOk result (self.new ≡ self.old ++ with_fields word.now numbers.now) }
+    {
+        self.put_word(word)?;
+        self.put_fields(numbers)?;
+        Ok(())
+    }
+
     /// The line end, one line feed.
     pub(crate) fn end(&mut self) -> Result<(), NoMemory>
         ensures { OnOk result (self.new ≡ self.old ++ newline) }
@@ -143,8 +161,7 @@ impl Line {
 pub(crate) fn numbers_text(alloc: Global, word: &[u8], numbers: &[u64]) -> Result<Line, NoMemory>
     ensures { IfOk result (λ text. text ≡ with_fields word.now numbers.now) }
 {
-    let mut text = Line::new(alloc);
-    text.put_word(word)?;
+    let mut text = Line::begun(alloc, word)?;
     text.put_fields(numbers)?;
     Ok(text)
 }
@@ -195,12 +212,35 @@ fn hex_digit(digit: u8) -> u8
     }
 }
 
+// The bits that any of the bytes has: none exactly where each byte is zero.
+fn bits_of(bytes: &[u8]) -> u8
+    ensures { result ≡ fold bit_or 0 bytes.now }
+{
+    let mut bits = 0;
+    for byte in bytes {
+        bits |= *byte;
+    }
+    bits
+}
+
+// A length that leaves out blocks of zeros at the end, as many as there are.
+fn without_zero_blocks(bytes: &[u8]) -> usize
+    ensures within { result ≤ length bytes.now }
+    ensures same { trimmed (take result bytes.now) ≡ trimmed bytes.now }
+{
+    let mut end = bytes.len();
+    'skip: while end >= BLOCK_BYTES && bits_of(&bytes[end - BLOCK_BYTES..end]) == 0 {
+        end -= BLOCK_BYTES;
+    }
+    end
+}
+
 // The length up to the last byte that isn't zero.
 fn trimmed_len(bytes: &[u8]) -> usize
     ensures within { result ≤ length bytes.now }
     ensures trimmed { take result bytes.now ≡ trimmed bytes.now }
 {
-    let mut end = bytes.len();
+    let mut end = without_zero_blocks(bytes);
     'zeros: while end > 0 && bytes[end - 1] == 0 {
         end -= 1;
     }
