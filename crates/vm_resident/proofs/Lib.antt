@@ -1,4 +1,4 @@
-mod Edits
+mod Entries
 mod Owners
-mod Places
+mod PageSets
 mod Tables

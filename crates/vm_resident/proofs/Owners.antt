@@ -1,45 +1,57 @@
 -- Which page a frame leads to.
-use Rattle.std.proofs.Common.{ℕ, zero, suc, ◌≡◌, ◌<◌, ◌==◌, true, false, List, [], ◌∷◌, length, get_or, set, Some, None, refl, sym, ◌∙◌, ap, subst, ⊎_elim, arith}
+use Rattle.std.proofs.Common.{ℕ, suc, ◌≡◌, ◌==◌, true, false, List, [], ◌∷◌, Some, None, refl, sym, ◌∙◌, ap, ⊎_elim, arith}
+use Rattle.indexmap.specs.IndexMap.{insert_entry}
 use Rattle.std.proofs.lemmas.Bool.{cases_Bool, cases_eq}
 use Rattle.std.proofs.lemmas.Bool.Decides.{nat_tests}
+use Rattle.std.proofs.lemmas.Map.Entries.{lookup_from_place}
 use Rattle.std.proofs.lemmas.Option.{none-some, same_Some}
-use Rattle.std.specs.List.{insert, remove}
-use Rattle.std.specs.Prelude.{if◌then◌else◌}
-use Rattle.vm_base.proofs.Keys.{itself, page_read, swap_tests}
+use Rattle.std.specs.List.{IsDistinct}
+use Rattle.std.specs.Map.{keys_of, lookup, set_value}
+use Rattle.std.specs.Prelude.{Bool, if◌then◌else◌, slice_get}
+use Rattle.vm_base.proofs.Keys.{swap_tests}
 use Rattle.vm_base.specs.Keys.{is_page}
 use Rattle.vm_base.specs.declared.ids.PageKey.{PageKey}
-use Rattle.vm_resident.proofs.Places.{none_among}
-use Rattle.vm_resident.specs.Kept.{ByKey}
+use Rattle.vm_resident.proofs.Entries.{row_entry, same_page_laws}
+use Rattle.vm_resident.specs.Kept.{pages_of, same_page}
 use Rattle.vm_resident.specs.Resident.{owner_among, row_among}
 use Rattle.vm_resident.specs.declared.page_row.PageRow.{PageRow}
 use Rattle.vm_resident.specs.declared.resident_page.ResidentPage.{ResidentPage}
 
 -- the page has a row with the frame
-pub record HasFrame (key : PageKey) (f : ℕ) (pages : List ResidentPage) : Type 0 where
+pub record HasFrame (key : PageKey) (f : ℕ) (entries : List (PageKey × PageRow)) : Type 0 where
   pub row : PageRow
-  pub at : row_among key.object.0 key.page.0 pages ≡ Some row
+  pub at : row_among key.object.0 key.page.0 (pages_of entries) ≡ Some row
   pub frame : row.frame.0 ≡ f
 
-pub owner_has : (object page f : ℕ) (key : PageKey) (pages : List ResidentPage) → ByKey object page pages → owner_among f pages ≡ Some key → HasFrame key f pages
-owner_has object page f key [] by_key is = absurd (none-some key is)
-owner_has object page f key (x ∷ xs) by_key is =
+-- an entry has the page and the frame
+record Stands (key : PageKey) (f : ℕ) (entries : List (PageKey × PageRow)) : Type 0 where
+  i : ℕ
+  row : PageRow
+  is : slice_get entries i ≡ Some (key, row)
+  frame : row.frame.0 ≡ f
+
+owner_stands : (f : ℕ) (key : PageKey) (entries : List (PageKey × PageRow)) → owner_among f (pages_of entries) ≡ Some key → Stands key f entries
+owner_stands f key [] is = absurd (none-some key is)
+owner_stands f key (e ∷ es) is =
     ⊎_elim
-    (λ (same : x.row.frame.0 ≡ f).
-    let yes : (x.row.frame.0 == f) ≡ true = grind (arith, nat_tests) in
-    let one : x.key ≡ key = same_Some x.key key (rw yes at is) in
-    let here = itself x.key in
-    subst (λ (z : PageKey). HasFrame z f (x ∷ xs)) one (record { row = x.row; at = rw here refl; frame = same }))
-    (λ (other : x.row.frame.0 ≡ f → ⊥).
-    let no : (x.row.frame.0 == f) ≡ false = grind (arith, nat_tests) in
-    let rest = owner_has x.key.object.0 (suc x.key.page.0) f key xs by_key.1 (rw no at is) in
-    ⊎_elim
-    (λ (here : is_page x.key key.object.0 key.page.0 ≡ true).
-    let read = page_read x.key key.object.0 key.page.0 here in
-    let none = none_among x.key.object.0 (suc x.key.page.0) key.object.0 key.page.0 xs by_key.1 (record { above = omega (arith, read.object); inside = λ le. omega (arith, read.page) }) in
-    absurd (none-some rest.row (sym none ∙ rest.at)))
-    (λ (apart : is_page x.key key.object.0 key.page.0 ≡ false). record { row = rest.row; at = rw apart rest.at; frame = rest.frame })
-    (cases_Bool (is_page x.key key.object.0 key.page.0)))
-    (cases_eq x.row.frame.0 f)
+    (λ (same : e.1.frame.0 ≡ f).
+    let yes : (e.1.frame.0 == f) ≡ true = grind (arith, nat_tests) in
+    let one : e.0 ≡ key = same_Some e.0 key (rw yes at is) in
+    record { i = 0; row = e.1; is = ap (λ (z : PageKey). Some (z, e.1)) one; frame = same })
+    (λ (other : e.1.frame.0 ≡ f → ⊥).
+    let no : (e.1.frame.0 == f) ≡ false = grind (arith, nat_tests) in
+    let rest = owner_stands f key es (rw no at is) in
+    record { i = suc rest.i; row = rest.row; is = rest.is; frame = rest.frame })
+    (cases_eq e.1.frame.0 f)
+
+pub owner_has : (f : ℕ) (key : PageKey) (entries : List (PageKey × PageRow)) → IsDistinct same_page (keys_of entries) → owner_among f (pages_of entries) ≡ Some key → HasFrame key f entries
+owner_has f key entries unique leads =
+    let stands = owner_stands f key entries leads in
+    record {
+      row = stands.row;
+      at = row_entry key.object.0 key.page.0 entries ∙ lookup_from_place same_page_laws entries stands.i key stands.row unique stands.is;
+      frame = stands.frame;
+    }
 
 pub owner_none : (f o p : ℕ) (row : PageRow) (pages : List ResidentPage) → owner_among f pages ≡ None → row_among o p pages ≡ Some row → row.frame.0 ≡ f → ⊥
 owner_none f o p row [] none is same = none-some row is
@@ -56,29 +68,43 @@ owner_none f o p row (x ∷ xs) none is same =
     (cases_Bool (is_page x.key o p)))
     (cases_eq x.row.frame.0 f)
 
+-- the first entry with the frame, and what is left behind one that hasn't it
+pub owner_first : (f : ℕ) (key : PageKey) (row : PageRow) (entries rest : List (PageKey × PageRow)) → entries ≡ (key, row) ∷ rest → row.frame.0 ≡ f → Some key ≡ owner_among f (pages_of entries)
+owner_first f key row entries rest is same =
+    let yes : (row.frame.0 == f) ≡ true = grind (arith, nat_tests) in
+    rw is (rw yes refl)
+
+pub owner_later : (f : ℕ) (key : PageKey) (row : PageRow) (entries rest : List (PageKey × PageRow)) → entries ≡ (key, row) ∷ rest → (row.frame.0 ≡ f → ⊥) → owner_among f (pages_of rest) ≡ owner_among f (pages_of entries)
+owner_later f key row entries rest is differ =
+    let no : (row.frame.0 == f) ≡ false = grind (arith, nat_tests) in
+    rw is (rw no refl)
+
 -- two frames that differ don't both pass the test of one
 one_frame : (a b g : ℕ) → (a == b) ≡ false → (a == g) ≡ true → (b == g) ≡ false
 one_frame a b g differ same = grind (arith, nat_tests)
 
-pub owner_inserted : (i g : ℕ) (new : ResidentPage) (pages : List ResidentPage) → owner_among new.row.frame.0 pages ≡ None
-    → owner_among g (insert pages i new) ≡ (if new.row.frame.0 == g then Some new.key else owner_among g pages)
-owner_inserted zero g new pages none = refl
-owner_inserted (suc i) g new [] none = refl
-owner_inserted (suc i) g new (x ∷ xs) none =
+pub owner_inserted : (g : ℕ) (key : PageKey) (row : PageRow) (entries : List (PageKey × PageRow)) → lookup (same_page key) entries ≡ None → owner_among row.frame.0 (pages_of entries) ≡ None
+    → owner_among g (pages_of (insert_entry same_page entries key row)) ≡ (if row.frame.0 == g then Some key else owner_among g (pages_of entries))
+owner_inserted g key row [] absent none = refl
+owner_inserted g key row (e ∷ es) absent none =
     ⊎_elim
-    (λ (yes : (x.row.frame.0 == new.row.frame.0) ≡ true). absurd (none-some x.key (sym (rw yes at none))))
-    (λ (no : (x.row.frame.0 == new.row.frame.0) ≡ false).
-    let rest = owner_inserted i g new xs (rw no at none) in
-    rw rest (swap_tests (x.row.frame.0 == g) (new.row.frame.0 == g) (Some x.key) (Some new.key) (owner_among g xs) (λ same. one_frame x.row.frame.0 new.row.frame.0 g no same)))
-    (cases_Bool (x.row.frame.0 == new.row.frame.0))
+    (λ (here : same_page key e.0 ≡ true). absurd (none-some e.1 (sym (rw here at absent))))
+    (λ (apart : same_page key e.0 ≡ false).
+    ⊎_elim
+    (λ (yes : (e.1.frame.0 == row.frame.0) ≡ true). absurd (none-some e.0 (sym (rw yes at none))))
+    (λ (no : (e.1.frame.0 == row.frame.0) ≡ false).
+    let rest = owner_inserted g key row es (rw apart at absent) (rw no at none) in
+    rw apart (rw rest (swap_tests (e.1.frame.0 == g) (row.frame.0 == g) (Some e.0) (Some key) (owner_among g (pages_of es)) (λ same. one_frame e.1.frame.0 row.frame.0 g no same))))
+    (cases_Bool (e.1.frame.0 == row.frame.0)))
+    (cases_Bool (same_page key e.0))
 
-pub owner_set : (i g : ℕ) (new : ResidentPage) (pages : List ResidentPage) (d : ResidentPage) → i < length pages → (get_or pages i d).key ≡ new.key → (get_or pages i d).row.frame.0 ≡ new.row.frame.0
-    → owner_among g (set pages i new) ≡ owner_among g pages
-owner_set i g new [] d within key frame = refl
-owner_set zero g new (x ∷ xs) d within key frame = rw (key, frame) refl
-owner_set (suc i) g new (x ∷ xs) d within key frame = let rest = owner_set i g new xs d (omega arith) key frame in rw rest refl
-
-pub owner_left : (i g : ℕ) (pages : List ResidentPage) (d : ResidentPage) → i < length pages → ((get_or pages i d).row.frame.0 == g) ≡ false → owner_among g (remove pages i) ≡ owner_among g pages
-owner_left i g [] d within other = absurd (omega arith)
-owner_left zero g (x ∷ xs) d within other = rw other refl
-owner_left (suc i) g (x ∷ xs) d within other = let rest = owner_left i g xs d (omega arith) other in rw rest refl
+pub owner_set : (g : ℕ) (test : PageKey → Bool) (was row : PageRow) (entries : List (PageKey × PageRow)) → lookup test entries ≡ Some was → was.frame.0 ≡ row.frame.0
+    → owner_among g (pages_of (set_value test entries row)) ≡ owner_among g (pages_of entries)
+owner_set g test was row [] there frame = refl
+owner_set g test was row (e ∷ es) there frame =
+    ⊎_elim
+    (λ (here : test e.0 ≡ true).
+    let same : row.frame.0 ≡ e.1.frame.0 = sym frame ∙ ap (λ (z : PageRow). z.frame.0) (sym (same_Some e.1 was (rw here at there))) in
+    rw here (ap (λ z. if z == g then Some e.0 else owner_among g (pages_of es)) same))
+    (λ (apart : test e.0 ≡ false). rw apart (ap (λ z. if e.1.frame.0 == g then Some e.0 else z) (owner_set g test was row es (rw apart at there) frame)))
+    (cases_Bool (test e.0))

@@ -1,25 +1,24 @@
--- How the pages are kept: by rising object, and by rising page of an object.
-use Rattle.std.specs.Prelude.{ℕ, suc, ◌==◌, Bool, false, List, [], ◌∷◌, Option, Some, None, if◌then◌else◌}
-use Rattle.vm_base.specs.Keys.{IsFrom, is_before, is_page}
+-- How the rows are kept: in a map, with the set of their pages beside it.
+use Rattle.std.specs.List.{IsDistinct}
+use Rattle.std.specs.Map.{keys_of}
+use Rattle.std.specs.Prelude.{ℕ, ◌≡◌, ◌≤◌, Bool, List, is_some, map}
+use Rattle.vm_base.specs.Keys.{is_page}
+use Rattle.vm_base.specs.declared.ids.PageKey.{PageKey}
+use Rattle.vm_resident.specs.Groups.{PageSet, is_in}
+use Rattle.vm_resident.specs.Resident.{row_among}
+use Rattle.vm_resident.specs.declared.page_row.PageRow.{PageRow}
 use Rattle.vm_resident.specs.declared.resident_page.ResidentPage.{ResidentPage}
 
--- by rising object and page, from one on
-abbrev pub ByKey : ℕ → ℕ → List ResidentPage → Type 0
-ByKey object page [] = Unit {0}
-ByKey object page (other ∷ others) =
-    IsFrom object page other.key × ByKey other.key.object.0 (suc other.key.page.0) others
+-- the pages with their rows, in the order of the map
+abbrev pub pages_of : List (PageKey × PageRow) → List ResidentPage
+pages_of entries = map (λ (entry : PageKey × PageRow). record { key = entry.0; row = entry.1 }) entries
 
--- how many pages come in front of one
-abbrev pub resident_before : ℕ → ℕ → List ResidentPage → ℕ
-resident_before object page [] = 0
-resident_before object page (other ∷ others) = if is_before other.key object page then suc (resident_before object page others) else 0
+abbrev pub same_page : PageKey → PageKey → Bool
+same_page key other = is_page key other.object.0 other.page.0
 
--- whether a page stands at a place
-abbrev pub is_page_at : ℕ → ℕ → Option ResidentPage → Bool
-is_page_at object page None = false
-is_page_at object page (Some other) = is_page other.key object page
-
--- whether a page of the object stands at a place
-abbrev pub is_of : ℕ → Option ResidentPage → Bool
-is_of object None = false
-is_of object (Some other) = other.key.object.0 == object
+-- the set has the pages of the rows, and map and set have the room that is promised
+pub record IsKept (entries : List (PageKey × PageRow)) (room : ℕ) (set : PageSet) (spare : ℕ) : Type 0 where
+  pub unique : IsDistinct same_page (keys_of entries)
+  pub pages : (o p : ℕ) → is_in set o p ≡ is_some (row_among o p (pages_of entries))
+  pub rows_room : spare ≤ room
+  pub pages_room : spare ≤ set.spare

@@ -1,9 +1,11 @@
 // The table of resident pages.
-ghost use Rattle.std.specs.Prelude.{ℕ, ◌≡◌, ◌+◌, ◌≤◌, ◌<◌, [], Some, None, IfSome, IsOk, IsSomeAnd, MatchOption, OnErr, OnOk};
+ghost use Rattle.indexmap.specs.IndexMap.{get_by};
+ghost use Rattle.std.specs.Prelude.{ℕ, ◌≡◌, ◌+◌, ◌≤◌, ◌<◌, ◌==◌, ◌&&◌, [], Some, None, IfSome, IsOk, IsSomeAnd, MatchOption, OnErr, OnOk};
 ghost use Rattle.vm_resident.specs.Resident.{IsNextPage, IsOwned, NoRowHas, NoRowsFrom, PutsOwner, PutsRow, owner_of, row_at};
 
 use crate::PageRow;
-use crate::resident_page::{ResidentPage, find, is_of_object, owner, stands_at};
+use crate::page_groups::PageGroups;
+use indexmap::IndexMap;
 use std::alloc::Global;
 use std::marker::Model;
 use vm_base::{FrameNo, NoMemory, ObjectId, PageKey, PageNo};
@@ -15,20 +17,23 @@ use vm_base::{FrameNo, NoMemory, ObjectId, PageKey, PageNo};
 /// its page. Only `reserve` takes memory.
 #[derive(Drop)]
 pub struct Resident {
-    // By rising object, and by rising page of an object.
-    pages: Vec<ResidentPage>,
+    rows: IndexMap<PageKey, PageRow>,
+    // The pages that have a row.
+    pages: PageGroups,
+    // So many further rows have been promised room.
+    promised: u32,
 }
 
 impl Model for Resident {
-    ghost use Rattle.std.specs.Prelude.{◌-◌, length, vec_capacity};
-    ghost use Rattle.vm_resident.specs.Kept.{ByKey};
+    ghost use Rattle.indexmap.specs.IndexMap.{spare};
+    ghost use Rattle.vm_resident.specs.Kept.{IsKept, pages_of};
     ghost use Rattle.vm_resident.specs.Resident.{ResidentTable};
 
     ghost Value = { ResidentTable };
 
-    ghost view = { λ s. record { rows = s.pages.items; spare = vec_capacity s.pages - length s.pages.items } };
+    ghost view = { λ s. record { rows = pages_of s.rows.entries; spare = s.promised } };
 
-    ghost invariant = { λ s. ByKey 0 0 s.pages.items };
+    ghost invariant = { λ s. IsKept s.rows.entries (spare s.rows) s.pages s.promised };
 }
 
 impl Resident {
@@ -40,7 +45,9 @@ impl Resident {
         ensures owned { IsOwned result }
     {
         Resident {
-            pages: Vec::new(alloc),
+            rows: IndexMap::new(alloc),
+            pages: PageGroups::new(alloc),
+            promised: 0,
         }
     }
 
@@ -52,7 +59,12 @@ impl Resident {
         ensures succeeds { n ≤ self.old.spare → IsOk result }
         ensures err { OnErr result (self.new ≡ self.old) }
     {
-        self.pages.reserve(n as usize)?;
+        if n <= self.promised {
+            return Ok(());
+        }
+        self.rows.reserve(n as usize)?;
+        self.pages.reserve(n)?;
+        self.promised = n;
         Ok(())
     }
 
@@ -65,19 +77,16 @@ impl Resident {
         ensures frames { owner_of self.old row.frame.0 ≡ None → PutsOwner row.frame.0 (Some key) self.old self.new }
         ensures owned { IsOwned self.old → owner_of self.old row.frame.0 ≡ None → IsOwned self.new }
     {
-        let i = find(&self.pages, key);
-        let _ = self.pages.insert(i, ResidentPage { key, row });
+        let _ = self.rows.insert(key, row);
+        self.pages.insert(key);
+        self.promised -= 1;
     }
 
     /// The row of a page; None exactly where the page isn't resident.
     pub fn get(&self, key: PageKey) -> Option<PageRow>
         ensures { result ≡ row_at self.now key.object.0 key.page.0 }
     {
-        let i = find(&self.pages, key);
-        if !stands_at(&self.pages, i, key) {
-            return None;
-        }
-        Some(self.pages[i].row)
+        self.rows.get(&key).copied()
     }
 
     /// Changes the row of a page, which keeps its frame.
@@ -88,8 +97,8 @@ impl Resident {
         ensures frames { (f : ℕ) → owner_of self.new f ≡ owner_of self.old f }
         ensures owned { IsOwned self.old → IsOwned self.new }
     {
-        let i = find(&self.pages, key);
-        self.pages[i] = ResidentPage { key, row };
+        let kept = self.rows.get_mut(&key).unwrap();
+        *kept = row;
     }
 
     /// Takes out the row of a page; None exactly where the page wasn't resident.
@@ -101,12 +110,9 @@ impl Resident {
         ensures owned { IsOwned self.old → IsOwned self.new }
         ensures none { result ≡ None → self.new ≡ self.old }
     {
-        let i = find(&self.pages, key);
-        if !stands_at(&self.pages, i, key) {
-            return None;
-        }
-        let page = self.pages.remove(i);
-        Some(page.row)
+        let row = self.rows.swap_remove(&key)?;
+        self.pages.remove(key);
+        Some(row)
     }
 
     /// The first resident page of an object from a page on, which is itself looked at.
@@ -114,11 +120,7 @@ impl Resident {
         ensures { MatchOption result (NoRowsFrom self.now object.0 from.0)
             (λ page. IsNextPage self.now object.0 from.0 page.0) }
     {
-        let i = find(&self.pages, PageKey { object, page: from });
-        if !is_of_object(&self.pages, i, object) {
-            return None;
-        }
-        Some(self.pages[i].key.page)
+        self.pages.next(object, from)
     }
 
     /// The page whose row has a frame; the first such page, if several have it.
@@ -127,6 +129,18 @@ impl Resident {
         ensures row { MatchOption result (NoRowHas self.now f.0)
             (λ key. IsSomeAnd (row_at self.now key.object.0 key.page.0) (λ row. row.frame.0 ≡ f.0)) }
     {
-        owner(&self.pages, f)
+        'all: for (key, row) in &self.rows {
+            if row.frame.0 == f.0 {
+                return Some(*key);
+            }
+        }
+        None
+    }
+
+    /// The rows, by their pages.
+    pub fn table(&self) -> &IndexMap<PageKey, PageRow>
+        ensures { (object page : ℕ) → get_by (λ key. object == key.object.0 && page == key.page.0) result.now ≡ row_at self.now object page }
+    {
+        &self.rows
     }
 }

@@ -1,38 +1,37 @@
-use Rattle.std.proofs.Common.{ap, ◌≡◌, ◌<◌, arith}
-use Rattle.std.specs.List.{insert}
-use Rattle.std.specs.Vec.{vec_capacity, vec_len}
-use Rattle.vm_resident.proofs.Tables.{inserted, owned_inserted, placed}
-use Rattle.vm_resident.proofs.resident.Resident.insert.Goals as goal
+use Rattle.std.proofs.Common.{◌<◌, ◌-◌, Some, ap, arith}
+use Rattle.indexmap.specs.IndexMap.{spare}
+use Rattle.vm_base.specs.Keys.{page_key}
+use Rattle.vm_resident.proofs.Entries.{WritesEntry, pages_put, seen}
+use Rattle.vm_resident.proofs.PageSets.{ok_has}
+use Rattle.vm_resident.proofs.Tables.{Puts, inserted}
 use Rattle.vm_resident.specs.Resident.{ResidentTable}
+use Rattle.vm_resident.proofs.resident.Resident.insert.Goals as goal
 
 pub invariant_of-self : goal.invariant_of-self
 invariant_of-self c =
-    let place = placed c.self.inside.pages.items c.deref.result.now _ c.args.self.now c.args.key c.find-i.result c.self.view_is c.self.invariant c.deref.ensures.value c.find-i.ensures.value in
-    let room : vec_len c.self.inside.pages < vec_capacity c.self.inside.pages = omega (arith, ap (λ (z : ResidentTable). z.spare) c.self.view_is, c.requires.room, c.self.inside.pages.ok.0) in
-    let put : c.insert.new.self.items ≡ insert c.self.inside.pages.items c.find-i.result (record { key = c.args.key; row = c.args.row }) = rw (c.insert.ensures.succeeds room) at c.insert.ensures.items in
-    let left = inserted c.self.inside.pages.items c.insert.new.self.items c.args.self.now c.args.key c.find-i.result c.args.row place c.requires.absent put in
-    left.kept
+    let promised = ap (λ (z : ResidentTable). z.spare) c.self.view_is in
+    let room : 0 < spare c.self.inside.rows = omega (arith, promised, c.requires.room, c.self.invariant.rows_room) in
+    let put = ok_has c.insert.result (c.insert.ensures.succeeds room) c.insert.ensures.updates in
+    let writes : WritesEntry c.args.key (Some c.args.row) c.self.inside.rows.entries c.insert.new.self.entries = λ o p. put.0 (page_key o p) in
+    record {
+      unique = c.insert.ensures.unique;
+      pages = pages_put c.self.inside.rows.entries c.insert.new.self.entries c.args.key (Some c.args.row) c.self.inside.pages _ c.self.invariant.pages writes c.insert-2.ensures.pages;
+      rows_room = omega (arith, promised, c.requires.room, c.self.invariant.rows_room, c.insert.ensures.spare);
+      pages_room = omega (arith, promised, c.requires.room, c.self.invariant.pages_room, c.insert-2.ensures.room);
+    }
+
+left : (c : goal.After-self-1) → Puts c.args.key c.args.row (seen c.self.inside.rows.entries c.self.inside.promised) (seen c.insert.new.self.entries (c.self.inside.promised - 1))
+left c =
+    let room : 0 < spare c.self.inside.rows = omega (arith, ap (λ (z : ResidentTable). z.spare) c.self.view_is, c.requires.room, c.self.invariant.rows_room) in
+    let succeeds = c.insert.ensures.succeeds room in
+    let put = ok_has c.insert.result succeeds c.insert.ensures.updates in
+    inserted c.self.inside.rows.entries c.insert.new.self.entries c.self.inside.promised _ c.args.key c.args.row (rw (← c.self.view_is) at c.requires.absent) (λ o p. put.0 (page_key o p)) (ok_has c.insert.result succeeds c.insert.ensures.entries)
 
 pub returns-clause-rows : goal.returns-clause-rows
-returns-clause-rows c =
-    let place = placed c.self.inside.pages.items c.deref.result.now _ c.args.self.now c.args.key c.find-i.result c.self.view_is c.self.invariant c.deref.ensures.value c.find-i.ensures.value in
-    let room : vec_len c.self.inside.pages < vec_capacity c.self.inside.pages = omega (arith, ap (λ (z : ResidentTable). z.spare) c.self.view_is, c.requires.room, c.self.inside.pages.ok.0) in
-    let put : c.insert.new.self.items ≡ insert c.self.inside.pages.items c.find-i.result (record { key = c.args.key; row = c.args.row }) = rw (c.insert.ensures.succeeds room) at c.insert.ensures.items in
-    let left = inserted c.self.inside.pages.items c.insert.new.self.items c.args.self.now c.args.key c.find-i.result c.args.row place c.requires.absent put in
-    left.rows _
+returns-clause-rows c = let leaves = left c in rw (← c.self.view_is) leaves.rows
 
 pub returns-clause-frames : goal.returns-clause-frames
-returns-clause-frames c =
-    let place = placed c.self.inside.pages.items c.deref.result.now _ c.args.self.now c.args.key c.find-i.result c.self.view_is c.self.invariant c.deref.ensures.value c.find-i.ensures.value in
-    let room : vec_len c.self.inside.pages < vec_capacity c.self.inside.pages = omega (arith, ap (λ (z : ResidentTable). z.spare) c.self.view_is, c.requires.room, c.self.inside.pages.ok.0) in
-    let put : c.insert.new.self.items ≡ insert c.self.inside.pages.items c.find-i.result (record { key = c.args.key; row = c.args.row }) = rw (c.insert.ensures.succeeds room) at c.insert.ensures.items in
-    let left = inserted c.self.inside.pages.items c.insert.new.self.items c.args.self.now c.args.key c.find-i.result c.args.row place c.requires.absent put in
-    left.frames _
+returns-clause-frames c = let leaves = left c in rw (← c.self.view_is) leaves.frames
 
 pub returns-clause-owned : goal.returns-clause-owned
-returns-clause-owned c =
-    let place = placed c.self.inside.pages.items c.deref.result.now _ c.args.self.now c.args.key c.find-i.result c.self.view_is c.self.invariant c.deref.ensures.value c.find-i.ensures.value in
-    let room : vec_len c.self.inside.pages < vec_capacity c.self.inside.pages = omega (arith, ap (λ (z : ResidentTable). z.spare) c.self.view_is, c.requires.room, c.self.inside.pages.ok.0) in
-    let put : c.insert.new.self.items ≡ insert c.self.inside.pages.items c.find-i.result (record { key = c.args.key; row = c.args.row }) = rw (c.insert.ensures.succeeds room) at c.insert.ensures.items in
-    let left = inserted c.self.inside.pages.items c.insert.new.self.items c.args.self.now c.args.key c.find-i.result c.args.row place c.requires.absent put in
-    λ owned free. owned_inserted c.args.self.now _ c.args.key c.args.row (left.rows _) (left.frames _ free) free owned
+returns-clause-owned c = let leaves = left c in rw (← c.self.view_is) leaves.owned

@@ -1,55 +1,43 @@
-use Rattle.std.proofs.Common.{ap, sym, ◌∙◌, ◌≡◌, Some, arith}
-use Rattle.vm_resident.proofs.Tables.{absent, owned_taken, placed, present, taken, unput}
+use Rattle.std.proofs.Common.{◌≡◌, ◌∙◌, None, Some, sym, arith}
+use Rattle.vm_base.specs.Keys.{page_key}
+use Rattle.vm_resident.proofs.Entries.{entry_at, pages_put, row_entry, row_put, seen}
+use Rattle.vm_resident.proofs.Tables.{Takes, taken}
 use Rattle.vm_resident.proofs.resident.Resident.remove.Goals as goal
-use Rattle.vm_resident.specs.declared.resident_page.ResidentPage.{ResidentPage}
 
-pub returns-then-not-stands_at-clause-value : goal.returns-then-not-stands_at-clause-value
-returns-then-not-stands_at-clause-value c =
-    let place = placed c.self.inside.pages.items c.deref.result.now _ c.args.self.now c.args.key c.find-i.result c.self.view_is c.self.invariant c.deref.ensures.value c.find-i.ensures.value in
-    sym (absent c.self.inside.pages.items c.deref-2.result.now c.args.self.now c.args.key c.find-i.result c.stands_at.result place c.deref-2.ensures.value c.stands_at.ensures c.if-not-stands_at.true)
+pub returns-in_err-row-clause-value : goal.returns-in_err-row-clause-value
+returns-in_err-row-clause-value c =
+    let found = sym c.in_err-row.was ∙ c.swap_remove.ensures.value in
+    rw (← c.self.view_is) (c.from_residual.ensures ∙ found ∙ sym (row_entry c.args.key.object.0 c.args.key.page.0 c.self.inside.rows.entries))
 
-pub returns-then-not-stands_at-clause-rows : goal.returns-then-not-stands_at-clause-rows
-returns-then-not-stands_at-clause-rows c =
-    let place = placed c.self.inside.pages.items c.deref.result.now _ c.args.self.now c.args.key c.find-i.result c.self.view_is c.self.invariant c.deref.ensures.value c.find-i.ensures.value in
-    unput c.args.self.now c.args.key (absent c.self.inside.pages.items c.deref-2.result.now c.args.self.now c.args.key c.find-i.result c.stands_at.result place c.deref-2.ensures.value c.stands_at.ensures c.if-not-stands_at.true)
+pub returns-in_err-row-clause-rows : goal.returns-in_err-row-clause-rows
+returns-in_err-row-clause-rows c =
+    let rows = row_put c.self.inside.rows.entries c.swap_remove.new.self.entries c.args.key None c.self.inside.promised c.self.inside.promised (λ o p. c.swap_remove.ensures.updates.0 (page_key o p)) in
+    rw (← c.self.view_is) rows
 
-pub remove-page-requires : goal.remove-page-requires
-remove-page-requires c =
-    let place = placed c.self.inside.pages.items c.deref.result.now _ c.args.self.now c.args.key c.find-i.result c.self.view_is c.self.invariant c.deref.ensures.value c.find-i.ensures.value in
-    let here = present c.self.inside.pages.items c.deref-2.result.now c.args.self.now c.args.key c.find-i.result c.stands_at.result place c.deref-2.ensures.value c.stands_at.ensures c.if-not-stands_at.false in
-    omega (arith, here.at.within, c.self.inside.pages.ok.0)
+pub invariant_of-self-2 : goal.invariant_of-self-2
+invariant_of-self-2 c = record {
+  unique = c.swap_remove.ensures.unique;
+  pages = pages_put c.self.inside.rows.entries c.swap_remove.new.self.entries c.args.key None c.self.inside.pages c.remove.new.self c.self.invariant.pages (λ o p. c.swap_remove.ensures.updates.0 (page_key o p)) c.remove.ensures.pages;
+  rows_room = omega (arith, c.self.invariant.rows_room, c.swap_remove.ensures.room.0);
+  pages_room = omega (arith, c.self.invariant.pages_room, c.remove.ensures.room);
+}
 
-pub invariant_of-self : goal.invariant_of-self
-invariant_of-self c =
-    let place = placed c.self.inside.pages.items c.deref.result.now _ c.args.self.now c.args.key c.find-i.result c.self.view_is c.self.invariant c.deref.ensures.value c.find-i.ensures.value in
-    let here = present c.self.inside.pages.items c.deref-2.result.now c.args.self.now c.args.key c.find-i.result c.stands_at.result place c.deref-2.ensures.value c.stands_at.ensures c.if-not-stands_at.false in
-    let left = taken c.self.inside.pages.items c.remove-page.new.self.items c.args.self.now c.args.key c.find-i.result here.was place here.at here.row c.remove-page.ensures.items in
-    left.kept
+left : (c : goal.After-remove) → Takes c.args.key c.in_ok-row.row (seen c.self.inside.rows.entries c.self.inside.promised) (seen c.swap_remove.new.self.entries c.self.inside.promised)
+left c =
+    let found : entry_at c.args.key.object.0 c.args.key.page.0 c.self.inside.rows.entries ≡ Some c.in_ok-row.row = sym c.swap_remove.ensures.value ∙ c.in_ok-row.was in
+    taken c.self.inside.rows.entries c.swap_remove.new.self.entries c.self.inside.promised c.self.inside.promised c.args.key c.in_ok-row.row c.self.invariant.unique c.swap_remove.ensures.unique
+    (row_entry c.args.key.object.0 c.args.key.page.0 c.self.inside.rows.entries ∙ found) (λ o p. c.swap_remove.ensures.updates.0 (page_key o p))
 
 pub returns-clause-value : goal.returns-clause-value
 returns-clause-value c =
-    let place = placed c.self.inside.pages.items c.deref.result.now _ c.args.self.now c.args.key c.find-i.result c.self.view_is c.self.invariant c.deref.ensures.value c.find-i.ensures.value in
-    let here = present c.self.inside.pages.items c.deref-2.result.now c.args.self.now c.args.key c.find-i.result c.stands_at.result place c.deref-2.ensures.value c.stands_at.ensures c.if-not-stands_at.false in
-    ap Some (ap (λ (z : ResidentPage). z.row) (c.remove-page.ensures.value ∙ here.at.is c.remove-page.result)) ∙ sym here.row
+    let found : entry_at c.args.key.object.0 c.args.key.page.0 c.self.inside.rows.entries ≡ Some c.in_ok-row.row = sym c.swap_remove.ensures.value ∙ c.in_ok-row.was in
+    rw (← c.self.view_is) (sym found ∙ sym (row_entry c.args.key.object.0 c.args.key.page.0 c.self.inside.rows.entries))
 
 pub returns-clause-rows : goal.returns-clause-rows
-returns-clause-rows c =
-    let place = placed c.self.inside.pages.items c.deref.result.now _ c.args.self.now c.args.key c.find-i.result c.self.view_is c.self.invariant c.deref.ensures.value c.find-i.ensures.value in
-    let here = present c.self.inside.pages.items c.deref-2.result.now c.args.self.now c.args.key c.find-i.result c.stands_at.result place c.deref-2.ensures.value c.stands_at.ensures c.if-not-stands_at.false in
-    let left = taken c.self.inside.pages.items c.remove-page.new.self.items c.args.self.now c.args.key c.find-i.result here.was place here.at here.row c.remove-page.ensures.items in
-    left.rows _
+returns-clause-rows c = let leaves = left c in rw (← c.self.view_is) leaves.rows
 
 pub returns-clause-frames : goal.returns-clause-frames
-returns-clause-frames c =
-    let place = placed c.self.inside.pages.items c.deref.result.now _ c.args.self.now c.args.key c.find-i.result c.self.view_is c.self.invariant c.deref.ensures.value c.find-i.ensures.value in
-    let here = present c.self.inside.pages.items c.deref-2.result.now c.args.self.now c.args.key c.find-i.result c.stands_at.result place c.deref-2.ensures.value c.stands_at.ensures c.if-not-stands_at.false in
-    let left = taken c.self.inside.pages.items c.remove-page.new.self.items c.args.self.now c.args.key c.find-i.result here.was place here.at here.row c.remove-page.ensures.items in
-    let same : c.remove-page.result.row ≡ here.was = ap (λ (z : ResidentPage). z.row) (c.remove-page.ensures.value ∙ here.at.is c.remove-page.result) in
-    λ owned. rw same (left.frames _ owned)
+returns-clause-frames c = let leaves = left c in rw (← c.self.view_is) leaves.frames
 
 pub returns-clause-owned : goal.returns-clause-owned
-returns-clause-owned c =
-    let place = placed c.self.inside.pages.items c.deref.result.now _ c.args.self.now c.args.key c.find-i.result c.self.view_is c.self.invariant c.deref.ensures.value c.find-i.ensures.value in
-    let here = present c.self.inside.pages.items c.deref-2.result.now c.args.self.now c.args.key c.find-i.result c.stands_at.result place c.deref-2.ensures.value c.stands_at.ensures c.if-not-stands_at.false in
-    let left = taken c.self.inside.pages.items c.remove-page.new.self.items c.args.self.now c.args.key c.find-i.result here.was place here.at here.row c.remove-page.ensures.items in
-    λ owned. owned_taken c.args.self.now _ c.args.key here.was (left.rows _) (left.frames _ owned) here.row owned
+returns-clause-owned c = let leaves = left c in rw (← c.self.view_is) leaves.owned

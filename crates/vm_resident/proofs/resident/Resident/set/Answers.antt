@@ -1,42 +1,38 @@
-use Rattle.std.proofs.Common.{refl, arith}
-use Rattle.vm_resident.proofs.Tables.{at_row, changed, held, owned_changed, placed}
+use Rattle.std.proofs.Common.{rules}
+use Rattle.std.specs.Prelude.{IsSome}
+use Rattle.vm_base.specs.Keys.{page_key}
+use Rattle.vm_resident.proofs.Entries.{entry_at, pages_kept, seen}
+use Rattle.vm_resident.proofs.Tables.{Changes, changed, entry_there}
 use Rattle.vm_resident.proofs.resident.Resident.set.Goals as goal
 
-pub index_mut-requires : goal.index_mut-requires
-index_mut-requires c =
-    let place = placed c.self.inside.pages.items c.deref.result.now _ c.args.self.now c.args.key c.find-i.result c.self.view_is c.self.invariant c.deref.ensures.value c.find-i.ensures.value in
-    let stood = held c.args.self.now c.args.key c.args.row.frame.0 c.requires in
-    let here = at_row c.self.inside.pages.items c.args.self.now c.args.key c.find-i.result stood.was place stood.row in
-    omega (arith, here.within, c.self.inside.pages.ok.0)
+pub unwrap-kept-requires : goal.unwrap-kept-requires
+unwrap-kept-requires c =
+    let there : IsSome (entry_at c.args.key.object.0 c.args.key.page.0 c.self.inside.rows.entries) = entry_there c.self.inside.rows.entries c.self.inside.promised c.args.key c.args.row.frame.0 (rw (← c.self.view_is) at c.requires) in
+    search rules
 
 pub invariant_of-self : goal.invariant_of-self
 invariant_of-self c =
-    let place = placed c.self.inside.pages.items c.deref.result.now _ c.args.self.now c.args.key c.find-i.result c.self.view_is c.self.invariant c.deref.ensures.value c.find-i.ensures.value in
-    let stood = held c.args.self.now c.args.key c.args.row.frame.0 c.requires in
-    let here = at_row c.self.inside.pages.items c.args.self.now c.args.key c.find-i.result stood.was place stood.row in
-    let left = changed c.self.inside.pages.items _ c.args.self.now c.args.key c.find-i.result stood.was c.args.row place here stood.frame refl in
-    left.kept
+    let there = entry_there c.self.inside.rows.entries c.self.inside.promised c.args.key c.args.row.frame.0 (rw (← c.self.view_is) at c.requires) in
+    let wrote = c.get_mut.follows.holds c.args.row in
+    record {
+      unique = wrote.4;
+      pages = pages_kept c.self.inside.rows.entries (c.get_mut.follows.lender c.args.row).entries c.args.key c.args.row c.self.inside.pages c.self.invariant.pages (λ o p. (wrote.3 there).0 (page_key o p)) there;
+      rows_room = rw wrote.6 c.self.invariant.rows_room;
+      pages_room = c.self.invariant.pages_room;
+    }
+
+left : (c : goal.After-self-1) → Changes c.args.key c.args.row (seen c.self.inside.rows.entries c.self.inside.promised) (seen (c.get_mut.follows.lender c.args.row).entries c.self.inside.promised)
+left c =
+    let stood = rw (← c.self.view_is) at c.requires in
+    let there = entry_there c.self.inside.rows.entries c.self.inside.promised c.args.key c.args.row.frame.0 stood in
+    let wrote = c.get_mut.follows.holds c.args.row in
+    changed c.self.inside.rows.entries (c.get_mut.follows.lender c.args.row).entries c.self.inside.promised _ c.args.key c.args.row stood (λ o p. (wrote.3 there).0 (page_key o p)) wrote.0
 
 pub returns-clause-rows : goal.returns-clause-rows
-returns-clause-rows c =
-    let place = placed c.self.inside.pages.items c.deref.result.now _ c.args.self.now c.args.key c.find-i.result c.self.view_is c.self.invariant c.deref.ensures.value c.find-i.ensures.value in
-    let stood = held c.args.self.now c.args.key c.args.row.frame.0 c.requires in
-    let here = at_row c.self.inside.pages.items c.args.self.now c.args.key c.find-i.result stood.was place stood.row in
-    let left = changed c.self.inside.pages.items _ c.args.self.now c.args.key c.find-i.result stood.was c.args.row place here stood.frame refl in
-    left.rows _
+returns-clause-rows c = let leaves = left c in rw (← c.self.view_is) leaves.rows
 
 pub returns-clause-frames : goal.returns-clause-frames
-returns-clause-frames c =
-    let place = placed c.self.inside.pages.items c.deref.result.now _ c.args.self.now c.args.key c.find-i.result c.self.view_is c.self.invariant c.deref.ensures.value c.find-i.ensures.value in
-    let stood = held c.args.self.now c.args.key c.args.row.frame.0 c.requires in
-    let here = at_row c.self.inside.pages.items c.args.self.now c.args.key c.find-i.result stood.was place stood.row in
-    let left = changed c.self.inside.pages.items _ c.args.self.now c.args.key c.find-i.result stood.was c.args.row place here stood.frame refl in
-    left.frames
+returns-clause-frames c = let leaves = left c in rw (← c.self.view_is) leaves.frames
 
 pub returns-clause-owned : goal.returns-clause-owned
-returns-clause-owned c =
-    let place = placed c.self.inside.pages.items c.deref.result.now _ c.args.self.now c.args.key c.find-i.result c.self.view_is c.self.invariant c.deref.ensures.value c.find-i.ensures.value in
-    let stood = held c.args.self.now c.args.key c.args.row.frame.0 c.requires in
-    let here = at_row c.self.inside.pages.items c.args.self.now c.args.key c.find-i.result stood.was place stood.row in
-    let left = changed c.self.inside.pages.items _ c.args.self.now c.args.key c.find-i.result stood.was c.args.row place here stood.frame refl in
-    owned_changed c.args.self.now _ c.args.key stood.was c.args.row (left.rows _) left.frames stood.row stood.frame
+returns-clause-owned c = let leaves = left c in rw (← c.self.view_is) leaves.owned
