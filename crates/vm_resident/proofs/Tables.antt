@@ -6,13 +6,14 @@ use Rattle.std.proofs.lemmas.Bool.Decides.{nat_tests}
 use Rattle.std.proofs.lemmas.Option.{none-some, same_Some}
 use Rattle.std.specs.List.{IsDistinct}
 use Rattle.std.specs.Map.{keys_of, set_value}
-use Rattle.std.specs.Prelude.{IsSome, IsSomeAnd, MatchOption, is_some}
+use Rattle.std.specs.Prelude.{IsSome, IsSomeAnd, MatchOption, is_some, if◌then◌else◌}
 use Rattle.vm_base.proofs.Keys.{itself, key_is, page_read}
 use Rattle.vm_base.specs.Keys.{is_page}
 use Rattle.vm_base.specs.declared.ids.PageKey.{PageKey}
 use Rattle.vm_resident.proofs.Entries.{WritesEntry, entry_at, row_entry, row_put, seen}
 use Rattle.vm_resident.proofs.Owners.{owner_has, owner_inserted, owner_none, owner_set}
-use Rattle.vm_resident.specs.Kept.{pages_of, same_page}
+use Rattle.vm_resident.specs.Kept.{IsLed, pages_of, same_page}
+use Rattle.vm_resident.specs.Owners.{OwnerMap, leads_to}
 use Rattle.vm_resident.specs.Resident.{IsOwned, NoRowHas, PutsOwner, PutsRow, ResidentTable, owner_among, owner_of, page_key, row_among, row_at}
 use Rattle.vm_resident.specs.declared.page_row.PageRow.{PageRow}
 
@@ -194,9 +195,35 @@ some_and : (row : Option PageRow) (has : PageRow) (f : ℕ) → row ≡ Some has
 some_and row has f is frame = rw is frame
 
 -- the page that a frame leads to has a row with it, and where it leads to none, no row has it
-pub owner_row : (entries : List (PageKey × PageRow)) (spare f : ℕ) (table : ResidentTable) (leads : Option PageKey) → seen entries spare ≡ table → IsDistinct same_page (keys_of entries) → leads ≡ owner_of table f
+pub owner_row : (entries : List (PageKey × PageRow)) (spare f : ℕ) (table : ResidentTable) (leads : Option PageKey) → seen entries spare ≡ table → IsDistinct same_page (keys_of entries) → leads ≡ owner_among f (pages_of entries)
     → MatchOption leads (NoRowHas table f) (λ key. IsSomeAnd (row_at table key.object.0 key.page.0) (λ row. row.frame.0 ≡ f))
-owner_row entries spare f table None view unique is = λ o p row stood same. owner_none f o p row table.rows (sym is) stood same
+owner_row entries spare f table None view unique is = λ o p row stood same. owner_none f o p row (pages_of entries) (sym is) (rw (← view) at stood) same
 owner_row entries spare f table (Some key) view unique is =
-    let has = owner_has f key entries unique (rw (← view) at (sym is)) in
+    let has = owner_has f key entries unique (sym is) in
     rw (← view) (some_and (row_among key.object.0 key.page.0 (pages_of entries)) has.row f has.at has.frame)
+
+-- so the frames lead back after each write too
+pub led_inserted : (entries left : List (PageKey × PageRow)) (key : PageKey) (row : PageRow) (owners now : OwnerMap) → Puts key row (seen entries 0) (seen left 0) → IsLed entries owners → leads_to owners row.frame.0 ≡ None
+    → ((f : ℕ) → leads_to now f ≡ (if row.frame.0 == f then Some key else leads_to owners f)) → IsLed left now
+led_inserted entries left key row owners now puts led none leads =
+    let free = sym (led.at row.frame.0) ∙ none in
+    let frames = puts.frames free in
+    record {
+      owned = puts.owned led.owned free;
+      at = λ f. leads f ∙ ap (λ z. if row.frame.0 == f then Some key else z) (led.at f) ∙ sym (frames.at f);
+    }
+
+pub led_changed : (entries left : List (PageKey × PageRow)) (key : PageKey) (row : PageRow) (owners : OwnerMap) → Changes key row (seen entries 0) (seen left 0) → IsLed entries owners → IsLed left owners
+led_changed entries left key row owners changes led = record {
+  owned = changes.owned led.owned;
+  at = λ f. led.at f ∙ sym (changes.frames f);
+}
+
+pub led_taken : (entries left : List (PageKey × PageRow)) (key : PageKey) (row : PageRow) (owners now : OwnerMap) → Takes key row (seen entries 0) (seen left 0) → IsLed entries owners
+    → ((f : ℕ) → leads_to now f ≡ (if row.frame.0 == f then None else leads_to owners f)) → IsLed left now
+led_taken entries left key row owners now takes led leads =
+    let frames = takes.frames led.owned in
+    record {
+      owned = takes.owned led.owned;
+      at = λ f. leads f ∙ ap (λ z. if row.frame.0 == f then None else z) (led.at f) ∙ sym (frames.at f);
+    }

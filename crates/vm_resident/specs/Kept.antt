@@ -1,11 +1,12 @@
 -- How the rows are kept: in a map, with the set of their pages beside it.
 use Rattle.std.specs.List.{IsDistinct}
 use Rattle.std.specs.Map.{keys_of}
-use Rattle.std.specs.Prelude.{ℕ, ◌≡◌, ◌≤◌, Bool, List, is_some, map}
+use Rattle.std.specs.Prelude.{ℕ, ◌≡◌, ◌≤◌, Bool, false, List, is_some, map}
 use Rattle.vm_base.specs.Keys.{is_page}
 use Rattle.vm_base.specs.declared.ids.PageKey.{PageKey}
 use Rattle.vm_resident.specs.Groups.{PageSet, is_in}
-use Rattle.vm_resident.specs.Resident.{row_among}
+use Rattle.vm_resident.specs.Owners.{OwnerMap, leads_to}
+use Rattle.vm_resident.specs.Resident.{IsOwned, owner_among, row_among}
 use Rattle.vm_resident.specs.declared.page_row.PageRow.{PageRow}
 use Rattle.vm_resident.specs.declared.resident_page.ResidentPage.{ResidentPage}
 
@@ -16,9 +17,16 @@ pages_of entries = map (λ (entry : PageKey × PageRow). record { key = entry.0;
 abbrev pub same_page : PageKey → PageKey → Bool
 same_page key other = is_page key other.object.0 other.page.0
 
--- the set has the pages of the rows, and map and set have the room that is promised
-pub record IsKept (entries : List (PageKey × PageRow)) (room : ℕ) (set : PageSet) (spare : ℕ) : Type 0 where
+-- each frame leads to the first page whose row has it, and to no other
+pub record IsLed (entries : List (PageKey × PageRow)) (owners : OwnerMap) : Type 0 where
+  pub owned : IsOwned (record { rows = pages_of entries; spare = 0 })
+  pub at : (f : ℕ) → leads_to owners f ≡ owner_among f (pages_of entries)
+
+-- the set has the pages of the rows, each frame that is not shared leads back, and all have the room that is promised
+pub record IsKept (entries : List (PageKey × PageRow)) (room : ℕ) (set : PageSet) (owners : OwnerMap) (spare : ℕ) : Type 0 where
   pub unique : IsDistinct same_page (keys_of entries)
   pub pages : (o p : ℕ) → is_in set o p ≡ is_some (row_among o p (pages_of entries))
+  pub led : owners.shared ≡ false → IsLed entries owners
   pub rows_room : spare ≤ room
   pub pages_room : spare ≤ set.spare
+  pub owners_room : spare ≤ owners.spare

@@ -1,6 +1,7 @@
 //! The table of a host's resident pages: a row for each, found by the page or by its frame.
 #![tactic(auto)]
 
+mod frame_owners;
 mod page_groups;
 mod page_row;
 mod resident;

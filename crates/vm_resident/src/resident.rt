@@ -4,6 +4,7 @@ ghost use Rattle.std.specs.Prelude.{ℕ, ◌≡◌, ◌+◌, ◌≤◌, ◌<◌,
 ghost use Rattle.vm_resident.specs.Resident.{IsNextPage, IsOwned, NoRowHas, NoRowsFrom, PutsOwner, PutsRow, owner_of, row_at};
 
 use crate::PageRow;
+use crate::frame_owners::{FrameOwners, first_owner};
 use crate::page_groups::PageGroups;
 use indexmap::IndexMap;
 use std::alloc::Global;
@@ -20,6 +21,8 @@ pub struct Resident {
     rows: IndexMap<PageKey, PageRow>,
     // The pages that have a row.
     pages: PageGroups,
+    // The page of each frame.
+    owners: FrameOwners,
     // So many further rows have been promised room.
     promised: u32,
 }
@@ -33,7 +36,7 @@ impl Model for Resident {
 
     ghost view = { λ s. record { rows = pages_of s.rows.entries; spare = s.promised } };
 
-    ghost invariant = { λ s. IsKept s.rows.entries (spare s.rows) s.pages s.promised };
+    ghost invariant = { λ s. IsKept s.rows.entries (spare s.rows) s.pages s.owners s.promised };
 }
 
 impl Resident {
@@ -47,6 +50,7 @@ impl Resident {
         Resident {
             rows: IndexMap::new(alloc),
             pages: PageGroups::new(alloc),
+            owners: FrameOwners::new(alloc),
             promised: 0,
         }
     }
@@ -64,6 +68,7 @@ impl Resident {
         }
         self.rows.reserve(n as usize)?;
         self.pages.reserve(n)?;
+        self.owners.reserve(n)?;
         self.promised = n;
         Ok(())
     }
@@ -79,6 +84,7 @@ impl Resident {
     {
         let _ = self.rows.insert(key, row);
         self.pages.insert(key);
+        self.owners.insert(row.frame, key);
         self.promised -= 1;
     }
 
@@ -112,6 +118,7 @@ impl Resident {
     {
         let row = self.rows.swap_remove(&key)?;
         self.pages.remove(key);
+        self.owners.remove(row.frame);
         Some(row)
     }
 
@@ -129,17 +136,16 @@ impl Resident {
         ensures row { MatchOption result (NoRowHas self.now f.0)
             (λ key. IsSomeAnd (row_at self.now key.object.0 key.page.0) (λ row. row.frame.0 ≡ f.0)) }
     {
-        'all: for (key, row) in &self.rows {
-            if row.frame.0 == f.0 {
-                return Some(*key);
-            }
+        if self.owners.are_shared() {
+            return first_owner(&self.rows, f);
         }
-        None
+        self.owners.get(f)
     }
 
     /// The rows, by their pages.
     pub fn table(&self) -> &IndexMap<PageKey, PageRow>
-        ensures { (object page : ℕ) → get_by (λ key. object == key.object.0 && page == key.page.0) result.now ≡ row_at self.now object page }
+        ensures { (object page : ℕ) → get_by (λ key. object == key.object.0 && page == key.page.0) result.now
+            ≡ row_at self.now object page }
     {
         &self.rows
     }

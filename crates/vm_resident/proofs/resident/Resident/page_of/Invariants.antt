@@ -1,7 +1,0 @@
-use Rattle.std.proofs.Common.{◌≡◌}
-use Rattle.vm_resident.specs.Kept.{pages_of}
-use Rattle.vm_resident.specs.Resident.{owner_among, owner_of}
-use Rattle.vm_resident.proofs.resident.Resident.page_of.Given as goal
-
-abbrev pub invariant-all : goal.invariant-all
-invariant-all l = owner_among l.fn.f.0 (pages_of l.key-iterator) ≡ owner_of l.fn.self l.fn.f.0
