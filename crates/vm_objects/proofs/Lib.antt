@@ -1,5 +1,1 @@
-mod Made
-mod Marks
-mod Places
-mod Ranges
-mod Stands
+mod Kept

@@ -3,8 +3,9 @@ ghost use Rattle.std.specs.Prelude.{ℕ, ◌≡◌, ◌+◌, ◌-◌, ◌<◌, �
 ghost use Rattle.vm_objects.specs.Objects.{PutsAbsent, PutsObject, SameMarks, SameObjects, SameOrRoomier, SameRooms, absent_at, object_at};
 ghost use Rattle.vm_objects.specs.declared.row.PagerState.TheVariants as state;
 
-use crate::slot::{Slot, find};
+use crate::slot::Slot;
 use crate::{ObjectRow, PagerState};
+use indexmap::IndexMap;
 use std::alloc::Global;
 use std::marker::Model;
 use vm_base::{NoMemory, ObjectId, ObjectKind, PageKey};
@@ -16,14 +17,14 @@ use vm_base::{NoMemory, ObjectId, ObjectKind, PageKey};
 /// `reserve` and `make` take memory.
 #[derive(Drop)]
 pub struct Objects {
-    // By rising number.
-    slots: Vec<Slot>,
+    slots: IndexMap<ObjectId, Slot>,
     // The marks of all objects, each object's side by side; true where the page is known absent.
     marks: Vec<bool>,
 }
 
 impl Model for Objects {
     ghost use Rattle.std.specs.Prelude.{◌-◌, length, vec_capacity};
+    ghost use Rattle.indexmap.specs.IndexMap.{spare};
     ghost use Rattle.vm_objects.specs.Objects.{ObjectTable};
 
     ghost Value = { ObjectTable };
@@ -31,12 +32,12 @@ impl Model for Objects {
     ghost use Rattle.vm_objects.specs.Slots.{AreObjectSlots, object_entries};
 
     ghost view = { λ s. record {
-      entries = object_entries s.marks.items s.slots.items;
-      rows = vec_capacity s.slots - length s.slots.items;
+      entries = object_entries s.marks.items s.slots.entries;
+      rows = spare s.slots;
       pages = vec_capacity s.marks - length s.marks.items;
     } };
 
-    ghost invariant = { λ s. AreObjectSlots (length s.marks.items) s.slots.items };
+    ghost invariant = { λ s. AreObjectSlots (length s.marks.items) s.slots.entries };
 }
 
 impl Objects {
@@ -45,7 +46,7 @@ impl Objects {
         ensures { result.entries ≡ [] }
     {
         Objects {
-            slots: Vec::new(alloc),
+            slots: IndexMap::new(alloc),
             marks: Vec::new(alloc),
         }
     }
@@ -93,8 +94,7 @@ impl Objects {
             live: false,
             references: 0,
         };
-        let i = find(&self.slots, id);
-        self.slots.insert(i, Slot { id, row, start })?;
+        self.slots.insert(id, Slot { row, start })?;
         Ok(())
     }
 
@@ -102,13 +102,7 @@ impl Objects {
     pub fn find(&self, id: ObjectId) -> Option<ObjectRow>
         ensures { result ≡ object_at self.now id.0 }
     {
-        let i = find(&self.slots, id);
-        let slot = self.slots.get(i)?;
-        if slot.id.0 == id.0 {
-            Some(slot.row)
-        } else {
-            None
-        }
+        Some(self.slots.get(&id)?.row)
     }
 
     /// Counts one more reference to an object.
@@ -120,9 +114,8 @@ impl Objects {
         ensures marks { SameMarks self.old self.new }
         ensures rooms { SameRooms self.old self.new }
     {
-        let mut row = self.row(id);
+        let row = &mut self.slots.get_mut(&id).unwrap().row;
         row.references += 1;
-        self.put(id, row);
     }
 
     /// Counts one reference less to an object, and gives how many are left.
@@ -135,11 +128,9 @@ impl Objects {
         ensures marks { SameMarks self.old self.new }
         ensures rooms { SameRooms self.old self.new }
     {
-        let mut row = self.row(id);
+        let row = &mut self.slots.get_mut(&id).unwrap().row;
         row.references -= 1;
-        let left = row.references;
-        self.put(id, row);
-        left
+        row.references
     }
 
     /// Begins the next control of an object, of which its pager is being told, and gives its number.
@@ -153,11 +144,10 @@ impl Objects {
         ensures marks { SameMarks self.old self.new }
         ensures rooms { SameRooms self.old self.new }
     {
-        let mut row = self.row(id);
+        let row = &mut self.slots.get_mut(&id).unwrap().row;
         row.control += 1;
         row.live = true;
         row.state = PagerState::Sent;
-        self.put(id, row);
         row.control
     }
 
@@ -169,9 +159,8 @@ impl Objects {
         ensures marks { SameMarks self.old self.new }
         ensures rooms { SameRooms self.old self.new }
     {
-        let mut row = self.row(id);
+        let row = &mut self.slots.get_mut(&id).unwrap().row;
         row.state = PagerState::Ready;
-        self.put(id, row);
     }
 
     /// Ends the control of an object, which has no pager then. Its number stays, so that the next
@@ -183,10 +172,9 @@ impl Objects {
         ensures marks { SameMarks self.old self.new }
         ensures rooms { SameRooms self.old self.new }
     {
-        let mut row = self.row(id);
+        let row = &mut self.slots.get_mut(&id).unwrap().row;
         row.live = false;
         row.state = PagerState::Without;
-        self.put(id, row);
     }
 
     /// The pager is known not to have a page from now on.
@@ -218,30 +206,8 @@ impl Objects {
         ensures past { IfSome (object_at self.now key.object.0) (λ row.
             row.pages ≤ key.page.0 → result ≡ false) }
     {
-        let i = find(&self.slots, key.object);
-        let slot = self.slots[i];
+        let slot = self.slots[&key.object];
         key.page.0 < slot.row.pages && self.marks[slot.start + key.page.0 as usize]
-    }
-
-    // The row of an object that is there.
-    fn row(&self, id: ObjectId) -> ObjectRow
-        requires { IsSome (object_at self.now id.0) }
-        ensures { object_at self.now id.0 ≡ Some result }
-    {
-        let i = find(&self.slots, id);
-        self.slots[i].row
-    }
-
-    // Puts another row of as many pages in the place of an object's.
-    fn put(&mut self, id: ObjectId, row: ObjectRow)
-        requires there { IsSome (object_at self.old id.0) }
-        requires pages { IfSome (object_at self.old id.0) (λ was. was.pages ≡ row.pages) }
-        ensures object { PutsObject id.0 (Some row) self.old self.new }
-        ensures marks { SameMarks self.old self.new }
-        ensures rooms { SameRooms self.old self.new }
-    {
-        let i = find(&self.slots, id);
-        self.slots[i].row = row;
     }
 
     // Notes whether a page is known to be absent.
@@ -252,8 +218,7 @@ impl Objects {
         ensures objects { SameObjects self.old self.new }
         ensures rooms { SameRooms self.old self.new }
     {
-        let i = find(&self.slots, key.object);
-        let at = self.slots[i].start + key.page.0 as usize;
+        let at = self.slots[&key.object].start + key.page.0 as usize;
         self.marks[at] = absent;
     }
 }

@@ -1,41 +1,18 @@
-use Rattle.std.proofs.Common.{◌-◌, ap, length, refl, ◌∙◌}
-use Rattle.std.specs.Prelude.{vec_capacity}
-use Rattle.vm_objects.specs.Objects.{ObjectTable}
-use Rattle.vm_objects.specs.Slots.{object_entries}
-use Rattle.vm_objects.proofs.Made.{made, none_absent, resized}
+use Rattle.std.proofs.Common.{◌∙◌, refl}
+use Rattle.vm_objects.proofs.Kept.{made, none_absent, table_of}
 use Rattle.vm_objects.proofs.objects.Objects.make.Goals as goal
 
 pub returns-in_err-reserve-clause-present : goal.returns-in_err-reserve-clause-present
 returns-in_err-reserve-clause-present c = λ p. none_absent c.args.id.0 p c.reserve.new.self.entries (rw c.in_err-reserve.ensures.same.entries c.requires)
 
 pub invariant_of-self-2 : goal.invariant_of-self-2
-invariant_of-self-2 c =
-    let i = c.self.inside in
-    let view = ap (λ (t : ObjectTable). t.entries) c.self.view_is ∙ c.in_ok-reserve.ensures.same.entries in
-    let more = resized i.marks.items c.resize.new.self.items c.len-start.result c.args.pages i.marks.len c.len-start.ensures i.marks.ok.0 c.in_ok-resize.ensures.items in
-    let left = made i.slots.items c.deref.result.now c.insert.new.self.items i.marks.items c.resize.new.self.items c.args.self.now (record { entries = object_entries c.resize.new.self.items c.insert.new.self.items; rows = vec_capacity c.insert.new.self - length c.insert.new.self.items; pages = vec_capacity c.resize.new.self - length c.resize.new.self.items }) _ c.find-i.result view c.self.invariant c.deref.ensures.value c.find-i.ensures.value c.requires (c.len-start.ensures ∙ i.marks.ok.0) more c.in_ok-insert.ensures.items refl in
-    left.kept
+invariant_of-self-2 c = (made _ _ _ _ _ _ c.args.self.now _ (table_of c.resize.new.self.items c.insert.new.self.entries 0 0) _ _ _ c.self.view_is c.in_ok-reserve.ensures.same.entries refl c.self.invariant c.requires c.len-start.ensures c.self.inside.marks.ok.0 c.in_ok-resize.ensures.items c.in_ok-insert.ensures.updates.0).kept
 
 pub returns-clause-ok : goal.returns-clause-ok
-returns-clause-ok c =
-    let i = c.self.inside in
-    let view = ap (λ (t : ObjectTable). t.entries) c.self.view_is ∙ c.in_ok-reserve.ensures.same.entries in
-    let more = resized i.marks.items c.resize.new.self.items c.len-start.result c.args.pages i.marks.len c.len-start.ensures i.marks.ok.0 c.in_ok-resize.ensures.items in
-    let left = made i.slots.items c.deref.result.now c.insert.new.self.items i.marks.items c.resize.new.self.items c.args.self.now (record { entries = object_entries c.resize.new.self.items c.insert.new.self.items; rows = vec_capacity c.insert.new.self - length c.insert.new.self.items; pages = vec_capacity c.resize.new.self - length c.resize.new.self.items }) _ c.find-i.result view c.self.invariant c.deref.ensures.value c.find-i.ensures.value c.requires (c.len-start.ensures ∙ i.marks.ok.0) more c.in_ok-insert.ensures.items refl in
-    left.object
+returns-clause-ok c = (made _ _ _ _ _ _ c.args.self.now _ _ _ _ _ c.self.view_is c.in_ok-reserve.ensures.same.entries refl c.self.invariant c.requires c.len-start.ensures c.self.inside.marks.ok.0 c.in_ok-resize.ensures.items c.in_ok-insert.ensures.updates.0).object
 
 pub returns-clause-present : goal.returns-clause-present
-returns-clause-present c =
-    let i = c.self.inside in
-    let view = ap (λ (t : ObjectTable). t.entries) c.self.view_is ∙ c.in_ok-reserve.ensures.same.entries in
-    let more = resized i.marks.items c.resize.new.self.items c.len-start.result c.args.pages i.marks.len c.len-start.ensures i.marks.ok.0 c.in_ok-resize.ensures.items in
-    let left = made i.slots.items c.deref.result.now c.insert.new.self.items i.marks.items c.resize.new.self.items c.args.self.now (record { entries = object_entries c.resize.new.self.items c.insert.new.self.items; rows = vec_capacity c.insert.new.self - length c.insert.new.self.items; pages = vec_capacity c.resize.new.self - length c.resize.new.self.items }) _ c.find-i.result view c.self.invariant c.deref.ensures.value c.find-i.ensures.value c.requires (c.len-start.ensures ∙ i.marks.ok.0) more c.in_ok-insert.ensures.items refl in
-    λ p. left.marks.at c.args.id.0 p ∙ none_absent c.args.id.0 p c.args.self.now.entries c.requires
+returns-clause-present c = λ p. (made _ _ _ _ _ _ c.args.self.now _ (table_of c.resize.new.self.items c.insert.new.self.entries 0 0) _ _ _ c.self.view_is c.in_ok-reserve.ensures.same.entries refl c.self.invariant c.requires c.len-start.ensures c.self.inside.marks.ok.0 c.in_ok-resize.ensures.items c.in_ok-insert.ensures.updates.0).marks.at c.args.id.0 p ∙ none_absent c.args.id.0 p c.args.self.now.entries c.requires
 
 pub returns-clause-marks : goal.returns-clause-marks
-returns-clause-marks c =
-    let i = c.self.inside in
-    let view = ap (λ (t : ObjectTable). t.entries) c.self.view_is ∙ c.in_ok-reserve.ensures.same.entries in
-    let more = resized i.marks.items c.resize.new.self.items c.len-start.result c.args.pages i.marks.len c.len-start.ensures i.marks.ok.0 c.in_ok-resize.ensures.items in
-    let left = made i.slots.items c.deref.result.now c.insert.new.self.items i.marks.items c.resize.new.self.items c.args.self.now (record { entries = object_entries c.resize.new.self.items c.insert.new.self.items; rows = vec_capacity c.insert.new.self - length c.insert.new.self.items; pages = vec_capacity c.resize.new.self - length c.resize.new.self.items }) _ c.find-i.result view c.self.invariant c.deref.ensures.value c.find-i.ensures.value c.requires (c.len-start.ensures ∙ i.marks.ok.0) more c.in_ok-insert.ensures.items refl in
-    left.marks
+returns-clause-marks c = (made _ _ _ _ _ _ c.args.self.now _ _ _ _ _ c.self.view_is c.in_ok-reserve.ensures.same.entries refl c.self.invariant c.requires c.len-start.ensures c.self.inside.marks.ok.0 c.in_ok-resize.ensures.items c.in_ok-insert.ensures.updates.0).marks
