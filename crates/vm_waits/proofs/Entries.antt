@@ -4,8 +4,8 @@ use Rattle.std.proofs.Common.{ℕ, ◌≡◌, ◌≢◌, ◌==◌, Bool, true, f
 use Rattle.std.proofs.lemmas.Bool.{cases_Bool}
 use Rattle.std.proofs.lemmas.Bool.Decides.{nat_tests}
 use Rattle.std.proofs.lemmas.Option.{none-some, same_Some}
-use Rattle.vm_waits.proofs.Rows.{no_row_passes, none_passes}
-use Rattle.vm_waits.specs.Waits.{EachOnce, PutsEntry, Waked, count_again, entry, is_again, is_frame, queued, with_on, woken}
+use Rattle.vm_waits.proofs.Rows.{none_passes}
+use Rattle.vm_waits.specs.Waits.{PutsEntry, Waked, count_again, entry, is_again, is_frame, queued, with_on, woken}
 use Rattle.vm_waits.specs.declared.waiting.On.{On}
 use Rattle.vm_waits.specs.declared.waiting.On.TheVariants as on
 use Rattle.vm_waits.specs.declared.waiting.Waiting.{Waiting}
@@ -45,12 +45,6 @@ waked_cases test (Some was) new w waked is stays turns =
 pub none_again : (rows : List Waiting) (t : ℕ) (w : Waiting) → count_again rows ≡ 0 → entry rows t ≡ Some w → is_again w.on ≡ false
 none_again rows t w none is = none_passes is_again rows t w none is
 
-pub again_none : (rows : List Waiting) → EachOnce rows → ((t : ℕ) (w : Waiting) → entry rows t ≡ Some w → is_again w.on ≡ false) → count_again rows ≡ 0
-again_none rows once fails = no_row_passes is_again rows once fails
-
 -- nothing waits for a frame
 pub none_queued : (rows : List Waiting) (t : ℕ) (w : Waiting) → queued rows ≡ 0 → entry rows t ≡ Some w → is_frame w.on ≡ false
 none_queued rows t w none is = none_passes is_frame rows t w none is
-
-pub queued_none : (rows : List Waiting) → EachOnce rows → ((t : ℕ) (w : Waiting) → entry rows t ≡ Some w → is_frame w.on ≡ false) → queued rows ≡ 0
-queued_none rows once fails = no_row_passes is_frame rows once fails

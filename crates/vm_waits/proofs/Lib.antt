@@ -1,5 +1,5 @@
+mod ByTask
 pub mod Entries
 pub mod Lines
-mod Places
 mod Rows
 pub mod Tables

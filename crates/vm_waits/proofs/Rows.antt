@@ -1,23 +1,21 @@
 -- The rows by their tasks: what a change of one, or of all, leaves of each.
-use Rattle.std.proofs.Common.{ℕ, suc, ◌≡◌, ◌+◌, ◌<◌, ◌≤◌, ◌==◌, Bool, true, false, List, [], ◌∷◌, ◌++◌, length, map, get_or, set, Option, Some, None, refl, sym, ◌∙◌, ap, subst, ⊎_elim, arith}
-use Rattle.std.proofs.lemmas.Bool.{cases_Bool, false≢true}
+use Rattle.std.proofs.Common.{ℕ, ◌≡◌, ◌+◌, ◌≤◌, ◌==◌, Bool, true, false, List, [], ◌∷◌, ◌++◌, length, map, Option, Some, None, refl, sym, ◌∙◌, ap, subst, ⊎_elim, arith}
+use Rattle.std.proofs.lemmas.Bool.{cases_Bool}
 use Rattle.std.proofs.lemmas.Bool.Decides.{nat_tests}
-use Rattle.std.proofs.lemmas.Option.{none-some, same_Some, slice_get_read}
-use Rattle.std.specs.List.{remove}
-use Rattle.std.specs.Prelude.{option_map, slice_get, if◌then◌else◌}
-use Rattle.vm_waits.specs.Kept.{closer, row_place}
+use Rattle.std.proofs.lemmas.Option.{none-some, same_Some}
+use Rattle.std.specs.Prelude.{option_map, if◌then◌else◌}
 use Rattle.vm_waits.specs.Waits.{EachOnce, count_rows, entry, oldest_row, one, rewanted, rows_without, turned, with_on, with_want, woken}
 use Rattle.vm_waits.specs.declared.waiting.On.{On}
 use Rattle.vm_waits.specs.declared.waiting.On.TheVariants as on
 use Rattle.vm_waits.specs.declared.waiting.Waiting.{Waiting}
 use Rattle.vm_waits.specs.declared.waiting.Want.{Want}
 
-none_split : {A : Type 0} (b : Bool) (x : A) (o : Option A) → (if b then Some x else o) ≡ None → (b ≡ false) × (o ≡ None)
+pub none_split : {A : Type 0} (b : Bool) (x : A) (o : Option A) → (if b then Some x else o) ≡ None → (b ≡ false) × (o ≡ None)
 none_split true x o none = absurd (none-some x (sym none))
 none_split false x o none = (refl, none)
 
 -- where a test is passed, or what is left
-some_split : {A : Type 0} {P : Type 0} (b : Bool) (x y : A) (o : Option A) → (if b then Some x else o) ≡ Some y → (b ≡ true → x ≡ y → P) → (b ≡ false → o ≡ Some y → P) → P
+pub some_split : {A : Type 0} {P : Type 0} (b : Bool) (x y : A) (o : Option A) → (if b then Some x else o) ≡ Some y → (b ≡ true → x ≡ y → P) → (b ≡ false → o ≡ Some y → P) → P
 some_split true x y o some here later = here refl (same_Some x y some)
 some_split false x y o some here later = later refl some
 
@@ -46,68 +44,9 @@ once_push (x ∷ xs) w once none =
     let no : (w.task.0 == x.task.0) ≡ false = grind (arith, nat_tests) in
     (rw (entry_push xs w x.task.0 apart.1, no) once.0, once_push xs w once.1 apart.1)
 
-spot_step : (a b : Bool) (n : ℕ) (o : Option ℕ) → (a ≡ true → b ≡ false) → (if a then Some 0 else option_map suc (if b then Some n else o)) ≡ (if b then Some (suc n) else (if a then Some 0 else option_map suc o))
-spot_step true true n o apart = absurd (false≢true (sym (apart refl)))
-spot_step true false n o apart = refl
-spot_step false true n o apart = refl
-spot_step false false n o apart = refl
-
-pub spot_push : (rows : List Waiting) (w : Waiting) (t : ℕ) → entry rows w.task.0 ≡ None → row_place t (rows ++ w ∷ []) ≡ (if w.task.0 == t then Some (length rows) else row_place t rows)
-spot_push [] w t none = refl
-spot_push (x ∷ xs) w t none =
-    let apart = none_split (x.task.0 == w.task.0) x (entry xs w.task.0) none in
-    let other : (x.task.0 == w.task.0) ≡ false = apart.0 in
-    rw (spot_push xs w t apart.1) (spot_step (x.task.0 == t) (w.task.0 == t) (length xs) (row_place t xs) (λ yes. grind (arith, nat_tests)))
-
 pub counted_push : (test : On → Bool) (rows : List Waiting) (w : Waiting) → count_rows test (rows ++ w ∷ []) ≡ count_rows test rows + one (test w.on)
 counted_push test [] w = omega arith
 counted_push test (x ∷ xs) w = omega (arith, counted_push test xs w)
-
--- where a task's row stands
-abbrev pub row_at : List Waiting → Option ℕ → Option Waiting
-row_at rows None = None
-row_at rows (Some i) = slice_get rows i
-
-row_later : (x : Waiting) (xs : List Waiting) (o : Option ℕ) → row_at (x ∷ xs) (option_map suc o) ≡ row_at xs o
-row_later x xs None = refl
-row_later x xs (Some i) = refl
-
-pub entry_spot : (rows : List Waiting) (t : ℕ) → entry rows t ≡ row_at rows (row_place t rows)
-entry_spot [] t = refl
-entry_spot (x ∷ xs) t =
-    ⊎_elim
-    (λ (yes : (x.task.0 == t) ≡ true). rw yes refl)
-    (λ (no : (x.task.0 == t) ≡ false). rw (no, row_later x xs (row_place t xs)) (entry_spot xs t))
-    (cases_Bool (x.task.0 == t))
-
--- one behind the first
-record IsNext (o : Option ℕ) (n : ℕ) : Type 0 where
-  pub at : ℕ
-  pub is : o ≡ Some at
-  pub next : n ≡ suc at
-
-next_of : (o : Option ℕ) (n : ℕ) → option_map suc o ≡ Some n → IsNext o n
-next_of None n is = absurd (none-some n is)
-next_of (Some at) n is = record { at = at; is = refl; next = sym (same_Some (suc at) n is) }
-
-pub spot_within : (rows : List Waiting) (t at : ℕ) → row_place t rows ≡ Some at → at < length rows
-spot_within [] t at is = absurd (none-some at is)
-spot_within (x ∷ xs) t at is =
-    some_split (x.task.0 == t) 0 at (option_map suc (row_place t xs)) is
-    (λ (here : (x.task.0 == t) ≡ true) (same : 0 ≡ at). omega (arith, same))
-    (λ (no : (x.task.0 == t) ≡ false) (more : option_map suc (row_place t xs) ≡ Some at).
-    let next = next_of (row_place t xs) at more in
-    omega (arith, next.next, spot_within xs t next.at next.is))
-
--- the row where a task's stands
-pub entry_at : (rows : List Waiting) (t at : ℕ) (w : Waiting) → row_place t rows ≡ Some at → w ≡ get_or rows at w → entry rows t ≡ Some w
-entry_at rows t at w is read = entry_spot rows t ∙ ap (row_at rows) is ∙ slice_get_read rows (length rows) at w refl (spot_within rows t at is) read
-
-pub spot_none : (rows : List Waiting) (t : ℕ) → entry rows t ≡ None → row_place t rows ≡ None
-spot_none [] t none = refl
-spot_none (x ∷ xs) t none =
-    let apart = none_split (x.task.0 == t) x (entry xs t) none in
-    rw (apart.0, spot_none xs t apart.1) refl
 
 -- a change that leaves each row its task
 abbrev pub Keeps : (Waiting → Waiting) → Type 0
@@ -121,10 +60,6 @@ entry_map f (x ∷ xs) t keeps =
     (λ (here : (x.task.0 == t) ≡ true). let now : ((f x).task.0 == t) ≡ true = same ∙ here in rw (now, here) refl)
     (λ (no : (x.task.0 == t) ≡ false). let now : ((f x).task.0 == t) ≡ false = same ∙ no in rw (now, no) (entry_map f xs t keeps))
     (cases_Bool (x.task.0 == t))
-
-pub spot_map : (f : Waiting → Waiting) (rows : List Waiting) (t : ℕ) → Keeps f → row_place t (map f rows) ≡ row_place t rows
-spot_map f [] t keeps = refl
-spot_map f (x ∷ xs) t keeps = rw (keeps x, spot_map f xs t keeps) refl
 
 pub once_map : (f : Waiting → Waiting) (rows : List Waiting) → Keeps f → EachOnce rows → EachOnce (map f rows)
 once_map f [] keeps once = tt
@@ -144,34 +79,16 @@ changed_keeps t f keeps w = changed_step (w.task.0 == t) f w (keeps w)
 pub woken_keeps : (test : On → Bool) → Keeps (woken test)
 woken_keeps test w = changed_step (test w.on) (λ x. with_on x on.Again) w refl
 
-unchanged : (t : ℕ) (f : Waiting → Waiting) (rows : List Waiting) → entry rows t ≡ None → map (changed t f) rows ≡ rows
+pub unchanged : (t : ℕ) (f : Waiting → Waiting) (rows : List Waiting) → entry rows t ≡ None → map (changed t f) rows ≡ rows
 unchanged t f [] none = refl
 unchanged t f (x ∷ xs) none =
     let apart = none_split (x.task.0 == t) x (entry xs t) none in
     rw (apart.0) (ap (λ z. x ∷ z) (unchanged t f xs apart.1))
 
-absent_behind : (x : Waiting) (xs : List Waiting) (t : ℕ) → (x.task.0 == t) ≡ true → entry xs x.task.0 ≡ None → entry xs t ≡ None
+pub absent_behind : (x : Waiting) (xs : List Waiting) (t : ℕ) → (x.task.0 == t) ≡ true → entry xs x.task.0 ≡ None → entry xs t ≡ None
 absent_behind x xs t here none = let same : x.task.0 ≡ t = grind (arith, nat_tests) in ap (entry xs) (sym same) ∙ none
 
-pub set_changed : (t at : ℕ) (rows : List Waiting) (d : Waiting) (f : Waiting → Waiting) → EachOnce rows → row_place t rows ≡ Some at → d ≡ get_or rows at d → set rows at (f d) ≡ map (changed t f) rows
-set_changed t at [] d f once is read = absurd (none-some at is)
-set_changed t at (x ∷ xs) d f once is read =
-    some_split (x.task.0 == t) 0 at (option_map suc (row_place t xs)) is
-    (λ (yes : (x.task.0 == t) ≡ true) (same : 0 ≡ at).
-    let here : d ≡ x = read ∙ ap (λ (i : ℕ). get_or (x ∷ xs) i d) (sym same) in
-    rw (← same, yes, here, unchanged t f xs (absent_behind x xs t yes once.0)) refl)
-    (λ (no : (x.task.0 == t) ≡ false) (more : option_map suc (row_place t xs) ≡ Some at).
-    let next = next_of (row_place t xs) at more in
-    let there : d ≡ get_or xs next.at d = read ∙ ap (λ (i : ℕ). get_or (x ∷ xs) i d) next.next in
-    rw (next.next, no) (ap (λ z. x ∷ z) (set_changed t next.at xs d f once.1 next.is there)))
-
 -- its row has another reason
-pub turned_keeps : (t : ℕ) (reason : On) → Keeps (turned t reason)
-turned_keeps t reason w = changed_keeps t (λ x. with_on x reason) (λ x. refl) w
-
-pub set_turned : (t at : ℕ) (rows : List Waiting) (d : Waiting) (reason : On) → EachOnce rows → row_place t rows ≡ Some at → d ≡ get_or rows at d → set rows at (with_on d reason) ≡ map (turned t reason) rows
-set_turned t at rows d reason once is read = set_changed t at rows d (λ x. with_on x reason) once is read
-
 unturned : (t : ℕ) (reason : On) (rows : List Waiting) → entry rows t ≡ None → map (turned t reason) rows ≡ rows
 unturned t reason rows none = unchanged t (λ x. with_on x reason) rows none
 
@@ -197,24 +114,12 @@ counted_rewanted test t what rows = counted_same test (rewanted t what) rows (λ
 pub rewanted_keeps : (t : ℕ) (what : Want) → Keeps (rewanted t what)
 rewanted_keeps t what w = changed_keeps t (λ x. with_want x what) (λ x. refl) w
 
-pub set_rewanted : (t at : ℕ) (rows : List Waiting) (d : Waiting) (what : Want) → EachOnce rows → row_place t rows ≡ Some at → d ≡ get_or rows at d → set rows at (with_want d what) ≡ map (rewanted t what) rows
-set_rewanted t at rows d what once is read = set_changed t at rows d (λ x. with_want x what) once is read
-
 -- the rows without a task's
-unlisted : (t : ℕ) (rows : List Waiting) → entry rows t ≡ None → rows_without t rows ≡ rows
+pub unlisted : (t : ℕ) (rows : List Waiting) → entry rows t ≡ None → rows_without t rows ≡ rows
 unlisted t [] none = refl
 unlisted t (x ∷ xs) none =
     let apart = none_split (x.task.0 == t) x (entry xs t) none in
     rw (apart.0) (ap (λ z. x ∷ z) (unlisted t xs apart.1))
-
-pub remove_without : (t at : ℕ) (rows : List Waiting) → EachOnce rows → row_place t rows ≡ Some at → remove rows at ≡ rows_without t rows
-remove_without t at [] once is = absurd (none-some at is)
-remove_without t at (x ∷ xs) once is =
-    some_split (x.task.0 == t) 0 at (option_map suc (row_place t xs)) is
-    (λ (yes : (x.task.0 == t) ≡ true) (same : 0 ≡ at). rw (← same, yes, unlisted t xs (absent_behind x xs t yes once.0)) refl)
-    (λ (no : (x.task.0 == t) ≡ false) (more : option_map suc (row_place t xs) ≡ Some at).
-    let next = next_of (row_place t xs) at more in
-    rw (next.next, no) (ap (λ z. x ∷ z) (remove_without t next.at xs once.1 next.is)))
 
 pub entry_without : (t : ℕ) (rows : List Waiting) (u : ℕ) → entry (rows_without t rows) u ≡ (if t == u then None else entry rows u)
 entry_without t [] u = grind (arith, nat_tests)
@@ -241,44 +146,6 @@ counted_without test t (x ∷ xs) was once is =
     some_split (x.task.0 == t) x was (entry xs t) is
     (λ (yes : (x.task.0 == t) ≡ true) (same : x ≡ was). rw (yes, unlisted t xs (absent_behind x xs t yes once.0), ← same) (omega arith))
     (λ (no : (x.task.0 == t) ≡ false) (more : entry xs t ≡ Some was). rw no (omega (arith, counted_without test t xs was once.1 more)))
-
-closer_step : (gap at : ℕ) → closer (suc gap) (suc at) ≡ suc (closer gap at)
-closer_step gap at = grind (arith, nat_tests)
-
-closer_none : (gap : ℕ) → 0 ≡ closer (suc gap) 0
-closer_none gap = grind (arith, nat_tests)
-
-closer_later : (gap : ℕ) (o : Option ℕ) → option_map suc (option_map (closer gap) o) ≡ option_map (closer (suc gap)) (option_map suc o)
-closer_later gap None = refl
-closer_later gap (Some at) = ap Some (sym (closer_step gap at))
-
-closer_first : (o : Option ℕ) → o ≡ option_map (closer 0) (option_map suc o)
-closer_first None = refl
-closer_first (Some at) = let e : closer 0 (suc at) ≡ at = grind (arith, nat_tests) in ap Some (sym e)
-
-pub spot_without : (t at : ℕ) (rows : List Waiting) (u : ℕ) → EachOnce rows → row_place t rows ≡ Some at → row_place u (rows_without t rows) ≡ (if t == u then None else option_map (closer at) (row_place u rows))
-spot_without t at [] u once is = absurd (none-some at is)
-spot_without t at (x ∷ xs) u once is =
-    some_split (x.task.0 == t) 0 at (option_map suc (row_place t xs)) is
-    (λ (yes : (x.task.0 == t) ≡ true) (same : 0 ≡ at).
-    let absent = absent_behind x xs t yes once.0 in
-    rw (← same, yes, unlisted t xs absent)
-    (⊎_elim
-    (λ (here : (t == u) ≡ true). let one : t ≡ u = grind (arith, nat_tests) in rw here (spot_none xs u (ap (entry xs) (sym one) ∙ absent)))
-    (λ (other : (t == u) ≡ false). let no : (x.task.0 == u) ≡ false = grind (arith, nat_tests) in rw (other, no) (closer_first (row_place u xs)))
-    (cases_Bool (t == u))))
-    (λ (no : (x.task.0 == t) ≡ false) (more : option_map suc (row_place t xs) ≡ Some at).
-    let next = next_of (row_place t xs) at more in
-    let rest = spot_without t next.at xs u once.1 next.is in
-    rw (next.next, no, rest)
-    (⊎_elim
-    (λ (here : (t == u) ≡ true). let other : (x.task.0 == u) ≡ false = grind (arith, nat_tests) in rw (here, other) refl)
-    (λ (apart : (t == u) ≡ false).
-    ⊎_elim
-    (λ (mine : (x.task.0 == u) ≡ true). rw (apart, mine) (ap Some (closer_none next.at)))
-    (λ (other : (x.task.0 == u) ≡ false). rw (apart, other) (closer_later next.at (row_place u xs)))
-    (cases_Bool (x.task.0 == u)))
-    (cases_Bool (t == u))))
 
 -- rows that are woken
 pub counted_woken : (test count : On → Bool) (n : Bool) (rows : List Waiting) → ((reason : On) → test reason ≡ true → count reason ≡ false) → count on.Again ≡ n → count_rows count (map (woken test) rows) ≡ count_rows count rows + (if n then count_rows test rows else 0)
@@ -333,13 +200,6 @@ none_passes test (x ∷ xs) t w none is =
     (λ (here : (x.task.0 == t) ≡ true) (same : x ≡ w). ap (λ (z : Waiting). test z.on) (sym same) ∙ fails)
     (λ (no : (x.task.0 == t) ≡ false) (more : entry xs t ≡ Some w). none_passes test xs t w (omega (arith, rest)) more))
     (cases_Bool (test x.on))
-
-pub no_row_passes : (test : On → Bool) (rows : List Waiting) → EachOnce rows → ((t : ℕ) (w : Waiting) → entry rows t ≡ Some w → test w.on ≡ false) → count_rows test rows ≡ 0
-no_row_passes test [] once fails = refl
-no_row_passes test (x ∷ xs) once fails =
-    let first = fails x.task.0 x (itself x xs) in
-    let rest = no_row_passes test xs once.1 (λ t w is. fails w.task.0 w (first_apart x xs w once.0 (ap (entry xs) (entry_task xs t w is) ∙ is))) in
-    rw first (omega (arith, rest))
 
 pub counted_within : (test : On → Bool) (rows : List Waiting) → count_rows test rows ≤ length rows
 counted_within test [] = omega arith

@@ -1,21 +1,16 @@
--- What each call leaves of the rows, the places that lead to them, and the queue.
-use Rattle.std.proofs.Common.{ℕ, ◌≡◌, ◌<◌, ◌≤◌, ◌==◌, Bool, true, false, List, [], ◌∷◌, ◌++◌, length, map, get_or, Option, Some, None, MatchOption, refl, sym, ◌∙◌, ap, ⊎_elim, arith, length-append}
+-- What each call leaves of the rows and the queue.
+use Rattle.std.proofs.Common.{ℕ, ◌≡◌, ◌==◌, Bool, true, false, List, [], ◌∷◌, ◌++◌, map, Option, Some, None, MatchOption, refl, sym, ◌∙◌, ap, ⊎_elim, arith, length-append}
 use Rattle.std.proofs.lemmas.Bool.{cases_Bool, false≢true}
 use Rattle.std.proofs.lemmas.Bool.Decides.{nat_tests}
-use Rattle.std.proofs.lemmas.List.{length-map}
-use Rattle.std.proofs.lemmas.List.Edits.{length-insert, length-remove}
 use Rattle.std.proofs.lemmas.Option.{none-some, same_Some}
-use Rattle.std.specs.List.{insert, remove}
 use Rattle.std.specs.Prelude.{IfSome, IsSome, IsSomeAnd, option_map, slice_get, if◌then◌else◌}
 use Rattle.vm_base.specs.declared.ids.PageKey.{PageKey}
 use Rattle.vm_base.specs.declared.ids.TaskId.{TaskId}
 use Rattle.vm_waits.proofs.Lines.{length_others, listed_others, listed_push, once_others}
 use Rattle.vm_waits.proofs.Lines as line
-use Rattle.vm_waits.proofs.Places.{by_task_closed, by_task_inserted, by_task_removed, found_closed, found_inserted, found_removed, known}
-use Rattle.vm_waits.proofs.Rows.{Keeps, changed, changed_keeps, counted_push, counted_rewanted, counted_turned, counted_without, counted_woken, entry_map, entry_push, entry_spot, entry_task, entry_without, length_without, none_passes, once_map, once_push, once_without, oldest_none, oldest_some, rewanted_keeps, row_at, spot_map, spot_none, spot_push, spot_without, woken_keeps}
-use Rattle.vm_waits.specs.Kept.{AreFound, AreQueued, closed, closer, noted_place, places_before, row_place}
+use Rattle.vm_waits.proofs.Rows.{Keeps, changed, changed_keeps, counted_push, counted_rewanted, counted_turned, counted_without, counted_woken, entry_map, entry_push, entry_task, entry_without, none_passes, oldest_none, oldest_some, rewanted_keeps, woken_keeps}
+use Rattle.vm_waits.specs.Kept.{AreQueued}
 use Rattle.vm_waits.specs.Waits.{EachOnce, PutsEntry, Waked, count_rows, entry, first_in_queue, is_again, is_frame, is_listed, oldest_row, one, queue_without, queued, rewanted, rows_without, turned, waits_for_frame, with_on, with_want, woken, woken_page, woken_ready}
-use Rattle.vm_waits.specs.declared.place.Place.{Place}
 use Rattle.vm_waits.specs.declared.waiting.On.{On}
 use Rattle.vm_waits.specs.declared.waiting.On.TheVariants as on
 use Rattle.vm_waits.specs.declared.waiting.Waiting.{Waiting}
@@ -42,27 +37,7 @@ pub holds_there : {A : Type 0} (o : Option A) (x : A) (P : A → Type 0) → o �
 holds_there None x P is some = absurd some
 holds_there (Some y) x P is some = let same = same_Some y x is in rw (← same) some
 
--- what the places tell is what the rows have
-pub spot_got : (rows : List Waiting) (places : List Place) (t at : ℕ) → AreFound rows places → Some at ≡ noted_place t places → row_place t rows ≡ Some at
-spot_got rows places t at kept is = sym (kept.leads t) ∙ sym is
-
-pub none_got : (rows : List Waiting) (places : List Place) (t : ℕ) → AreFound rows places → None ≡ noted_place t places → entry rows t ≡ None
-none_got rows places t kept none = entry_spot rows t ∙ ap (row_at rows) (sym (kept.leads t) ∙ sym none)
-
 -- an access begins
-pub found_begun : (rows : List Waiting) (places : List Place) (w : Waiting) (i : ℕ) → AreFound rows places → entry rows w.task.0 ≡ None → i ≡ places_before w.task.0 places → i ≤ length places
-    → AreFound (rows ++ w ∷ []) (insert places i (record { task = w.task; at = length rows }))
-found_begun rows places w i kept absent place within =
-    let new : Place = record { task = w.task; at = length rows } in
-    let none : noted_place w.task.0 places ≡ None = kept.leads w.task.0 ∙ spot_none rows w.task.0 absent in
-    let long = length-insert places i new within in
-    record {
-      once = once_push rows w kept.once absent;
-      sorted = rw place (by_task_inserted 0 new places kept.sorted (omega arith) none);
-      leads = λ t. rw (place, found_inserted t new places, spot_push rows w t absent, kept.leads t) refl;
-      even = omega (arith, long, kept.even, length-append rows (w ∷ []));
-    }
-
 pub lined_begun : (rows : List Waiting) (queue : List TaskId) (w : Waiting) → AreQueued rows queue → entry rows w.task.0 ≡ None → is_frame w.on ≡ false → AreQueued (rows ++ w ∷ []) queue
 lined_begun rows queue w kept absent other = record {
   listed = λ t. ⊎_elim
@@ -74,15 +49,6 @@ lined_begun rows queue w kept absent other = record {
       (cases_Bool (w.task.0 == t));
   once = kept.once;
   even = let more = counted_push is_frame rows w in let none = ap one other in omega (arith, more, none, kept.even);
-}
-
--- rows that keep their tasks and their order
-pub found_mapped : (f : Waiting → Waiting) (rows : List Waiting) (places : List Place) → Keeps f → AreFound rows places → AreFound (map f rows) places
-found_mapped f rows places keeps kept = record {
-  once = once_map f rows keeps kept.once;
-  sorted = kept.sorted;
-  leads = λ t. kept.leads t ∙ sym (spot_map f rows t keeps);
-  even = kept.even ∙ sym (length-map rows f);
 }
 
 -- a task's row is changed
@@ -166,42 +132,7 @@ lined_on task rows queue was kept once is other = record {
       omega (arith, more, count, none, kept.even);
 }
 
--- where a task's row stands that has one
-some_spot : (rows : List Waiting) (t : ℕ) (was : Waiting) (o : Option ℕ) → row_place t rows ≡ o → entry rows t ≡ Some was → IsSome o
-some_spot rows t was None spots is = absurd (none-some was (sym (entry_spot rows t ∙ ap (row_at rows) spots) ∙ is))
-some_spot rows t was (Some at) spots is = refl
-
-pub some_found : (rows : List Waiting) (places : List Place) (t : ℕ) (was : Waiting) → AreFound rows places → entry rows t ≡ Some was → IsSome (noted_place t places)
-some_found rows places t was kept is = rw (kept.leads t) (some_spot rows t was (row_place t rows) refl is)
-
--- the place at a task's rank leads to its row
-pub spot_known : (t i : ℕ) (rows : List Waiting) (places : List Place) (was : Waiting) (d : Place) → AreFound rows places → entry rows t ≡ Some was → i ≡ places_before t places → d ≡ get_or places i d → row_place t rows ≡ Some d.at
-spot_known t i rows places was d kept is place read =
-    let stands = known t i places kept.sorted place (some_found rows places t was kept is) in
-    sym (kept.leads t) ∙ stands.is d ∙ ap (λ (z : Place). Some z.at) (sym read)
-
-pub within_known : (t i : ℕ) (rows : List Waiting) (places : List Place) (was : Waiting) → AreFound rows places → entry rows t ≡ Some was → i ≡ places_before t places → i < length places
-within_known t i rows places was kept is place = (known t i places kept.sorted place (some_found rows places t was kept is)).within
-
 -- a row is taken out
-gone : (test : Bool) (at : ℕ) (o : Option ℕ) → option_map (closer at) (if test then None else o) ≡ (if test then None else option_map (closer at) o)
-gone true at o = refl
-gone false at o = refl
-
-pub found_without : (t at i : ℕ) (rows : List Waiting) (places : List Place) (was : Waiting) (d : Place) → AreFound rows places → entry rows t ≡ Some was → i ≡ places_before t places → at ≡ (get_or places i d).at → AreFound (rows_without t rows) (map (closed at) (remove places i))
-found_without t at i rows places was d kept is place read =
-    let stands = known t i places kept.sorted place (some_found rows places t was kept is) in
-    let spots : row_place t rows ≡ Some at = sym (kept.leads t) ∙ stands.is d ∙ ap Some (sym read) in
-    let fewer = length-remove places i stands.within in
-    let same = length-map (remove places i) (closed at) in
-    let left = length_without t rows was kept.once is in
-    record {
-      once = once_without t rows kept.once;
-      sorted = by_task_closed 0 at (remove places i) (by_task_removed 0 i places kept.sorted stands.within);
-      leads = λ u. rw (found_closed at u (remove places i), found_removed 0 i u places d kept.sorted stands.within, stands.named d, spot_without t at rows u kept.once spots, kept.leads u) (gone (t == u) at (row_place u rows));
-      even = omega (arith, fewer, same, left, kept.even);
-    }
-
 pub lined_without : (t : ℕ) (rows : List Waiting) (queue : List TaskId) (was : Waiting) → AreQueued rows queue → EachOnce rows → entry rows t ≡ Some was → AreQueued (rows_without t rows) (queue_without t queue)
 lined_without t rows queue was kept once is = record {
   listed = λ u. rw (listed_others t queue u, entry_without t rows u)

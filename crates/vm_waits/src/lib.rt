@@ -2,8 +2,8 @@
 //! frames.
 #![tactic(auto)]
 
-mod place;
 mod scan;
+mod table;
 mod waiting;
 mod waits;
 

@@ -1,9 +1,12 @@
 // Walks along the rows, and along the queue.
 ghost use Rattle.std.specs.Prelude.{◌≡◌, map};
 ghost use Rattle.std.specs.Vec.{vec_capacity};
+ghost use Rattle.indexmap.specs.IndexMap.{spare};
+ghost use Rattle.vm_waits.specs.Kept.{on_value};
 ghost use Rattle.vm_waits.specs.Waits.{is_again, oldest_row, queue_without, woken, woken_page, woken_ready};
 
 use crate::{On, Waiting};
+use indexmap::IndexMap;
 use vm_base::{ObjectId, PageKey, TaskId};
 
 /// Whether an access is to be run again.
@@ -75,12 +78,12 @@ fn after_page(row: Waiting, key: PageKey) -> Waiting
 }
 
 /// Rows that wait for the page are to be run again; each stays in its place.
-pub fn wake_for_page(rows: &mut Vec<Waiting>, key: PageKey)
-    ensures items { rows.new.items ≡ map (woken (woken_page key)) rows.old.items }
-    ensures capacity { vec_capacity rows.new ≡ vec_capacity rows.old }
+pub fn wake_for_page(rows: &mut IndexMap<TaskId, Waiting>, key: PageKey)
+    ensures entries { rows.new.entries ≡ map (on_value (woken (woken_page key))) rows.old.entries }
+    ensures spare { spare rows.new ≡ spare rows.old }
 {
-    'all: for row in rows.iter_mut() {
-        *row = after_page(*row, key);
+    'all: for at in 0..rows.len() {
+        rows[at] = after_page(rows[at], key);
     }
 }
 
@@ -99,12 +102,12 @@ fn after_ready(row: Waiting, object: ObjectId) -> Waiting
 }
 
 /// Rows that wait for the pager of the object are to be run again; each stays in its place.
-pub fn wake_for_ready(rows: &mut Vec<Waiting>, object: ObjectId)
-    ensures items { rows.new.items ≡ map (woken (woken_ready object.0)) rows.old.items }
-    ensures capacity { vec_capacity rows.new ≡ vec_capacity rows.old }
+pub fn wake_for_ready(rows: &mut IndexMap<TaskId, Waiting>, object: ObjectId)
+    ensures entries { rows.new.entries ≡ map (on_value (woken (woken_ready object.0))) rows.old.entries }
+    ensures spare { spare rows.new ≡ spare rows.old }
 {
-    'all: for row in rows.iter_mut() {
-        *row = after_ready(*row, object);
+    'all: for at in 0..rows.len() {
+        rows[at] = after_ready(rows[at], object);
     }
 }
 

@@ -4,9 +4,10 @@ ghost use Rattle.vm_waits.specs.Waits.{EachOnce, PutsEntry, Waked, count_again, 
 ghost use Rattle.vm_waits.specs.Kept.{AreQueued};
 ghost use Rattle.vm_waits.specs.declared.waiting.On.TheVariants.{Again, Frame};
 
-use crate::place::{Place, close_gap, find, known_place, place_of};
 use crate::scan::{oldest_again, oldest_on, take_off, wake_for_page, wake_for_ready};
+use crate::table::take_out;
 use crate::{Destination, On, Waiting, Want};
+use indexmap::IndexMap;
 use std::alloc::Global;
 use std::marker::Model;
 use vm_base::{NoMemory, ObjectId, PageKey, TaskId};
@@ -20,9 +21,9 @@ use vm_base::{NoMemory, ObjectId, PageKey, TaskId};
 #[derive(Drop)]
 pub struct Waits {
     // In the order in which they began.
-    rows: Vec<Waiting>,
-    // By rising task.
-    places: Vec<Place>,
+    rows: IndexMap<TaskId, Waiting>,
+    // Empty: the rows move there where a removal would leave too little room.
+    second: IndexMap<TaskId, Waiting>,
     // In the order of joining.
     queue: Vec<TaskId>,
     room: u32,
@@ -30,14 +31,15 @@ pub struct Waits {
 
 impl Model for Waits {
     ghost use Rattle.std.specs.Prelude.{length, vec_capacity};
-    ghost use Rattle.vm_waits.specs.Kept.{AreFound, AreQueued, HasRoom};
+    ghost use Rattle.indexmap.specs.IndexMap.{spare, values, IsEmpty};
+    ghost use Rattle.vm_waits.specs.Kept.{AreKept, AreQueued, HasRoom};
     ghost use Rattle.vm_waits.specs.Waits.{WaitTable};
 
     ghost Value = { WaitTable };
 
-    ghost view = { λ s. record { rows = s.rows.items; queue = s.queue.items; room = s.room } };
+    ghost view = { λ s. record { rows = values s.rows; queue = s.queue.items; room = s.room } };
 
-    ghost invariant = { λ s. AreFound s.rows.items s.places.items × AreQueued s.rows.items s.queue.items × HasRoom s.room (length s.rows.items) (vec_capacity s.rows) (vec_capacity s.places) (vec_capacity s.queue) };
+    ghost invariant = { λ s. AreKept s.rows.entries × IsEmpty s.second × AreQueued (values s.rows) s.queue.items × HasRoom s.room (length (values s.rows)) (spare s.rows) (spare s.second) (vec_capacity s.queue) };
 }
 
 impl Waits {
@@ -46,8 +48,8 @@ impl Waits {
         ensures { result ≡ record { rows = []; queue = []; room = 0 } }
     {
         Waits {
-            rows: Vec::new(alloc),
-            places: Vec::new(alloc),
+            rows: IndexMap::new(alloc),
+            second: IndexMap::new(alloc),
             queue: Vec::new(alloc),
             room: 0,
         }
@@ -65,12 +67,13 @@ impl Waits {
         if n <= self.room {
             return Ok(());
         }
-        let len = self.rows.len();
+        let len = self.rows().len();
         if n as usize > u32::MAX as usize - len {
             return Err(NoMemory);
         }
-        self.rows.reserve(n as usize)?;
-        self.places.reserve(n as usize)?;
+        // More room than is told, so that the rows seldom move.
+        self.rows.reserve(len + 2 * n as usize)?;
+        self.second.reserve(len + n as usize)?;
         self.queue.reserve(len + n as usize)?;
         self.room = n;
         Ok(())
@@ -88,15 +91,13 @@ impl Waits {
         ensures queue { self.new.queue ≡ self.old.queue }
         ensures room { self.old.room ≡ self.new.room + 1 }
     {
-        let at = self.rows.len();
-        let i = find(&self.places, task);
-        let _ = self.rows.push(Waiting {
+        let row = Waiting {
             task,
             want,
             on: On::Again,
             destination,
-        });
-        let _ = self.places.insert(i, Place { task, at });
+        };
+        self.rows.insert(task, row).unwrap();
         self.room -= 1;
     }
 
@@ -104,8 +105,7 @@ impl Waits {
     pub fn get(&self, task: TaskId) -> Option<Waiting>
         ensures { result ≡ entry self.now.rows task.0 }
     {
-        let at = place_of(&self.places, task)?;
-        Some(self.rows[at])
+        self.rows.get(&task).copied()
     }
 
     /// The waiting accesses, in the order in which they began.
@@ -113,7 +113,7 @@ impl Waits {
         ensures rows { result.now ≡ self.now.rows }
         ensures once { EachOnce self.now.rows }
     {
-        self.rows.as_slice()
+        self.rows.values().as_slice()
     }
 
     /// The oldest access that is to be run again; None exactly where none is.
@@ -123,7 +123,7 @@ impl Waits {
             (λ w. (entry self.now.rows w.task.0 ≡ Some w) × (is_again w.on ≡ true)) }
         ensures line { AreQueued self.now.rows self.now.queue }
     {
-        oldest_again(&self.rows)
+        oldest_again(self.rows.values().as_slice())
     }
 
     /// The access that is first in the queue for frames; None exactly where the queue is empty.
@@ -153,7 +153,7 @@ impl Waits {
             (λ w. (entry self.now.rows w.task.0 ≡ Some w) × (woken_page key w.on ≡ true)) }
         ensures line { AreQueued self.now.rows self.now.queue }
     {
-        oldest_on(&self.rows, key)
+        oldest_on(self.rows.values().as_slice(), key)
     }
 
     /// What a task's access is to do becomes something else: a slow copy goes on by some pages.
@@ -167,8 +167,7 @@ impl Waits {
         ensures queue { self.new.queue ≡ self.old.queue }
         ensures room { self.new.room ≡ self.old.room }
     {
-        let at = known_place(&self.places, task);
-        self.rows[at].want = want;
+        self.rows.get_mut(&task).unwrap().want = want;
     }
 
     /// A task's access waits for something else, but not for a frame; it leaves the queue if it was
@@ -186,8 +185,7 @@ impl Waits {
         ensures queue { self.new.queue ≡ queue_without task.0 self.old.queue }
         ensures room { self.new.room ≡ self.old.room }
     {
-        let at = known_place(&self.places, task);
-        self.rows[at].on = on;
+        self.rows.get_mut(&task).unwrap().on = on;
         take_off(&mut self.queue, task);
     }
 
@@ -203,8 +201,7 @@ impl Waits {
         ensures queue { self.new.queue ≡ self.old.queue ++ task ∷ [] }
         ensures room { self.new.room ≡ self.old.room }
     {
-        let at = known_place(&self.places, task);
-        self.rows[at].on = On::Frame;
+        self.rows.get_mut(&task).unwrap().on = On::Frame;
         let _ = self.queue.push(task);
     }
 
@@ -221,10 +218,7 @@ impl Waits {
         ensures queue { self.new.queue ≡ queue_without task.0 self.old.queue }
         ensures room { self.new.room ≡ self.old.room + 1 }
     {
-        let i = find(&self.places, task);
-        let place = self.places.remove(i);
-        let _ = self.rows.remove(place.at);
-        close_gap(&mut self.places, place.at);
+        take_out(&mut self.rows, &mut self.second, task, self.room as usize);
         take_off(&mut self.queue, task);
         self.room += 1;
     }

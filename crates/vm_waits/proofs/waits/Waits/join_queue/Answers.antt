@@ -1,109 +1,66 @@
-use Rattle.std.proofs.Common.{◌≡◌, ◌++◌, ◌∷◌, [], ◌∙◌, Some, false, map, set, refl, sym, ap, arith}
+use Rattle.std.proofs.Common.{◌≡◌, ◌++◌, ◌∷◌, [], ◌∙◌, Some, false, ap, refl, sym, map, arith}
 use Rattle.std.proofs.lemmas.List.{length-map}
+use Rattle.std.specs.Map.{values_of}
+use Rattle.std.specs.Option.{option_copied_mut}
 use Rattle.std.specs.Prelude.{IsSome}
-use Rattle.vm_waits.proofs.Rows.{counted_turned, counted_within, set_turned, spot_within, turned_keeps}
-use Rattle.vm_waits.proofs.Tables.{found_mapped, holds_there, if_some, is_there, lined_on, puts_turned, some_found, there}
-use Rattle.vm_waits.specs.Kept.{noted_place, row_place}
+use Rattle.vm_waits.proofs.ByTask.{lendable, looked_up, written}
+use Rattle.vm_waits.proofs.Rows.{counted_turned, counted_within}
+use Rattle.vm_waits.proofs.Tables.{holds_there, is_there, lined_on, puts_turned}
 use Rattle.vm_waits.specs.Waits.{entry, is_again, is_frame, one, turned, with_on}
 use Rattle.vm_waits.specs.declared.waiting.On.TheVariants as on
 use Rattle.vm_waits.proofs.waits.Waits.join_queue.Goals as goal
 
-pub known_place-at-requires-clause-there : goal.known_place-at-requires-clause-there
-known_place-at-requires-clause-there c =
-    let old = c.self.inside in
+pub unwrap-requires : goal.unwrap-requires
+unwrap-requires c =
     let some : IsSome (entry c.args.self.now.rows c.args.task.0) = is_there (entry c.args.self.now.rows c.args.task.0) (λ w. is_frame w.on ≡ false) c.requires in
-    let was = there (entry old.rows.items c.args.task.0) (rw (← c.self.view_is) at some) in
-    let other : is_frame was.it.on ≡ false = holds_there (entry old.rows.items c.args.task.0) was.it (λ w. is_frame w.on ≡ false) was.is (rw (← c.self.view_is) at c.requires) in
-    rw c.deref.ensures.value (some_found old.rows.items old.places.items c.args.task.0 was.it c.self.invariant.0 was.is)
-
-pub index_mut-requires : goal.index_mut-requires
-index_mut-requires c =
-    let old = c.self.inside in
-    let some : IsSome (entry c.args.self.now.rows c.args.task.0) = is_there (entry c.args.self.now.rows c.args.task.0) (λ w. is_frame w.on ≡ false) c.requires in
-    let was = there (entry old.rows.items c.args.task.0) (rw (← c.self.view_is) at some) in
-    let other : is_frame was.it.on ≡ false = holds_there (entry old.rows.items c.args.task.0) was.it (λ w. is_frame w.on ≡ false) was.is (rw (← c.self.view_is) at c.requires) in
-    let spots : row_place c.args.task.0 old.rows.items ≡ Some c.known_place-at.result = sym (c.self.invariant.0.leads c.args.task.0) ∙ ap (noted_place c.args.task.0) (sym c.deref.ensures.value) ∙ c.known_place-at.ensures in
-    omega (arith, spot_within old.rows.items c.args.task.0 c.known_place-at.result spots, old.rows.ok.0)
+    lendable c.args.task.0 c.self.inside.rows.entries c.get_mut.result c.self.invariant.0 c.get_mut.ensures.value (rw (← c.self.view_is) at some)
 
 pub invariant_of-self : goal.invariant_of-self
 invariant_of-self c =
     let old = c.self.inside in
-    let some : IsSome (entry c.args.self.now.rows c.args.task.0) = is_there (entry c.args.self.now.rows c.args.task.0) (λ w. is_frame w.on ≡ false) c.requires in
-    let was = there (entry old.rows.items c.args.task.0) (rw (← c.self.view_is) at some) in
-    let other : is_frame was.it.on ≡ false = holds_there (entry old.rows.items c.args.task.0) was.it (λ w. is_frame w.on ≡ false) was.is (rw (← c.self.view_is) at c.requires) in
-    let spots : row_place c.args.task.0 old.rows.items ≡ Some c.known_place-at.result = sym (c.self.invariant.0.leads c.args.task.0) ∙ ap (noted_place c.args.task.0) (sym c.deref.ensures.value) ∙ c.known_place-at.ensures in
-    let rows : set old.rows.items c.known_place-at.result (with_on c.index_mut.result.now on.Frame) ≡ map (turned c.args.task.0 on.Frame) old.rows.items = set_turned c.args.task.0 c.known_place-at.result old.rows.items c.index_mut.result.now on.Frame c.self.invariant.0.once spots c.index_mut.ensures.value in
-    let fits = c.self.invariant.2 in
-    let long = length-map old.rows.items (turned c.args.task.0 on.Frame) in
-    let count = counted_turned is_frame c.args.task.0 on.Frame old.rows.items was.it c.self.invariant.0.once was.is in
-    let most = counted_within is_frame (map (turned c.args.task.0 on.Frame) old.rows.items) in
+    let rows = values_of old.rows.entries in
+    let was = c.unwrap.result.now in
+    let found : entry rows c.args.task.0 ≡ Some was = sym (looked_up c.args.task.0 old.rows.entries c.self.invariant.0) ∙ sym c.get_mut.ensures.value ∙ ap option_copied_mut c.unwrap.ensures in
+    let other : is_frame was.on ≡ false = holds_there (entry rows c.args.task.0) was (λ w. is_frame w.on ≡ false) found (rw (← c.self.view_is) at c.requires) in
+    let wrote = c.get_mut.follows.holds (with_on was on.Frame) in
+    let now = written c.args.task.0 (λ w. with_on w on.Frame) old.rows.entries (c.get_mut.follows.lender (with_on was on.Frame)).entries was (λ w. refl) c.self.invariant.0 found wrote.0 in
+    let long = length-map rows (turned c.args.task.0 on.Frame) in
+    let count = counted_turned is_frame c.args.task.0 on.Frame rows was c.self.invariant.0.once found in
+    let most = counted_within is_frame (map (turned c.args.task.0 on.Frame) rows) in
     let none = ap one other in
-    let queue : c.push.new.self.items ≡ old.queue.items ++ c.args.task ∷ [] = rw (c.push.ensures.succeeds (omega (arith, fits.queue, long, count, most, none, c.self.invariant.1.even, old.queue.ok.0))) at c.push.ensures.items in
-    rw (rows, queue) (
-      found_mapped (turned c.args.task.0 on.Frame) old.rows.items old.places.items (turned_keeps c.args.task.0 on.Frame) c.self.invariant.0,
-      lined_on c.args.task old.rows.items old.queue.items was.it c.self.invariant.1 c.self.invariant.0.once was.is other,
+    let fits = c.self.invariant.3 in
+    let queue : c.push.new.self.items ≡ old.queue.items ++ c.args.task ∷ [] = rw (c.push.ensures.succeeds (omega (arith, fits.queue, long, count, most, none, c.self.invariant.2.even, old.queue.ok.0))) at c.push.ensures.items in
+    rw (now.rows, queue) (
+      now.kept,
+      c.self.invariant.1,
+      lined_on c.args.task rows old.queue.items was c.self.invariant.2 c.self.invariant.0.once found other,
       record {
-        rows = omega (arith, long, fits.rows);
-        places = omega (arith, long, fits.places);
-        queue = omega (arith, long, fits.queue, c.push.ensures.capacity);
-        few = omega (arith, long, fits.few);
+        rows = omega (arith, fits.rows, wrote.6);
+        second = omega (arith, fits.second, long);
+        queue = omega (arith, fits.queue, long, c.push.ensures.capacity);
+        few = omega (arith, fits.few, long);
       },
     )
 
-pub returns-clause-rows : goal.returns-clause-rows
-returns-clause-rows c =
+pub returns : goal.returns
+returns c =
     let old = c.self.inside in
-    let some : IsSome (entry c.args.self.now.rows c.args.task.0) = is_there (entry c.args.self.now.rows c.args.task.0) (λ w. is_frame w.on ≡ false) c.requires in
-    let was = there (entry old.rows.items c.args.task.0) (rw (← c.self.view_is) at some) in
-    let other : is_frame was.it.on ≡ false = holds_there (entry old.rows.items c.args.task.0) was.it (λ w. is_frame w.on ≡ false) was.is (rw (← c.self.view_is) at c.requires) in
-    let spots : row_place c.args.task.0 old.rows.items ≡ Some c.known_place-at.result = sym (c.self.invariant.0.leads c.args.task.0) ∙ ap (noted_place c.args.task.0) (sym c.deref.ensures.value) ∙ c.known_place-at.ensures in
-    let rows : set old.rows.items c.known_place-at.result (with_on c.index_mut.result.now on.Frame) ≡ map (turned c.args.task.0 on.Frame) old.rows.items = set_turned c.args.task.0 c.known_place-at.result old.rows.items c.index_mut.result.now on.Frame c.self.invariant.0.once spots c.index_mut.ensures.value in
-    rw (rows, ← c.self.view_is) refl
-
-pub returns-clause-entry : goal.returns-clause-entry
-returns-clause-entry c =
-    let old = c.self.inside in
-    let some : IsSome (entry c.args.self.now.rows c.args.task.0) = is_there (entry c.args.self.now.rows c.args.task.0) (λ w. is_frame w.on ≡ false) c.requires in
-    let was = there (entry old.rows.items c.args.task.0) (rw (← c.self.view_is) at some) in
-    let other : is_frame was.it.on ≡ false = holds_there (entry old.rows.items c.args.task.0) was.it (λ w. is_frame w.on ≡ false) was.is (rw (← c.self.view_is) at c.requires) in
-    let spots : row_place c.args.task.0 old.rows.items ≡ Some c.known_place-at.result = sym (c.self.invariant.0.leads c.args.task.0) ∙ ap (noted_place c.args.task.0) (sym c.deref.ensures.value) ∙ c.known_place-at.ensures in
-    let rows : set old.rows.items c.known_place-at.result (with_on c.index_mut.result.now on.Frame) ≡ map (turned c.args.task.0 on.Frame) old.rows.items = set_turned c.args.task.0 c.known_place-at.result old.rows.items c.index_mut.result.now on.Frame c.self.invariant.0.once spots c.index_mut.ensures.value in
-    rw (rows, ← c.self.view_is) (if_some (entry old.rows.items c.args.task.0) _ (λ one is. puts_turned c.args.task.0 on.Frame old.rows.items one is))
-
-pub returns-clause-again : goal.returns-clause-again
-returns-clause-again c =
-    let old = c.self.inside in
-    let some : IsSome (entry c.args.self.now.rows c.args.task.0) = is_there (entry c.args.self.now.rows c.args.task.0) (λ w. is_frame w.on ≡ false) c.requires in
-    let was = there (entry old.rows.items c.args.task.0) (rw (← c.self.view_is) at some) in
-    let other : is_frame was.it.on ≡ false = holds_there (entry old.rows.items c.args.task.0) was.it (λ w. is_frame w.on ≡ false) was.is (rw (← c.self.view_is) at c.requires) in
-    let spots : row_place c.args.task.0 old.rows.items ≡ Some c.known_place-at.result = sym (c.self.invariant.0.leads c.args.task.0) ∙ ap (noted_place c.args.task.0) (sym c.deref.ensures.value) ∙ c.known_place-at.ensures in
-    let rows : set old.rows.items c.known_place-at.result (with_on c.index_mut.result.now on.Frame) ≡ map (turned c.args.task.0 on.Frame) old.rows.items = set_turned c.args.task.0 c.known_place-at.result old.rows.items c.index_mut.result.now on.Frame c.self.invariant.0.once spots c.index_mut.ensures.value in
-    rw (rows, ← c.self.view_is) (if_some (entry old.rows.items c.args.task.0) _ (λ was is. let count = counted_turned is_again c.args.task.0 on.Frame old.rows.items was c.self.invariant.0.once is in omega (arith, count)))
-
-pub returns-clause-queued : goal.returns-clause-queued
-returns-clause-queued c =
-    let old = c.self.inside in
-    let some : IsSome (entry c.args.self.now.rows c.args.task.0) = is_there (entry c.args.self.now.rows c.args.task.0) (λ w. is_frame w.on ≡ false) c.requires in
-    let was = there (entry old.rows.items c.args.task.0) (rw (← c.self.view_is) at some) in
-    let other : is_frame was.it.on ≡ false = holds_there (entry old.rows.items c.args.task.0) was.it (λ w. is_frame w.on ≡ false) was.is (rw (← c.self.view_is) at c.requires) in
-    let spots : row_place c.args.task.0 old.rows.items ≡ Some c.known_place-at.result = sym (c.self.invariant.0.leads c.args.task.0) ∙ ap (noted_place c.args.task.0) (sym c.deref.ensures.value) ∙ c.known_place-at.ensures in
-    let rows : set old.rows.items c.known_place-at.result (with_on c.index_mut.result.now on.Frame) ≡ map (turned c.args.task.0 on.Frame) old.rows.items = set_turned c.args.task.0 c.known_place-at.result old.rows.items c.index_mut.result.now on.Frame c.self.invariant.0.once spots c.index_mut.ensures.value in
+    let rows = values_of old.rows.entries in
+    let was = c.unwrap.result.now in
+    let found : entry rows c.args.task.0 ≡ Some was = sym (looked_up c.args.task.0 old.rows.entries c.self.invariant.0) ∙ sym c.get_mut.ensures.value ∙ ap option_copied_mut c.unwrap.ensures in
+    let other : is_frame was.on ≡ false = holds_there (entry rows c.args.task.0) was (λ w. is_frame w.on ≡ false) found (rw (← c.self.view_is) at c.requires) in
+    let wrote = c.get_mut.follows.holds (with_on was on.Frame) in
+    let now = written c.args.task.0 (λ w. with_on w on.Frame) old.rows.entries (c.get_mut.follows.lender (with_on was on.Frame)).entries was (λ w. refl) c.self.invariant.0 found wrote.0 in
+    let long = length-map rows (turned c.args.task.0 on.Frame) in
+    let count = counted_turned is_frame c.args.task.0 on.Frame rows was c.self.invariant.0.once found in
+    let most = counted_within is_frame (map (turned c.args.task.0 on.Frame) rows) in
     let none = ap one other in
-    let count = counted_turned is_frame c.args.task.0 on.Frame old.rows.items was.it c.self.invariant.0.once was.is in
-    rw (rows, ← c.self.view_is) (omega (arith, count, none))
-
-pub returns-clause-queue : goal.returns-clause-queue
-returns-clause-queue c =
-    let old = c.self.inside in
-    let some : IsSome (entry c.args.self.now.rows c.args.task.0) = is_there (entry c.args.self.now.rows c.args.task.0) (λ w. is_frame w.on ≡ false) c.requires in
-    let was = there (entry old.rows.items c.args.task.0) (rw (← c.self.view_is) at some) in
-    let other : is_frame was.it.on ≡ false = holds_there (entry old.rows.items c.args.task.0) was.it (λ w. is_frame w.on ≡ false) was.is (rw (← c.self.view_is) at c.requires) in
-    let spots : row_place c.args.task.0 old.rows.items ≡ Some c.known_place-at.result = sym (c.self.invariant.0.leads c.args.task.0) ∙ ap (noted_place c.args.task.0) (sym c.deref.ensures.value) ∙ c.known_place-at.ensures in
-    let rows : set old.rows.items c.known_place-at.result (with_on c.index_mut.result.now on.Frame) ≡ map (turned c.args.task.0 on.Frame) old.rows.items = set_turned c.args.task.0 c.known_place-at.result old.rows.items c.index_mut.result.now on.Frame c.self.invariant.0.once spots c.index_mut.ensures.value in
-    let fits = c.self.invariant.2 in
-    let long = length-map old.rows.items (turned c.args.task.0 on.Frame) in
-    let count = counted_turned is_frame c.args.task.0 on.Frame old.rows.items was.it c.self.invariant.0.once was.is in
-    let most = counted_within is_frame (map (turned c.args.task.0 on.Frame) old.rows.items) in
-    let none = ap one other in
-    let queue : c.push.new.self.items ≡ old.queue.items ++ c.args.task ∷ [] = rw (c.push.ensures.succeeds (omega (arith, fits.queue, long, count, most, none, c.self.invariant.1.even, old.queue.ok.0))) at c.push.ensures.items in
-    rw (queue, ← c.self.view_is) refl
+    let queue : c.push.new.self.items ≡ old.queue.items ++ c.args.task ∷ [] = rw (c.push.ensures.succeeds (omega (arith, c.self.invariant.3.queue, long, count, most, none, c.self.invariant.2.even, old.queue.ok.0))) at c.push.ensures.items in
+    rw (now.rows, ← c.self.view_is, found) record {
+      rows = refl;
+      entry = puts_turned c.args.task.0 on.Frame rows was found;
+      again = omega (arith, counted_turned is_again c.args.task.0 on.Frame rows was c.self.invariant.0.once found);
+      queued = omega (arith, none, count);
+      queue = queue;
+      room = refl;
+    }

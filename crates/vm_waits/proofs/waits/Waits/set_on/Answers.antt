@@ -1,80 +1,51 @@
-use Rattle.std.proofs.Common.{◌≡◌, ◌∙◌, Some, map, set, refl, sym, ap, arith}
+use Rattle.std.proofs.Common.{◌≡◌, ◌∙◌, Some, ap, refl, sym, arith}
 use Rattle.std.proofs.lemmas.List.{length-map}
-use Rattle.vm_waits.proofs.Rows.{counted_turned, set_turned, spot_within, turned_keeps}
-use Rattle.vm_waits.proofs.Tables.{found_mapped, if_some, lined_off, puts_turned, some_found, there}
-use Rattle.vm_waits.specs.Kept.{noted_place, row_place}
+use Rattle.std.specs.Map.{values_of}
+use Rattle.std.specs.Option.{option_copied_mut}
+use Rattle.vm_waits.proofs.ByTask.{lendable, looked_up, written}
+use Rattle.vm_waits.proofs.Rows.{counted_turned}
+use Rattle.vm_waits.proofs.Tables.{lined_off, puts_turned}
 use Rattle.vm_waits.specs.Waits.{entry, is_again, is_frame, one, turned, with_on}
 use Rattle.vm_waits.proofs.waits.Waits.set_on.Goals as goal
 
-pub known_place-at-requires-clause-there : goal.known_place-at-requires-clause-there
-known_place-at-requires-clause-there c =
-    let old = c.self.inside in
-    let was = there (entry old.rows.items c.args.task.0) (rw (← c.self.view_is) at c.requires.there) in
-    let other = c.requires.other in
-    rw c.deref.ensures.value (some_found old.rows.items old.places.items c.args.task.0 was.it c.self.invariant.0 was.is)
-
-pub index_mut-requires : goal.index_mut-requires
-index_mut-requires c =
-    let old = c.self.inside in
-    let was = there (entry old.rows.items c.args.task.0) (rw (← c.self.view_is) at c.requires.there) in
-    let other = c.requires.other in
-    let spots : row_place c.args.task.0 old.rows.items ≡ Some c.known_place-at.result = sym (c.self.invariant.0.leads c.args.task.0) ∙ ap (noted_place c.args.task.0) (sym c.deref.ensures.value) ∙ c.known_place-at.ensures in
-    omega (arith, spot_within old.rows.items c.args.task.0 c.known_place-at.result spots, old.rows.ok.0)
+pub unwrap-requires : goal.unwrap-requires
+unwrap-requires c = lendable c.args.task.0 c.self.inside.rows.entries c.get_mut.result c.self.invariant.0 c.get_mut.ensures.value (rw (← c.self.view_is) at c.requires.there)
 
 pub invariant_of-self : goal.invariant_of-self
 invariant_of-self c =
     let old = c.self.inside in
-    let was = there (entry old.rows.items c.args.task.0) (rw (← c.self.view_is) at c.requires.there) in
-    let other = c.requires.other in
-    let spots : row_place c.args.task.0 old.rows.items ≡ Some c.known_place-at.result = sym (c.self.invariant.0.leads c.args.task.0) ∙ ap (noted_place c.args.task.0) (sym c.deref.ensures.value) ∙ c.known_place-at.ensures in
-    let rows : set old.rows.items c.known_place-at.result (with_on c.index_mut.result.now c.args.on) ≡ map (turned c.args.task.0 c.args.on) old.rows.items = set_turned c.args.task.0 c.known_place-at.result old.rows.items c.index_mut.result.now c.args.on c.self.invariant.0.once spots c.index_mut.ensures.value in
-    let queue = c.take_off.ensures.tasks in
-    let fits = c.self.invariant.2 in
-    let long = length-map old.rows.items (turned c.args.task.0 c.args.on) in
-    rw (rows, queue) (
-      found_mapped (turned c.args.task.0 c.args.on) old.rows.items old.places.items (turned_keeps c.args.task.0 c.args.on) c.self.invariant.0,
-      lined_off c.args.task.0 c.args.on old.rows.items old.queue.items was.it c.self.invariant.1 c.self.invariant.0.once was.is other,
+    let rows = values_of old.rows.entries in
+    let was = c.unwrap.result.now in
+    let found : entry rows c.args.task.0 ≡ Some was = sym (looked_up c.args.task.0 old.rows.entries c.self.invariant.0) ∙ sym c.get_mut.ensures.value ∙ ap option_copied_mut c.unwrap.ensures in
+    let wrote = c.get_mut.follows.holds (with_on was c.args.on) in
+    let now = written c.args.task.0 (λ w. with_on w c.args.on) old.rows.entries (c.get_mut.follows.lender (with_on was c.args.on)).entries was (λ w. refl) c.self.invariant.0 found wrote.0 in
+    let long = length-map rows (turned c.args.task.0 c.args.on) in
+    let fits = c.self.invariant.3 in
+    rw (now.rows, c.take_off.ensures.tasks) (
+      now.kept,
+      c.self.invariant.1,
+      lined_off c.args.task.0 c.args.on rows old.queue.items was c.self.invariant.2 c.self.invariant.0.once found c.requires.other,
       record {
-        rows = omega (arith, long, fits.rows);
-        places = omega (arith, long, fits.places);
-        queue = omega (arith, long, fits.queue, c.take_off.ensures.capacity);
-        few = omega (arith, long, fits.few);
+        rows = omega (arith, fits.rows, wrote.6);
+        second = omega (arith, fits.second, long);
+        queue = omega (arith, fits.queue, long, c.take_off.ensures.capacity);
+        few = omega (arith, fits.few, long);
       },
     )
 
-pub returns-clause-rows : goal.returns-clause-rows
-returns-clause-rows c =
+pub returns : goal.returns
+returns c =
     let old = c.self.inside in
-    let was = there (entry old.rows.items c.args.task.0) (rw (← c.self.view_is) at c.requires.there) in
-    let other = c.requires.other in
-    let spots : row_place c.args.task.0 old.rows.items ≡ Some c.known_place-at.result = sym (c.self.invariant.0.leads c.args.task.0) ∙ ap (noted_place c.args.task.0) (sym c.deref.ensures.value) ∙ c.known_place-at.ensures in
-    let rows : set old.rows.items c.known_place-at.result (with_on c.index_mut.result.now c.args.on) ≡ map (turned c.args.task.0 c.args.on) old.rows.items = set_turned c.args.task.0 c.known_place-at.result old.rows.items c.index_mut.result.now c.args.on c.self.invariant.0.once spots c.index_mut.ensures.value in
-    rw (rows, ← c.self.view_is) refl
-
-pub returns-clause-entry : goal.returns-clause-entry
-returns-clause-entry c =
-    let old = c.self.inside in
-    let was = there (entry old.rows.items c.args.task.0) (rw (← c.self.view_is) at c.requires.there) in
-    let other = c.requires.other in
-    let spots : row_place c.args.task.0 old.rows.items ≡ Some c.known_place-at.result = sym (c.self.invariant.0.leads c.args.task.0) ∙ ap (noted_place c.args.task.0) (sym c.deref.ensures.value) ∙ c.known_place-at.ensures in
-    let rows : set old.rows.items c.known_place-at.result (with_on c.index_mut.result.now c.args.on) ≡ map (turned c.args.task.0 c.args.on) old.rows.items = set_turned c.args.task.0 c.known_place-at.result old.rows.items c.index_mut.result.now c.args.on c.self.invariant.0.once spots c.index_mut.ensures.value in
-    rw (rows, ← c.self.view_is) (if_some (entry old.rows.items c.args.task.0) _ (λ one is. puts_turned c.args.task.0 c.args.on old.rows.items one is))
-
-pub returns-clause-again : goal.returns-clause-again
-returns-clause-again c =
-    let old = c.self.inside in
-    let was = there (entry old.rows.items c.args.task.0) (rw (← c.self.view_is) at c.requires.there) in
-    let other = c.requires.other in
-    let spots : row_place c.args.task.0 old.rows.items ≡ Some c.known_place-at.result = sym (c.self.invariant.0.leads c.args.task.0) ∙ ap (noted_place c.args.task.0) (sym c.deref.ensures.value) ∙ c.known_place-at.ensures in
-    let rows : set old.rows.items c.known_place-at.result (with_on c.index_mut.result.now c.args.on) ≡ map (turned c.args.task.0 c.args.on) old.rows.items = set_turned c.args.task.0 c.known_place-at.result old.rows.items c.index_mut.result.now c.args.on c.self.invariant.0.once spots c.index_mut.ensures.value in
-    rw (rows, ← c.self.view_is) (if_some (entry old.rows.items c.args.task.0) _ (λ one is. counted_turned is_again c.args.task.0 c.args.on old.rows.items one c.self.invariant.0.once is))
-
-pub returns-clause-queued : goal.returns-clause-queued
-returns-clause-queued c =
-    let old = c.self.inside in
-    let was = there (entry old.rows.items c.args.task.0) (rw (← c.self.view_is) at c.requires.there) in
-    let other = c.requires.other in
-    let spots : row_place c.args.task.0 old.rows.items ≡ Some c.known_place-at.result = sym (c.self.invariant.0.leads c.args.task.0) ∙ ap (noted_place c.args.task.0) (sym c.deref.ensures.value) ∙ c.known_place-at.ensures in
-    let rows : set old.rows.items c.known_place-at.result (with_on c.index_mut.result.now c.args.on) ≡ map (turned c.args.task.0 c.args.on) old.rows.items = set_turned c.args.task.0 c.known_place-at.result old.rows.items c.index_mut.result.now c.args.on c.self.invariant.0.once spots c.index_mut.ensures.value in
-    let none = ap one other in
-    rw (rows, ← c.self.view_is) (if_some (entry old.rows.items c.args.task.0) _ (λ was is. let count = counted_turned is_frame c.args.task.0 c.args.on old.rows.items was c.self.invariant.0.once is in omega (arith, count, none)))
+    let rows = values_of old.rows.entries in
+    let was = c.unwrap.result.now in
+    let found : entry rows c.args.task.0 ≡ Some was = sym (looked_up c.args.task.0 old.rows.entries c.self.invariant.0) ∙ sym c.get_mut.ensures.value ∙ ap option_copied_mut c.unwrap.ensures in
+    let wrote = c.get_mut.follows.holds (with_on was c.args.on) in
+    let now = written c.args.task.0 (λ w. with_on w c.args.on) old.rows.entries (c.get_mut.follows.lender (with_on was c.args.on)).entries was (λ w. refl) c.self.invariant.0 found wrote.0 in
+    rw (now.rows, ← c.self.view_is, found) record {
+      rows = refl;
+      entry = puts_turned c.args.task.0 c.args.on rows was found;
+      again = counted_turned is_again c.args.task.0 c.args.on rows was c.self.invariant.0.once found;
+      queued = let none = ap one c.requires.other in omega (arith, none, counted_turned is_frame c.args.task.0 c.args.on rows was c.self.invariant.0.once found);
+      queue = c.take_off.ensures.tasks;
+      room = refl;
+    }

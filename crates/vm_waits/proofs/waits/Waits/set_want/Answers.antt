@@ -1,65 +1,51 @@
-use Rattle.std.proofs.Common.{◌≡◌, ◌∙◌, Some, map, set, refl, sym, ap, arith}
+use Rattle.std.proofs.Common.{◌≡◌, ◌∙◌, Some, ap, refl, sym, arith}
 use Rattle.std.proofs.lemmas.List.{length-map}
-use Rattle.vm_waits.proofs.Rows.{counted_rewanted, rewanted_keeps, set_rewanted, spot_within}
-use Rattle.vm_waits.proofs.Tables.{found_mapped, if_some, lined_rewanted, puts_rewanted, some_found, there}
-use Rattle.vm_waits.specs.Kept.{noted_place, row_place}
+use Rattle.std.specs.Map.{values_of}
+use Rattle.std.specs.Option.{option_copied_mut}
+use Rattle.vm_waits.proofs.ByTask.{lendable, looked_up, written}
+use Rattle.vm_waits.proofs.Rows.{counted_rewanted}
+use Rattle.vm_waits.proofs.Tables.{lined_rewanted, puts_rewanted}
 use Rattle.vm_waits.specs.Waits.{entry, is_again, is_frame, rewanted, with_want}
 use Rattle.vm_waits.proofs.waits.Waits.set_want.Goals as goal
 
-pub known_place-at-requires-clause-there : goal.known_place-at-requires-clause-there
-known_place-at-requires-clause-there c =
-    let old = c.self.inside in
-    let was = there (entry old.rows.items c.args.task.0) (rw (← c.self.view_is) at c.requires) in
-    rw c.deref.ensures.value (some_found old.rows.items old.places.items c.args.task.0 was.it c.self.invariant.0 was.is)
-
-pub index_mut-requires : goal.index_mut-requires
-index_mut-requires c =
-    let old = c.self.inside in
-    let spots : row_place c.args.task.0 old.rows.items ≡ Some c.known_place-at.result = sym (c.self.invariant.0.leads c.args.task.0) ∙ ap (noted_place c.args.task.0) (sym c.deref.ensures.value) ∙ c.known_place-at.ensures in
-    omega (arith, spot_within old.rows.items c.args.task.0 c.known_place-at.result spots, old.rows.ok.0)
+pub unwrap-requires : goal.unwrap-requires
+unwrap-requires c = lendable c.args.task.0 c.self.inside.rows.entries c.get_mut.result c.self.invariant.0 c.get_mut.ensures.value (rw (← c.self.view_is) at c.requires)
 
 pub invariant_of-self : goal.invariant_of-self
 invariant_of-self c =
     let old = c.self.inside in
-    let spots : row_place c.args.task.0 old.rows.items ≡ Some c.known_place-at.result = sym (c.self.invariant.0.leads c.args.task.0) ∙ ap (noted_place c.args.task.0) (sym c.deref.ensures.value) ∙ c.known_place-at.ensures in
-    let rows : set old.rows.items c.known_place-at.result (with_want c.index_mut.result.now c.args.want) ≡ map (rewanted c.args.task.0 c.args.want) old.rows.items = set_rewanted c.args.task.0 c.known_place-at.result old.rows.items c.index_mut.result.now c.args.want c.self.invariant.0.once spots c.index_mut.ensures.value in
-    let fits = c.self.invariant.2 in
-    let long = length-map old.rows.items (rewanted c.args.task.0 c.args.want) in
-    rw rows (
-      found_mapped (rewanted c.args.task.0 c.args.want) old.rows.items old.places.items (rewanted_keeps c.args.task.0 c.args.want) c.self.invariant.0,
-      lined_rewanted c.args.task.0 c.args.want old.rows.items old.queue.items c.self.invariant.1,
+    let rows = values_of old.rows.entries in
+    let was = c.unwrap.result.now in
+    let found : entry rows c.args.task.0 ≡ Some was = sym (looked_up c.args.task.0 old.rows.entries c.self.invariant.0) ∙ sym c.get_mut.ensures.value ∙ ap option_copied_mut c.unwrap.ensures in
+    let wrote = c.get_mut.follows.holds (with_want was c.args.want) in
+    let now = written c.args.task.0 (λ w. with_want w c.args.want) old.rows.entries (c.get_mut.follows.lender (with_want was c.args.want)).entries was (λ w. refl) c.self.invariant.0 found wrote.0 in
+    let long = length-map rows (rewanted c.args.task.0 c.args.want) in
+    let fits = c.self.invariant.3 in
+    rw now.rows (
+      now.kept,
+      c.self.invariant.1,
+      lined_rewanted c.args.task.0 c.args.want rows old.queue.items c.self.invariant.2,
       record {
-        rows = omega (arith, long, fits.rows);
-        places = omega (arith, long, fits.places);
-        queue = omega (arith, long, fits.queue);
-        few = omega (arith, long, fits.few);
+        rows = omega (arith, fits.rows, wrote.6);
+        second = omega (arith, fits.second, long);
+        queue = omega (arith, fits.queue, long);
+        few = omega (arith, fits.few, long);
       },
     )
 
-pub returns-clause-rows : goal.returns-clause-rows
-returns-clause-rows c =
+pub returns : goal.returns
+returns c =
     let old = c.self.inside in
-    let spots : row_place c.args.task.0 old.rows.items ≡ Some c.known_place-at.result = sym (c.self.invariant.0.leads c.args.task.0) ∙ ap (noted_place c.args.task.0) (sym c.deref.ensures.value) ∙ c.known_place-at.ensures in
-    let rows : set old.rows.items c.known_place-at.result (with_want c.index_mut.result.now c.args.want) ≡ map (rewanted c.args.task.0 c.args.want) old.rows.items = set_rewanted c.args.task.0 c.known_place-at.result old.rows.items c.index_mut.result.now c.args.want c.self.invariant.0.once spots c.index_mut.ensures.value in
-    rw (rows, ← c.self.view_is) refl
-
-pub returns-clause-entry : goal.returns-clause-entry
-returns-clause-entry c =
-    let old = c.self.inside in
-    let spots : row_place c.args.task.0 old.rows.items ≡ Some c.known_place-at.result = sym (c.self.invariant.0.leads c.args.task.0) ∙ ap (noted_place c.args.task.0) (sym c.deref.ensures.value) ∙ c.known_place-at.ensures in
-    let rows : set old.rows.items c.known_place-at.result (with_want c.index_mut.result.now c.args.want) ≡ map (rewanted c.args.task.0 c.args.want) old.rows.items = set_rewanted c.args.task.0 c.known_place-at.result old.rows.items c.index_mut.result.now c.args.want c.self.invariant.0.once spots c.index_mut.ensures.value in
-    rw (rows, ← c.self.view_is) (if_some (entry old.rows.items c.args.task.0) _ (λ one is. puts_rewanted c.args.task.0 c.args.want old.rows.items one is))
-
-pub returns-clause-again : goal.returns-clause-again
-returns-clause-again c =
-    let old = c.self.inside in
-    let spots : row_place c.args.task.0 old.rows.items ≡ Some c.known_place-at.result = sym (c.self.invariant.0.leads c.args.task.0) ∙ ap (noted_place c.args.task.0) (sym c.deref.ensures.value) ∙ c.known_place-at.ensures in
-    let rows : set old.rows.items c.known_place-at.result (with_want c.index_mut.result.now c.args.want) ≡ map (rewanted c.args.task.0 c.args.want) old.rows.items = set_rewanted c.args.task.0 c.known_place-at.result old.rows.items c.index_mut.result.now c.args.want c.self.invariant.0.once spots c.index_mut.ensures.value in
-    rw (rows, ← c.self.view_is) (counted_rewanted is_again c.args.task.0 c.args.want old.rows.items)
-
-pub returns-clause-queued : goal.returns-clause-queued
-returns-clause-queued c =
-    let old = c.self.inside in
-    let spots : row_place c.args.task.0 old.rows.items ≡ Some c.known_place-at.result = sym (c.self.invariant.0.leads c.args.task.0) ∙ ap (noted_place c.args.task.0) (sym c.deref.ensures.value) ∙ c.known_place-at.ensures in
-    let rows : set old.rows.items c.known_place-at.result (with_want c.index_mut.result.now c.args.want) ≡ map (rewanted c.args.task.0 c.args.want) old.rows.items = set_rewanted c.args.task.0 c.known_place-at.result old.rows.items c.index_mut.result.now c.args.want c.self.invariant.0.once spots c.index_mut.ensures.value in
-    rw (rows, ← c.self.view_is) (counted_rewanted is_frame c.args.task.0 c.args.want old.rows.items)
+    let rows = values_of old.rows.entries in
+    let was = c.unwrap.result.now in
+    let found : entry rows c.args.task.0 ≡ Some was = sym (looked_up c.args.task.0 old.rows.entries c.self.invariant.0) ∙ sym c.get_mut.ensures.value ∙ ap option_copied_mut c.unwrap.ensures in
+    let wrote = c.get_mut.follows.holds (with_want was c.args.want) in
+    let now = written c.args.task.0 (λ w. with_want w c.args.want) old.rows.entries (c.get_mut.follows.lender (with_want was c.args.want)).entries was (λ w. refl) c.self.invariant.0 found wrote.0 in
+    rw (now.rows, ← c.self.view_is, found) record {
+      rows = refl;
+      entry = puts_rewanted c.args.task.0 c.args.want rows was found;
+      again = counted_rewanted is_again c.args.task.0 c.args.want rows;
+      queued = counted_rewanted is_frame c.args.task.0 c.args.want rows;
+      queue = refl;
+      room = refl;
+    }
