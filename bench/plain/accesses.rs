@@ -1,0 +1,402 @@
+// Accesses are run, wait, are woken, and queue for frames; pages are reclaimed for them.
+
+use crate::frames::{Frame, Host, NO_FRAME, NO_TASK};
+use crate::objects::{Object, Pager};
+use crate::page::Page;
+use crate::ports::{Message, NONE};
+use crate::system::{Access, System, Want};
+
+/// What running an access comes to.
+enum Step {
+    Done,
+    /// It waits for the ready of an object's pager.
+    Ready(usize),
+    /// It waits for the page of a frame.
+    Page(u16),
+    /// No frame is to be had; the page in the frame is what it is to copy.
+    NeedsFrame(u16),
+}
+
+/// Where the walk down a chain stops.
+enum Stop {
+    Here(u16),
+    Asked(u16),
+    MayCome,
+    Nowhere,
+}
+
+// The place at which a walk stops, and whether that is the top.
+struct Walk {
+    object: usize,
+    page: u32,
+    is_top: bool,
+    stop: Stop,
+}
+
+impl System {
+    fn host(&self, object: usize) -> &Host {
+        &self.hosts[usize::from(self.objects[object].host)]
+    }
+
+    pub fn frame_mut(&mut self, object: usize, frame: u16) -> &mut Frame {
+        &mut self.hosts[usize::from(self.objects[object].host)].frames[usize::from(frame)]
+    }
+
+    /// A task's access begins.
+    pub fn begin(&mut self, task: u16, access: Access) {
+        self.began += 1;
+        let it = &mut self.tasks[usize::from(task)];
+        it.access = access;
+        it.began = self.began;
+        self.run_access(task);
+    }
+
+    // Runs an access that isn't in the frame queue.
+    fn run_access(&mut self, task: u16) {
+        let host = usize::from(self.tasks[usize::from(task)].host);
+        let may_claim = self.hosts[host].queue.is_empty();
+        let step = self.attempt(task, may_claim);
+        if let Step::NeedsFrame(_) = step {
+            self.tasks[usize::from(task)].waits = true;
+            self.hosts[host].queue.push_back(task);
+        } else {
+            self.note(task, step);
+        }
+    }
+
+    // Notes what an access waits for, or that it is done.
+    fn note(&mut self, task: u16, step: Step) {
+        let waiter = match step {
+            Step::Done => {
+                let it = &mut self.tasks[usize::from(task)];
+                it.waits = false;
+                if let Want::Copy { pages, region, to, .. } = it.access.want {
+                    self.end_copy(task, pages, region, to);
+                }
+                return;
+            }
+            Step::Ready(object) => &mut self.objects[object].waiter,
+            Step::Page(frame) => {
+                let host = usize::from(self.tasks[usize::from(task)].host);
+                &mut self.hosts[host].frames[usize::from(frame)].waiter
+            }
+            Step::NeedsFrame(_) => return,
+        };
+        let before = std::mem::replace(waiter, task);
+        let it = &mut self.tasks[usize::from(task)];
+        it.next_waiter = before;
+        it.waits = true;
+    }
+
+    /// Those that wait, the last of them given, are to be run again.
+    pub fn wake(&mut self, waiter: u16) {
+        let mut task = waiter;
+        while task != NO_TASK {
+            self.woken.push(task);
+            task = self.tasks[usize::from(task)].next_waiter;
+        }
+    }
+
+    /// The woken ones, in the order in which they began.
+    pub fn take_woken(&mut self) -> Vec<u16> {
+        let mut woken = std::mem::take(&mut self.woken);
+        if woken.len() > 1 {
+            woken.sort_unstable_by_key(|task| self.tasks[usize::from(*task)].began);
+        }
+        woken
+    }
+
+    pub fn restart(&mut self) {
+        if self.woken.is_empty() {
+            return;
+        }
+        let mut woken = self.take_woken();
+        for task in woken.drain(..) {
+            self.run_access(task);
+        }
+        self.woken = woken;
+    }
+
+    /// At a step's end each host serves its frame queue.
+    pub fn serve(&mut self) {
+        for host in 0..self.hosts.len() {
+            while let Some(task) = self.hosts[host].queue.front().copied() {
+                if !self.serve_front(host, task) {
+                    break;
+                }
+            }
+        }
+    }
+
+    // Runs the front of a frame queue; whether the queue goes on.
+    fn serve_front(&mut self, host: usize, task: u16) -> bool {
+        match self.attempt(task, true) {
+            Step::NeedsFrame(spared) => self.hosts[host].laundry == 0 && self.reclaim(host, spared) == Some(true),
+            step => {
+                self.hosts[host].queue.pop_front();
+                self.note(task, step);
+                true
+            }
+        }
+    }
+
+    // Runs an access, a slow copy page by page.
+    fn attempt(&mut self, task: u16, may_claim: bool) -> Step {
+        loop {
+            let access = self.tasks[usize::from(task)].access;
+            let step = self.run_once(task, &access, may_claim);
+            let Want::Copy { pages, next, .. } = &mut self.tasks[usize::from(task)].access.want else {
+                return step;
+            };
+            let Step::Done = step else {
+                return step;
+            };
+            *next += 1;
+            if next == pages {
+                return Step::Done;
+            }
+        }
+    }
+
+    fn run_once(&mut self, task: u16, access: &Access, may_claim: bool) -> Step {
+        let is_store = matches!(access.want, Want::Store { .. });
+        if is_store && self.regions[access.region as usize].marked {
+            self.shadow(access.region as usize);
+        }
+        let walk = self.walk(access);
+        let is_top_store = is_store && walk.is_top;
+        let has_frame = may_claim && self.host(walk.object).free > 0;
+        match walk.stop {
+            Stop::Here(frame) => {
+                let row = self.frame_mut(walk.object, frame);
+                if row.lock & 1 != 0 || (is_top_store && row.lock & 2 != 0) {
+                    if !std::mem::replace(&mut row.unlock_sent, true) {
+                        let control = self.objects[walk.object].control;
+                        let access = if is_top_store { 3 } else { 1 };
+                        self.send_up(walk.object, Message::Unlock { control, page: walk.page, access });
+                    }
+                    return Step::Page(frame);
+                }
+                match access.want {
+                    Want::Store { .. } if !walk.is_top => return self.raise(task, access, &walk, frame, has_frame),
+                    Want::Copy { next, target, .. } => return self.copy_page(task, next, target, &walk, frame, has_frame),
+                    _ => self.hit(task, access, walk.object, frame),
+                }
+                Step::Done
+            }
+            Stop::Asked(frame) => Step::Page(frame),
+            Stop::MayCome if self.objects[walk.object].pager == Pager::Sent => Step::Ready(walk.object),
+            _ if !has_frame => Step::NeedsFrame(NO_FRAME),
+            Stop::MayCome => {
+                let frame = self.claim(walk.object, walk.page);
+                let control = self.objects[walk.object].control;
+                let access = if is_top_store { 3 } else { 1 };
+                self.send_up(walk.object, Message::Request { control, page: walk.page, access });
+                Step::Page(frame)
+            }
+            Stop::Nowhere => {
+                let (object, page) = self.top_place(access);
+                let frame = self.claim(object, page);
+                self.put_here(object, frame, Page::default());
+                self.zeroed(object, page);
+                self.hit(task, access, object, frame);
+                Step::Done
+            }
+        }
+    }
+
+    pub fn zeroed(&mut self, object: usize, page: u32) {
+        let Object { host, number, .. } = self.objects[object];
+        self.out.event("zeroed", [host.into(), number.into(), page.into()]);
+    }
+
+    fn claim(&mut self, object: usize, page: u32) -> u16 {
+        let it = &mut self.objects[object];
+        let frame = self.hosts[usize::from(it.host)].claim(object as u32, page);
+        it.set_frame(page, frame);
+        frame
+    }
+
+    pub fn put_here(&mut self, object: usize, frame: u16, bytes: Page) -> &mut Frame {
+        self.hosts[usize::from(self.objects[object].host)].put_here(frame, bytes)
+    }
+
+    // The place of an access in the top object of its region.
+    fn top_place(&self, access: &Access) -> (usize, u32) {
+        let region = &self.regions[access.region as usize];
+        let next = if let Want::Copy { next, .. } = access.want { next } else { 0 };
+        (region.top as usize, region.shift + access.page + next)
+    }
+
+    fn walk(&self, access: &Access) -> Walk {
+        let (top, page) = self.top_place(access);
+        let frames = &self.host(top).frames;
+        let mut walk = Walk { object: top, page, is_top: true, stop: Stop::Nowhere };
+        loop {
+            let object = &self.objects[walk.object];
+            if let Some(frame) = object.frame(walk.page) {
+                let is_here = frames[usize::from(frame)].here;
+                walk.stop = if is_here { Stop::Here(frame) } else { Stop::Asked(frame) };
+                return walk;
+            }
+            if object.pager != Pager::Without && !object.is_absent(walk.page) {
+                walk.stop = Stop::MayCome;
+                return walk;
+            }
+            if object.under == NONE {
+                return walk;
+            }
+            walk.page += object.shift;
+            walk.object = object.under as usize;
+            walk.is_top = false;
+        }
+    }
+
+    // A marked region gets an object of its own.
+    fn shadow(&mut self, at: usize) {
+        let region = self.regions[at];
+        let old = &self.objects[region.top as usize];
+        let (host, old) = (old.host, old.number);
+        let number = self.next_object;
+        self.next_object += 1;
+        self.marks -= 1;
+        let new = self.objects.len() as u32;
+        self.objects.push(Object::temporary(number, host, region.top, region.shift));
+        let it = &mut self.regions[at];
+        it.top = new;
+        it.shift = 0;
+        it.marked = false;
+        // The declared regions of all hosts but one stand in front of it besides.
+        let number_of_region = at as u32 - (self.hosts.len() as u32 - 1) * self.declared;
+        self.out.event("shadowed", [number_of_region.into(), number.into(), old.into()]);
+    }
+
+    // An access ends with a page that is here.
+    fn hit(&mut self, task: u16, access: &Access, object: usize, frame: u16) {
+        let Object { host, number, .. } = self.objects[object];
+        let host = &mut self.hosts[usize::from(host)];
+        host.touch(frame);
+        let row = &mut host.frames[usize::from(frame)];
+        let (at, size) = (usize::from(access.at), usize::from(access.size));
+        if let Want::Store { value } = access.want {
+            row.bytes.put(at, size, value);
+            row.dirty = true;
+            self.out.stored(task, number, row.page, at as u32, &value.to_le_bytes()[..size]);
+        } else {
+            let value = row.bytes.get(at, size);
+            self.out.loaded(task, number, row.page, value);
+        }
+    }
+
+    // The page in a frame is copied into a new page of an object; the new frame.
+    fn raise_page(&mut self, from: usize, frame: u16, object: usize, page: u32) -> u16 {
+        let bytes = self.frame_mut(from, frame).bytes.clone();
+        let new = self.claim(object, page);
+        self.put_here(object, new, bytes).dirty = true;
+        new
+    }
+
+    // A store whose page is below copies it up first.
+    fn raise(&mut self, task: u16, access: &Access, walk: &Walk, frame: u16, has_frame: bool) -> Step {
+        if !has_frame {
+            return Step::NeedsFrame(frame);
+        }
+        let (top, page) = self.top_place(access);
+        let new = self.raise_page(walk.object, frame, top, page);
+        let (lower, upper) = (&self.objects[walk.object], &self.objects[top]);
+        let numbers = [upper.host.into(), lower.number.into(), walk.page.into(), upper.number.into(), page.into()];
+        self.out.event("raised", numbers);
+        self.hit(task, access, top, new);
+        self.touch(top, frame);
+        Step::Done
+    }
+
+    fn touch(&mut self, object: usize, frame: u16) {
+        self.hosts[usize::from(self.objects[object].host)].touch(frame);
+    }
+
+    // A slow copy copies its next page.
+    fn copy_page(&mut self, task: u16, next: u32, target: u32, walk: &Walk, frame: u16, has_frame: bool) -> Step {
+        if !has_frame {
+            return Step::NeedsFrame(frame);
+        }
+        let target = target as usize;
+        let new = self.raise_page(walk.object, frame, target, next);
+        let (from, to) = (self.objects[walk.object].number, self.objects[target].number);
+        self.out.event("copied", [task.into(), next.into(), from.into(), walk.page.into(), to.into()]);
+        self.touch(target, new);
+        self.touch(walk.object, frame);
+        Step::Done
+    }
+
+    pub fn pageout(&mut self, host: u8, count: u32) {
+        let host = usize::from(host);
+        for _ in 0..count {
+            let spared = self.spared(host);
+            if self.reclaim(host, spared).is_none() {
+                return;
+            }
+        }
+    }
+
+    // The frame of the page that the front of the frame queue is to copy.
+    fn spared(&self, host: usize) -> u16 {
+        let Some(task) = self.hosts[host].queue.front() else {
+            return NO_FRAME;
+        };
+        let access = &self.tasks[usize::from(*task)].access;
+        let walk = self.walk(access);
+        match (walk.stop, access.want) {
+            (Stop::Here(frame), Want::Copy { .. }) => frame,
+            (Stop::Here(frame), Want::Store { .. }) if !walk.is_top => frame,
+            _ => NO_FRAME,
+        }
+    }
+
+    // Reclaims a page; whether its frame is free now, and None where no page is to be had.
+    fn reclaim(&mut self, host: usize, spared: u16) -> Option<bool> {
+        let frame = self.hosts[host].victim(spared)?;
+        let row = &self.hosts[host].frames[usize::from(frame)];
+        let object = row.object as usize;
+        if !row.dirty && !row.precious {
+            self.drop_page(object, frame);
+            return Some(true);
+        }
+        if self.objects[object].pager == Pager::Without {
+            self.begin_control(object);
+        }
+        self.return_page(object, frame);
+        Some(false)
+    }
+
+    /// A page goes without a word to its pager.
+    pub fn drop_page(&mut self, object: usize, frame: u16) {
+        let page = self.frame_mut(object, frame).page;
+        self.discard(object, frame);
+        let Object { host, number, .. } = self.objects[object];
+        self.out.dropped(host, number, page);
+    }
+
+    /// A frame is free, and has no page any more.
+    pub fn discard(&mut self, object: usize, frame: u16) {
+        let it = &mut self.objects[object];
+        let host = &mut self.hosts[usize::from(it.host)];
+        it.clear_frame(host.frames[usize::from(frame)].page);
+        host.leave(frame);
+        host.free += 1;
+    }
+
+    /// A page goes back to its pager, which holds the frame until it takes the message.
+    pub fn return_page(&mut self, object: usize, frame: u16) {
+        let it = &mut self.objects[object];
+        let host = &mut self.hosts[usize::from(it.host)];
+        let Frame { page, dirty, .. } = host.frames[usize::from(frame)];
+        it.clear_frame(page);
+        it.set_absent(page, false);
+        let mut bytes = host.leave(frame);
+        host.laundry += 1;
+        bytes.trim();
+        let control = it.control;
+        self.send_up(object, Message::Return { control, page, dirty, keep: false, bytes });
+    }
+}

@@ -1,0 +1,254 @@
+// What the pagers answer to the messages of the kernels.
+
+use std::cmp::Reverse;
+use std::collections::BinaryHeap;
+
+use crate::outside::Arming;
+use crate::page::Page;
+use crate::ports::Message;
+use crate::script::Kind;
+use crate::shared::Directory;
+use crate::system::System;
+
+/// The paging slots of a host's default pager.
+pub struct Slots {
+    count: u32,
+    // Slots from this one on never had a page; `freed` are those below that have none.
+    fresh: u32,
+    freed: BinaryHeap<Reverse<u32>>,
+    pages: Vec<Page>,
+}
+
+// What the default pager has of a page: nothing, none but knows it as lost, or the number of its slot.
+const NEVER: u32 = 0;
+const LOST: u32 = 1;
+
+// What is had of a page in a slot; it is torn where its last write failed.
+fn in_slot(slot: u32, torn: bool) -> u32 {
+    (slot << 1 | u32::from(torn)) + 2
+}
+
+fn slot_of(stored: u32) -> Option<(u32, bool)> {
+    let code = stored.checked_sub(2)?;
+    Some((code >> 1, code & 1 == 1))
+}
+
+impl Slots {
+    pub fn new(count: u32) -> Slots {
+        Slots { count, fresh: 0, freed: BinaryHeap::new(), pages: Vec::new() }
+    }
+
+    fn lowest_free(&mut self) -> Option<u32> {
+        if let Some(Reverse(slot)) = self.freed.pop() {
+            return Some(slot);
+        }
+        if self.fresh == self.count {
+            return None;
+        }
+        self.fresh += 1;
+        self.pages.push(Page::default());
+        Some(self.fresh - 1)
+    }
+
+    fn free(&mut self, slot: u32) {
+        self.pages[slot as usize] = Page::default();
+        self.freed.push(Reverse(slot));
+    }
+}
+
+/// What the pager of a file knows: the control that it may ask, and the pages whose last write failed.
+pub struct FilePager {
+    pub name: String,
+    pub known: Option<(u8, u32)>,
+    lost: Vec<bool>,
+}
+
+impl FilePager {
+    pub fn new(name: &str) -> FilePager {
+        FilePager { name: name.into(), known: None, lost: Vec::new() }
+    }
+
+    fn is_lost(&self, page: u32) -> bool {
+        self.lost.get(page as usize).copied().unwrap_or(false)
+    }
+
+    fn set_lost(&mut self, page: u32, lost: bool) {
+        let page = page as usize;
+        if lost && page >= self.lost.len() {
+            self.lost.resize(page + 1, false);
+        }
+        if let Some(place) = self.lost.get_mut(page) {
+            *place = lost;
+        }
+    }
+}
+
+impl System {
+    /// The pager of an object takes a message of a host; `object` is the object's index there.
+    pub fn take_up(&mut self, host: u8, object: usize, message: Message) {
+        match self.objects[object].kind {
+            Kind::Shared => self.take_shared(host, object, message),
+            Kind::File => self.take_filed(host, object, message),
+            Kind::Temporary | Kind::Wild => self.take_paged(host, object, message),
+        }
+    }
+
+    fn take_paged(&mut self, host: u8, object: usize, message: Message) {
+        match message {
+            Message::Create { control } => self.send_down(object, control, Message::Ready { strategy: 3 }),
+            Message::Request { control, page, .. } => {
+                let answer = self.stored_page(host, object, page);
+                self.send_down(object, control, answer);
+            }
+            Message::Return { page, bytes, .. } => self.store_page(host, object, page, bytes),
+            Message::Terminate { .. } => {
+                for stored in std::mem::take(&mut self.objects[object].stored) {
+                    if let Some((slot, _)) = slot_of(stored) {
+                        self.slots[usize::from(host)].free(slot);
+                    }
+                }
+            }
+            _ => {}
+        }
+    }
+
+    fn stored_page(&mut self, host: u8, object: usize, page: u32) -> Message {
+        let object = &self.objects[object];
+        match slot_of(object.stored.get(page as usize).copied().unwrap_or(NEVER)) {
+            None if object.stored.get(page as usize).is_some_and(|stored| *stored == LOST) => Message::Error { page },
+            None => Message::Unavailable { page },
+            Some((_, true)) => Message::Error { page },
+            Some((slot, false)) => {
+                if self.paging.strikes() {
+                    self.out.device_failed("paging read", object.number, page);
+                    return Message::Error { page };
+                }
+                Message::Supply { page, lock: 0, bytes: self.slots[usize::from(host)].pages[slot as usize].clone() }
+            }
+        }
+    }
+
+    fn store_page(&mut self, host: u8, object: usize, page: u32, bytes: Page) {
+        let slots = &mut self.slots[usize::from(host)];
+        let object = &mut self.objects[object];
+        if object.stored.len() <= page as usize {
+            object.stored.resize(page as usize + 1, NEVER);
+        }
+        let stored = &mut object.stored[page as usize];
+        let slot = slot_of(*stored).map(|(slot, _)| slot).or_else(|| slots.lowest_free());
+        let Some(slot) = slot else {
+            *stored = LOST;
+            self.out.event("noslot", [object.number.into(), page.into()]);
+            return;
+        };
+        let torn = self.paging.strikes();
+        *stored = in_slot(slot, torn);
+        if torn {
+            self.out.device_failed("paging write", object.number, page);
+        } else {
+            slots.pages[slot as usize] = bytes;
+        }
+    }
+
+    fn take_filed(&mut self, host: u8, object: usize, message: Message) {
+        let number = self.objects[object].number;
+        match message {
+            Message::Init { control } => {
+                self.send_down(object, control, Message::Ready { strategy: 0 });
+                self.files_of[number as usize].known = Some((host, control));
+            }
+            Message::Request { control, page, .. } => {
+                let answer = self.page_of_file(number, page);
+                self.send_down(object, control, answer);
+            }
+            Message::Return { page, bytes, .. } => self.write_to_file(number, page, &bytes),
+            Message::Terminate { control } => {
+                let known = &mut self.files_of[number as usize].known;
+                *known = known.filter(|known| *known != (host, control));
+            }
+            _ => {}
+        }
+    }
+
+    fn page_of_file(&mut self, number: u32, page: u32) -> Message {
+        let pager = &self.files_of[number as usize];
+        if pager.is_lost(page) {
+            return Message::Error { page };
+        }
+        let at = u64::from(page) * u64::from(self.size);
+        let found = self.files.length(&pager.name).and_then(|length| match length {
+            Some(length) if at < length => self.files.read(&pager.name, at, self.size).map(Some),
+            _ => Ok(None),
+        });
+        match found {
+            Ok(Some(bytes)) => Message::Supply { page, lock: 0, bytes: Page::of(bytes) },
+            Ok(None) => Message::Unavailable { page },
+            Err(_) => {
+                self.out.device_failed("files read", number, page);
+                Message::Error { page }
+            }
+        }
+    }
+
+    fn write_to_file(&mut self, number: u32, page: u32, bytes: &Page) {
+        let pager = &mut self.files_of[number as usize];
+        let mut whole = bytes.bytes().to_vec();
+        whole.resize(self.size as usize, 0);
+        let lost = self.files.write(&pager.name, u64::from(page) * u64::from(self.size), &whole).is_err();
+        pager.set_lost(page, lost);
+        if lost {
+            self.out.device_failed("files write", number, page);
+        }
+    }
+
+    fn take_shared(&mut self, host: u8, object: usize, message: Message) {
+        let number = self.objects[object].number;
+        let page = match message {
+            Message::Request { page, .. } | Message::Unlock { page, .. } => page,
+            Message::Return { page, .. } | Message::Completed { page, .. } => page,
+            Message::Init { control } => return self.send_down(object, control, Message::Ready { strategy: 0 }),
+            _ => return self.leave_shared(host, number),
+        };
+        let pages = &mut self.directories[number as usize];
+        if pages.len() <= page as usize {
+            pages.resize_with(page as usize + 1, || None);
+        }
+        let directory = pages[page as usize].get_or_insert_with(|| Box::new(Directory::new(page)));
+        match message {
+            Message::Request { control, access, .. } => directory.request(host, control, access),
+            Message::Unlock { .. } => directory.unlock(host),
+            Message::Return { keep, bytes, .. } => directory.returned(host, keep, bytes),
+            _ => directory.completed(host),
+        }
+        let mut replies = std::mem::take(&mut self.replies);
+        directory.serve(&mut replies);
+        for (host, control, message) in replies.drain(..) {
+            self.send_down(self.index(host, number), control, message);
+        }
+        self.replies = replies;
+    }
+
+    // A host's control of a shared object has ended.
+    fn leave_shared(&mut self, host: u8, number: u32) {
+        let mut replies = Vec::new();
+        for directory in self.directories[number as usize].iter_mut().flatten() {
+            directory.gone(host);
+            directory.serve(&mut replies);
+        }
+        for (host, control, message) in replies {
+            self.send_down(self.index(host, number), control, message);
+        }
+    }
+
+    /// The pager of a file asks for its pages, where it knows a control.
+    pub fn clean(&mut self, object: u32, page: u32, count: u32, flush: bool) {
+        if let Some((host, control)) = self.files_of[object as usize].known {
+            let message = Message::Lock { page, count, returns: 2, flush, lock: 8, reply: true };
+            self.send_down(self.index(host, object), control, message);
+        }
+    }
+
+    pub fn arm_paging(&mut self, count: u32) {
+        self.paging = Arming(count);
+    }
+}

@@ -1,0 +1,174 @@
+// What a host does with its pagers' messages, and how objects end.
+
+use crate::frames::NO_TASK;
+use crate::objects::Pager;
+use crate::page::Page;
+use crate::ports::{Message, NONE};
+use crate::script::Kind;
+use crate::system::{System, Want};
+
+impl System {
+    /// A host takes a message for a control of an object.
+    pub fn hear(&mut self, object: usize, control: u32, message: Message) {
+        if !self.objects[object].is_live(control) {
+            return;
+        }
+        match message {
+            Message::Ready { .. } => self.make_ready(object),
+            Message::Supply { page, lock, bytes } => {
+                if let Some(frame) = self.asked(object, page) {
+                    self.fill(object, frame, bytes, lock as u8);
+                }
+            }
+            Message::Unavailable { page } => self.lack(object, page),
+            Message::Error { page } => {
+                if let Some(frame) = self.asked(object, page) {
+                    self.fail(object, page, frame);
+                }
+            }
+            Message::Lock { page, count, returns, flush, lock, reply } => {
+                let end = self.objects[object].reach().min(page + count);
+                for page in page..end {
+                    self.lock_page(object, page, returns, flush, lock);
+                }
+                if reply {
+                    self.send_up(object, Message::Completed { control, page, count });
+                }
+            }
+            _ => {}
+        }
+        self.restart();
+    }
+
+    // The frame of a page that is asked.
+    fn asked(&mut self, object: usize, page: u32) -> Option<u16> {
+        let frame = self.objects[object].frame(page)?;
+        (!self.frame_mut(object, frame).here).then_some(frame)
+    }
+
+    fn make_ready(&mut self, object: usize) {
+        let it = &mut self.objects[object];
+        it.pager = Pager::Ready;
+        let waiter = std::mem::replace(&mut it.waiter, NO_TASK);
+        self.wake(waiter);
+    }
+
+    // Wakes those that wait for the page of a frame.
+    fn wake_page(&mut self, object: usize, frame: u16) {
+        let waiter = std::mem::replace(&mut self.frame_mut(object, frame).waiter, NO_TASK);
+        self.wake(waiter);
+    }
+
+    fn fill(&mut self, object: usize, frame: u16, bytes: Page, lock: u8) {
+        self.put_here(object, frame, bytes).lock = lock;
+        self.wake_page(object, frame);
+    }
+
+    // The pager has no such page.
+    fn lack(&mut self, object: usize, page: u32) {
+        let Some(frame) = self.asked(object, page) else {
+            return;
+        };
+        if self.objects[object].kind == Kind::Temporary {
+            self.wake_page(object, frame);
+            self.discard(object, frame);
+            self.objects[object].set_absent(page, true);
+        } else {
+            self.zeroed(object, page);
+            self.fill(object, frame, Page::default(), 0);
+        }
+    }
+
+    // The pager can't give a page: who waits for it ends.
+    fn fail(&mut self, object: usize, page: u32, frame: u16) {
+        self.wake_page(object, frame);
+        self.discard(object, frame);
+        for task in self.take_woken() {
+            let it = &mut self.tasks[usize::from(task)];
+            it.waits = false;
+            let want = it.access.want;
+            self.out.failed(task, self.objects[object].number, page);
+            if let Want::Copy { region, .. } = want {
+                self.end_region(self.index(0, region));
+            }
+        }
+    }
+
+    // A page of a lock request's range obeys, if it is here.
+    fn lock_page(&mut self, object: usize, page: u32, returns: u32, flush: bool, lock: u32) {
+        let Some(frame) = self.objects[object].frame(page) else {
+            return;
+        };
+        let row = self.frame_mut(object, frame);
+        if !row.here {
+            return;
+        }
+        let gives_back = (returns >= 1 && row.dirty) || (returns == 2 && row.precious);
+        if row.unlock_sent {
+            row.unlock_sent = false;
+            self.wake_page(object, frame);
+        }
+        match (gives_back, flush) {
+            (true, true) => return self.return_page(object, frame),
+            (false, true) => return self.drop_page(object, frame),
+            (true, false) => self.save_page(object, page, frame),
+            (false, false) => {}
+        }
+        if lock != 8 {
+            self.frame_mut(object, frame).lock = lock as u8;
+        }
+    }
+
+    // A page goes back to its pager, and stays.
+    fn save_page(&mut self, object: usize, page: u32, frame: u16) {
+        let row = self.frame_mut(object, frame);
+        let dirty = std::mem::replace(&mut row.dirty, false);
+        row.precious = false;
+        row.bytes.trim();
+        let bytes = row.bytes.clone();
+        let it = &mut self.objects[object];
+        it.set_absent(page, false);
+        let control = it.control;
+        self.send_up(object, Message::Return { control, page, dirty, keep: true, bytes });
+    }
+
+    /// A region without entries ends, and with it what loses its last reference.
+    pub fn end_region(&mut self, at: usize) {
+        let mut object = self.regions[at].top;
+        loop {
+            let it = &mut self.objects[object as usize];
+            it.references -= 1;
+            if it.references > 0 {
+                return;
+            }
+            self.end_object(object as usize);
+            let it = &mut self.objects[object as usize];
+            object = std::mem::replace(&mut it.under, NONE);
+            if object == NONE {
+                return;
+            }
+        }
+    }
+
+    fn end_object(&mut self, object: usize) {
+        for page in 0..self.objects[object].reach() {
+            let Some(frame) = self.objects[object].frame(page) else {
+                continue;
+            };
+            let is_temporary = self.objects[object].kind == Kind::Temporary;
+            let row = self.frame_mut(object, frame);
+            if is_temporary || !(row.dirty || row.precious) {
+                self.drop_page(object, frame);
+            } else {
+                self.return_page(object, frame);
+            }
+        }
+        let it = &mut self.objects[object];
+        it.forget_pages();
+        if it.pager != Pager::Without {
+            it.pager = Pager::Without;
+            let control = it.control;
+            self.send_up(object, Message::Terminate { control });
+        }
+    }
+}
