@@ -239,7 +239,7 @@ impl System {
                 walk.stop = if is_here { Stop::Here(frame) } else { Stop::Asked(frame) };
                 return walk;
             }
-            if object.pager != Pager::Without && !object.is_absent(walk.page) {
+            if object.may_come(walk.page) {
                 walk.stop = Stop::MayCome;
                 return walk;
             }
@@ -392,7 +392,7 @@ impl System {
         let host = &mut self.hosts[usize::from(it.host)];
         let Frame { page, dirty, .. } = host.frames[usize::from(frame)];
         it.clear_frame(page);
-        it.set_absent(page, false);
+        it.note_returned(page);
         let mut bytes = host.leave(frame);
         host.laundry += 1;
         bytes.trim();

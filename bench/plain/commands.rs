@@ -40,8 +40,8 @@ impl System {
         match *command {
             Command::Load { task, address, size } => self.load(task, address, size),
             Command::Store { task, address, size, value } => self.store(task, address, size, value),
-            Command::TakeUp { host, object } => self.take_from(host, object, 0),
-            Command::TakeDown { host, object, control } => self.take_from(host, object, control),
+            Command::Take { host, object, control } => self.take_from(host, object, control),
+            Command::TakeNone => Err(Code::NoSuchName),
             Command::Settle { .. } => Ok(()),
             Command::Task { task, host } => self.make_task(task, host),
             Command::Fork { task, child } => self.fork(task, child),
@@ -120,13 +120,9 @@ impl System {
 
     fn take_from(&mut self, host: u8, object: u32, control: u32) -> Result<(), Code> {
         require(object < self.next_object, Code::NoSuchName)?;
-        let object = &self.objects[self.index(host, object)];
-        let channel = match control.checked_sub(1) {
-            _ if object.host != host => NONE,
-            Some(control) => object.downs.get(control as usize).copied().unwrap_or(NONE),
-            None => object.up,
-        };
-        require(channel != NONE, Code::NoSuchName)?;
+        let object = self.index(host, object);
+        require(self.objects[object].host == host, Code::NoSuchName)?;
+        let channel = self.ports.channel(object, control).ok_or(Code::NoSuchName)?;
         require(!self.ports.is_empty(channel), Code::EmptyPort)?;
         self.take(channel);
         Ok(())

@@ -58,8 +58,13 @@ pub fn is_covered(entries: &[Entry], range: Range) -> bool {
 }
 
 pub fn enter(entries: &mut Vec<Entry>, entry: Entry) {
-    let at = entries.partition_point(|other| other.address < entry.address);
-    entries.insert(at, entry);
+    match entries.last() {
+        Some(last) if last.address > entry.address => {
+            let at = entries.partition_point(|other| other.address < entry.address);
+            entries.insert(at, entry);
+        }
+        _ => entries.push(entry),
+    }
 }
 
 /// The entry that an address cuts in two.

@@ -1,6 +1,6 @@
 // Objects and regions.
 
-use crate::frames::{NO_FRAME, NO_TASK};
+use crate::frames::NO_TASK;
 use crate::ports::NONE;
 use crate::script::Kind;
 
@@ -11,106 +11,101 @@ pub enum Pager {
     Ready,
 }
 
+// What is kept of a page: its frame plus 1, or 0 where it has none; and whether its pager is known not to have it.
+const FRAME: u16 = 0x1fff;
+const ABSENT: u16 = 0x8000;
+
 /// An object on a host.
 pub struct Object {
     pub number: u32,
-    pub host: u8,
-    pub kind: Kind,
-    /// What the kernel knows of the pager; a control lives but where it is without.
-    pub pager: Pager,
     pub control: u32,
     /// The regions and shadows over it.
     pub references: u32,
     /// The backing object's index, and the shift to its pages.
     pub under: u32,
     pub shift: u32,
+    // How many pages have a frame.
+    resident: u32,
+    // By page, as far as something is known.
+    pages: Vec<u16>,
     /// The last task that began to wait for ready.
     pub waiter: u16,
-    /// How many pages have a frame.
-    pub resident: u32,
-    // By page, as far as there was one: its frame.
-    frames: Vec<u16>,
-    // By page: whether the pager is known not to have it.
-    absent: Vec<bool>,
-    /// By page: what the default pager has of it.
-    pub stored: Vec<u32>,
-    /// The channel up, and those down by control.
-    pub up: u32,
-    pub downs: Vec<u32>,
+    pub host: u8,
+    pub kind: Kind,
+    /// What the kernel knows of the pager; a control lives but where it is without.
+    pub pager: Pager,
 }
 
 impl Object {
     pub fn new(number: u32, host: u8, kind: Kind) -> Object {
         Object {
             number,
-            host,
-            kind,
-            pager: Pager::Without,
             control: 0,
             references: 0,
             under: NONE,
             shift: 0,
-            waiter: NO_TASK,
             resident: 0,
-            frames: Vec::new(),
-            absent: Vec::new(),
-            stored: Vec::new(),
-            up: NONE,
-            downs: Vec::new(),
+            pages: Vec::new(),
+            waiter: NO_TASK,
+            host,
+            kind,
+            pager: Pager::Without,
         }
     }
 
     /// A temporary object under one region, and over another object or none.
     pub fn temporary(number: u32, host: u8, under: u32, shift: u32) -> Object {
-        let mut object = Object::new(number, host, Kind::Temporary);
-        object.references = 1;
-        object.under = under;
-        object.shift = shift;
-        object
+        Object { references: 1, under, shift, ..Object::new(number, host, Kind::Temporary) }
+    }
+
+    fn known(&self, page: u32) -> u16 {
+        self.pages.get(page as usize).copied().unwrap_or(0)
+    }
+
+    fn known_mut(&mut self, page: u32) -> &mut u16 {
+        let page = page as usize;
+        if page >= self.pages.len() {
+            self.pages.resize(page + 1, 0);
+        }
+        &mut self.pages[page]
     }
 
     /// The frame of a page that is here or asked.
     pub fn frame(&self, page: u32) -> Option<u16> {
-        self.frames.get(page as usize).copied().filter(|frame| *frame != NO_FRAME)
+        (self.known(page) & FRAME).checked_sub(1)
     }
 
     pub fn set_frame(&mut self, page: u32, frame: u16) {
-        let page = page as usize;
-        if page >= self.frames.len() {
-            self.frames.resize(page + 1, NO_FRAME);
-        }
-        self.frames[page] = frame;
+        *self.known_mut(page) |= frame + 1;
         self.resident += 1;
     }
 
     pub fn clear_frame(&mut self, page: u32) {
-        self.frames[page as usize] = NO_FRAME;
+        *self.known_mut(page) &= ABSENT;
         self.resident -= 1;
     }
 
     /// The number of pages that are looked at to find all that have a frame.
     pub fn reach(&self) -> u32 {
-        if self.resident == 0 { 0 } else { self.frames.len() as u32 }
+        if self.resident == 0 { 0 } else { self.pages.len() as u32 }
     }
 
-    pub fn is_absent(&self, page: u32) -> bool {
-        self.absent.get(page as usize).copied().unwrap_or(false)
+    /// Whether the pager may have a page that has no frame.
+    pub fn may_come(&self, page: u32) -> bool {
+        self.pager != Pager::Without && self.known(page) & ABSENT == 0
     }
 
-    pub fn set_absent(&mut self, page: u32, absent: bool) {
-        let page = page as usize;
-        if page < self.absent.len() {
-            self.absent[page] = absent;
-        } else if absent {
-            self.absent.resize(page, false);
-            self.absent.push(true);
-        }
+    pub fn note_absent(&mut self, page: u32) {
+        *self.known_mut(page) |= ABSENT;
     }
 
-    /// Forgets the pages of an object that has ended.
+    /// A page was returned, so its pager has it.
+    pub fn note_returned(&mut self, page: u32) {
+        *self.known_mut(page) &= FRAME;
+    }
+
     pub fn forget_pages(&mut self) {
-        self.frames = Vec::new();
-        self.absent = Vec::new();
+        self.pages = Vec::new();
     }
 
     pub fn is_live(&self, control: u32) -> bool {

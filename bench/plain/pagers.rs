@@ -17,6 +17,8 @@ pub struct Slots {
     fresh: u32,
     freed: BinaryHeap<Reverse<u32>>,
     pages: Vec<Page>,
+    // By object and page: what is had of it.
+    stored: Vec<Vec<u32>>,
 }
 
 // What the default pager has of a page: nothing, none but knows it as lost, or the number of its slot.
@@ -35,7 +37,23 @@ fn slot_of(stored: u32) -> Option<(u32, bool)> {
 
 impl Slots {
     pub fn new(count: u32) -> Slots {
-        Slots { count, fresh: 0, freed: BinaryHeap::new(), pages: Vec::new() }
+        Slots { count, fresh: 0, freed: BinaryHeap::new(), pages: Vec::new(), stored: Vec::new() }
+    }
+
+    fn stored(&self, object: u32, page: u32) -> u32 {
+        self.stored.get(object as usize).and_then(|pages| pages.get(page as usize)).copied().unwrap_or(NEVER)
+    }
+
+    fn set_stored(&mut self, object: u32, page: u32, stored: u32) {
+        let (object, page) = (object as usize, page as usize);
+        if self.stored.len() <= object {
+            self.stored.resize_with(object + 1, Vec::new);
+        }
+        let pages = &mut self.stored[object];
+        if pages.len() <= page {
+            pages.resize(page + 1, NEVER);
+        }
+        pages[page] = stored;
     }
 
     fn lowest_free(&mut self) -> Option<u32> {
@@ -50,9 +68,13 @@ impl Slots {
         Some(self.fresh - 1)
     }
 
-    fn free(&mut self, slot: u32) {
-        self.pages[slot as usize] = Page::default();
-        self.freed.push(Reverse(slot));
+    // Frees the slots of an object's pages.
+    fn drop_object(&mut self, object: u32) {
+        let stored = self.stored.get_mut(object as usize).map(std::mem::take).unwrap_or_default();
+        for slot in stored.into_iter().filter_map(slot_of) {
+            self.pages[slot.0 as usize] = Page::default();
+            self.freed.push(Reverse(slot.0));
+        }
     }
 }
 
@@ -94,57 +116,45 @@ impl System {
     }
 
     fn take_paged(&mut self, host: u8, object: usize, message: Message) {
+        let number = self.objects[object].number;
         match message {
             Message::Create { control } => self.send_down(object, control, Message::Ready { strategy: 3 }),
             Message::Request { control, page, .. } => {
-                let answer = self.stored_page(host, object, page);
+                let answer = self.stored_page(host, number, page);
                 self.send_down(object, control, answer);
             }
-            Message::Return { page, bytes, .. } => self.store_page(host, object, page, bytes),
-            Message::Terminate { .. } => {
-                for stored in std::mem::take(&mut self.objects[object].stored) {
-                    if let Some((slot, _)) = slot_of(stored) {
-                        self.slots[usize::from(host)].free(slot);
-                    }
-                }
-            }
+            Message::Return { page, bytes, .. } => self.store_page(host, number, page, bytes),
+            Message::Terminate { .. } => self.slots[usize::from(host)].drop_object(number),
             _ => {}
         }
     }
 
-    fn stored_page(&mut self, host: u8, object: usize, page: u32) -> Message {
-        let object = &self.objects[object];
-        match slot_of(object.stored.get(page as usize).copied().unwrap_or(NEVER)) {
-            None if object.stored.get(page as usize).is_some_and(|stored| *stored == LOST) => Message::Error { page },
-            None => Message::Unavailable { page },
-            Some((_, true)) => Message::Error { page },
-            Some((slot, false)) => {
-                if self.paging.strikes() {
-                    self.out.device_failed("paging read", object.number, page);
-                    return Message::Error { page };
-                }
-                Message::Supply { page, lock: 0, bytes: self.slots[usize::from(host)].pages[slot as usize].clone() }
+    fn stored_page(&mut self, host: u8, object: u32, page: u32) -> Message {
+        let slots = &self.slots[usize::from(host)];
+        let stored = slots.stored(object, page);
+        match slot_of(stored) {
+            None if stored == NEVER => Message::Unavailable { page },
+            None | Some((_, true)) => Message::Error { page },
+            Some(_) if self.paging.strikes() => {
+                self.out.device_failed("paging read", object, page);
+                Message::Error { page }
             }
+            Some((slot, _)) => Message::Supply { page, lock: 0, bytes: slots.pages[slot as usize].clone() },
         }
     }
 
-    fn store_page(&mut self, host: u8, object: usize, page: u32, bytes: Page) {
+    fn store_page(&mut self, host: u8, object: u32, page: u32, bytes: Page) {
         let slots = &mut self.slots[usize::from(host)];
-        let object = &mut self.objects[object];
-        if object.stored.len() <= page as usize {
-            object.stored.resize(page as usize + 1, NEVER);
-        }
-        let stored = &mut object.stored[page as usize];
-        let slot = slot_of(*stored).map(|(slot, _)| slot).or_else(|| slots.lowest_free());
+        let slot = slot_of(slots.stored(object, page)).map(|(slot, _)| slot).or_else(|| slots.lowest_free());
         let Some(slot) = slot else {
-            *stored = LOST;
-            self.out.event("noslot", [object.number.into(), page.into()]);
+            slots.set_stored(object, page, LOST);
+            self.out.event("noslot", [object.into(), page.into()]);
             return;
         };
         let torn = self.paging.strikes();
-        *stored = in_slot(slot, torn);
+        slots.set_stored(object, page, in_slot(slot, torn));
         if torn {
-            self.out.device_failed("paging write", object.number, page);
+            self.out.device_failed("paging write", object, page);
         } else {
             slots.pages[slot as usize] = bytes;
         }

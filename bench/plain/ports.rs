@@ -1,4 +1,4 @@
-// Undelivered messages: each channel's are linked, and all of them in the order of sending.
+// The channels, and the undelivered messages: those of a channel are linked, and all in the order of sending.
 
 use crate::page::Page;
 
@@ -19,10 +19,11 @@ pub enum Message {
     Lock { page: u32, count: u32, returns: u32, flush: bool, lock: u32, reply: bool },
 }
 
-/// A channel of a host and an object: up where the control is 0, and else down to that control.
+/// A channel of a host's object, which `index` is; up where the control is 0, and else down to that control.
 pub struct Channel {
     pub host: u8,
     pub object: u32,
+    pub index: u32,
     pub control: u32,
     first: u32,
     last: u32,
@@ -31,7 +32,7 @@ pub struct Channel {
 struct Letter {
     message: Message,
     channel: u32,
-    // The next one of the channel; of a free letter, the next free one.
+    // The next one of the channel; of a letter that was taken, the next such one.
     next: u32,
     before: u32,
     after: u32,
@@ -39,20 +40,35 @@ struct Letter {
 
 pub struct Ports {
     pub channels: Vec<Channel>,
+    // By an object's index: the channel up, and behind it those down, by control.
+    of: Vec<Vec<u32>>,
     letters: Vec<Letter>,
-    free: u32,
+    taken: u32,
     first: u32,
     last: u32,
 }
 
 impl Ports {
     pub fn new() -> Ports {
-        Ports { channels: Vec::new(), letters: Vec::new(), free: NONE, first: NONE, last: NONE }
+        Ports { channels: Vec::new(), of: Vec::new(), letters: Vec::new(), taken: NONE, first: NONE, last: NONE }
     }
 
-    pub fn add(&mut self, host: u8, object: u32, control: u32) -> u32 {
-        self.channels.push(Channel { host, object, control, first: NONE, last: NONE });
-        self.channels.len() as u32 - 1
+    /// Makes the channel of an object's next control, and the one up where it isn't there.
+    pub fn open(&mut self, host: u8, object: u32, index: usize) {
+        if self.of.len() <= index {
+            self.of.resize_with(index + 1, Vec::new);
+        }
+        let of = &mut self.of[index];
+        let first = of.len() as u32;
+        for control in first..=first.max(1) {
+            of.push(self.channels.len() as u32);
+            self.channels.push(Channel { host, object, index: index as u32, control, first: NONE, last: NONE });
+        }
+    }
+
+    /// The channel of a control of an object, or the one up for control 0.
+    pub fn channel(&self, index: usize, control: u32) -> Option<u32> {
+        self.of.get(index)?.get(control as usize).copied()
     }
 
     pub fn is_empty(&self, channel: u32) -> bool {
@@ -66,15 +82,14 @@ impl Ports {
 
     pub fn send(&mut self, channel: u32, message: Message) {
         let letter = Letter { message, channel, next: NONE, before: self.last, after: NONE };
-        let at = self.free;
-        let at = if at == NONE {
-            self.letters.push(letter);
-            self.letters.len() as u32 - 1
+        let mut at = self.taken;
+        if let Some(place) = self.letters.get_mut(at as usize) {
+            self.taken = place.next;
+            *place = letter;
         } else {
-            self.free = self.letters[at as usize].next;
-            self.letters[at as usize] = letter;
-            at
-        };
+            at = self.letters.len() as u32;
+            self.letters.push(letter);
+        }
         match self.letters.get_mut(self.last as usize) {
             Some(last) => last.after = at,
             None => self.first = at,
@@ -99,8 +114,8 @@ impl Ports {
         if ends.first == NONE {
             ends.last = NONE;
         }
-        letter.next = self.free;
-        self.free = at;
+        letter.next = self.taken;
+        self.taken = at;
         match self.letters.get_mut(before as usize) {
             Some(letter) => letter.after = after,
             None => self.first = after,

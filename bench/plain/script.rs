@@ -51,8 +51,10 @@ pub enum Command {
     Load { task: u16, address: u64, size: u8 },
     Store { task: u16, address: u64, size: u8, value: u64 },
     Copy { task: u16, range: Range, target: u16, to: u32 },
-    TakeUp { host: u8, object: u32 },
-    TakeDown { host: u8, object: u32, control: u32 },
+    /// Of the channel up, where the control is 0.
+    Take { host: u8, object: u32, control: u32 },
+    /// Of a channel down to a control that never is.
+    TakeNone,
     Settle { count: u32 },
     Pageout { host: u8, count: u32 },
     Clean { object: u32, page: u32, count: u32, flush: bool },
@@ -85,45 +87,76 @@ struct Reader<'a> {
     wild: Option<u32>,
 }
 
-const MOST_WORDS: usize = 10;
-
-// The words of a line, of which no more are kept than a line can have.
+// The words of a line; no more are kept than a line can have.
 struct Words<'a> {
-    words: [&'a [u8]; MOST_WORDS],
+    words: [&'a [u8]; 10],
     count: usize,
 }
 
-fn is_space(byte: u8) -> bool {
-    matches!(byte, b' ' | b'\t' | b'\r')
-}
-
-fn words_of(line: &[u8]) -> Words<'_> {
-    let mut found = Words { words: [&[]; MOST_WORDS], count: 0 };
-    let mut at = 0;
-    while at < line.len() {
-        if is_space(line[at]) {
-            at += 1;
-            continue;
-        }
-        let start = at;
-        while at < line.len() && !is_space(line[at]) {
-            at += 1;
-        }
-        if found.count < MOST_WORDS {
-            found.words[found.count] = &line[start..at];
-        }
-        found.count += 1;
-    }
-    found
-}
-
 impl<'a> Words<'a> {
-    // The words behind the first ones, which are so many.
-    fn behind<const N: usize>(&self, first: usize) -> Result<[&'a [u8]; N], Fault> {
-        if self.count != first + N {
-            return Err(Fault::WrongCount);
+    fn of(line: &'a [u8]) -> Words<'a> {
+        let mut found = Words { words: [&[]; 10], count: 0 };
+        for word in line.split(|byte| matches!(byte, b' ' | b'\t' | b'\r')).filter(|word| !word.is_empty()) {
+            if let Some(place) = found.words.get_mut(found.count) {
+                *place = word;
+            }
+            found.count += 1;
         }
-        Ok(std::array::from_fn(|i| self.words[first + i]))
+        found
+    }
+
+    fn behind(&self, first: usize, count: usize) -> Result<Fields<'_, 'a>, Fault> {
+        if self.count == first + count { Ok(Fields(&self.words[first..self.count.min(self.words.len())])) } else { Err(Fault::WrongCount) }
+    }
+}
+
+// The words that are left to be read, from left to right.
+struct Fields<'w, 'a>(&'w [&'a [u8]]);
+
+impl<'a> Fields<'_, 'a> {
+    fn word(&mut self) -> &'a [u8] {
+        let (word, rest) = self.0.split_first().expect("the words were counted");
+        self.0 = rest;
+        word
+    }
+
+    fn number(&mut self, least: u64, most: u64) -> Result<u64, Fault> {
+        number_in(self.word(), least, most)
+    }
+
+    fn count(&mut self, most: u64) -> Result<u32, Fault> {
+        Ok(self.number(0, most)? as u32)
+    }
+
+    fn task(&mut self) -> Result<u16, Fault> {
+        Ok(self.number(0, 1023)? as u16)
+    }
+
+    fn address(&mut self) -> Result<u64, Fault> {
+        self.number(0, ADDRESS_END - 1)
+    }
+
+    fn range(&mut self) -> Result<Range, Fault> {
+        Ok(Range { address: self.address()?, bytes: self.number(0, ADDRESS_END)? })
+    }
+
+    fn access_size(&mut self) -> Result<u8, Fault> {
+        match number_of(self.word())? {
+            size @ (1 | 2 | 4 | 8) => Ok(size as u8),
+            _ => Err(Fault::OutOfRange),
+        }
+    }
+
+    // Bytes, at most a page of them.
+    fn check_bytes(&mut self, size: u32) -> Result<(), Fault> {
+        let word = self.word();
+        if word == b"-" {
+            return Ok(());
+        }
+        if word.len() % 2 != 0 || !word.iter().all(|byte| matches!(byte, b'0'..=b'9' | b'a'..=b'f')) {
+            return Err(Fault::BadNumber);
+        }
+        if word.len() / 2 > size as usize { Err(Fault::OutOfRange) } else { Ok(()) }
     }
 }
 
@@ -131,85 +164,59 @@ pub fn number_of(word: &[u8]) -> Result<u64, Fault> {
     if word.is_empty() {
         return Err(Fault::BadNumber);
     }
-    let mut number: u64 = 0;
-    for byte in word {
-        let digit = byte.wrapping_sub(b'0');
-        if digit > 9 {
-            return Err(Fault::BadNumber);
-        }
-        number = number.checked_mul(10).and_then(|tens| tens.checked_add(u64::from(digit))).ok_or(Fault::BadNumber)?;
-    }
-    Ok(number)
+    word.iter().try_fold(0u64, |front, byte| {
+        let digit = Some(byte.wrapping_sub(b'0')).filter(|digit| *digit < 10).ok_or(Fault::BadNumber)?;
+        front.checked_mul(10).and_then(|tens| tens.checked_add(digit.into())).ok_or(Fault::BadNumber)
+    })
 }
 
 pub fn number_in(word: &[u8], least: u64, most: u64) -> Result<u64, Fault> {
     let number = number_of(word)?;
-    if number < least || number > most {
-        return Err(Fault::OutOfRange);
-    }
-    Ok(number)
-}
-
-fn task_of(word: &[u8]) -> Result<u16, Fault> {
-    Ok(number_in(word, 0, 1023)? as u16)
-}
-
-fn count_of(word: &[u8], most: u64) -> Result<u32, Fault> {
-    Ok(number_in(word, 0, most)? as u32)
-}
-
-fn address_of(word: &[u8]) -> Result<u64, Fault> {
-    number_in(word, 0, ADDRESS_END - 1)
-}
-
-fn range_of(task: &[u8], address: &[u8], bytes: &[u8]) -> Result<(u16, Range), Fault> {
-    let task = task_of(task)?;
-    let address = address_of(address)?;
-    Ok((task, Range { address, bytes: number_in(bytes, 0, ADDRESS_END)? }))
-}
-
-fn access_size(word: &[u8]) -> Result<u8, Fault> {
-    match number_of(word)? {
-        size @ (1 | 2 | 4 | 8) => Ok(size as u8),
-        _ => Err(Fault::OutOfRange),
-    }
+    if number < least || number > most { Err(Fault::OutOfRange) } else { Ok(number) }
 }
 
 fn is_name(word: &[u8]) -> bool {
     word.len() <= 32
         && word.first().is_some_and(u8::is_ascii_lowercase)
-        && word.iter().all(|byte| byte.is_ascii_lowercase() || byte.is_ascii_digit() || *byte == b'_')
+        && word.iter().all(|byte| matches!(byte, b'a'..=b'z' | b'0'..=b'9' | b'_'))
 }
 
-// Whether a word spells bytes, at most a page of them.
-fn check_bytes(word: &[u8], size: u32) -> Result<(), Fault> {
-    if word == b"-" {
-        return Ok(());
+// How many words stand behind the first of a command; None where it begins none.
+fn words_behind(words: &Words) -> Option<usize> {
+    Some(match words.words[0] {
+        b"exit" | b"settle" | b"take" => 1,
+        b"task" | b"fork" | b"pageout" | b"wire" | b"unwire" | b"fail" => 2,
+        b"load" | b"allocate" | b"deallocate" => 3,
+        b"store" | b"protect" | b"inherit" | b"clean" => 4,
+        b"map" | b"copy" => 5,
+        b"say" => 3 + words_said(words),
+        _ => return None,
+    })
+}
+
+// How many words stand behind a message's word; as many as there are, where it is no message.
+fn words_said(words: &Words) -> usize {
+    match words.words[3] {
+        b"unavailable" => 1,
+        b"ready" | b"error" => 2,
+        b"supply" => 4,
+        b"lock" => 6,
+        _ => words.count.saturating_sub(4),
     }
-    if word.len() % 2 != 0 || !word.iter().all(|byte| matches!(byte, b'0'..=b'9' | b'a'..=b'f')) {
-        return Err(Fault::BadNumber);
-    }
-    if word.len() / 2 > size as usize {
-        return Err(Fault::OutOfRange);
-    }
-    Ok(())
 }
 
 impl<'a> Reader<'a> {
-    fn host_of(&self, word: &[u8]) -> Result<u8, Fault> {
+    fn host(&self, word: &[u8]) -> Result<u8, Fault> {
         let host = number_of(word)?;
-        if host >= self.frames.len() as u64 {
-            return Err(Fault::OutOfRange);
-        }
-        Ok(host as u8)
+        if host < self.frames.len() as u64 { Ok(host as u8) } else { Err(Fault::OutOfRange) }
     }
 
-    fn object_of(&self, word: &[u8]) -> Result<u32, Fault> {
+    fn object(&self, word: &[u8]) -> Result<u32, Fault> {
         self.names.get(word).copied().ok_or(Fault::UnknownWord)
     }
 
     fn line(&mut self, number: u32, line: &'a [u8]) -> Result<(), Fault> {
-        let words = words_of(line);
+        let words = Words::of(line);
         if words.count == 0 || words.words[0][0] == b'#' {
             return Ok(());
         }
@@ -219,13 +226,11 @@ impl<'a> Reader<'a> {
             }
             return self.header(number, &words);
         }
-        if !is_command(words.words[0]) {
-            return Err(Fault::UnknownWord);
-        }
+        let count = words_behind(&words).ok_or(Fault::UnknownWord)?;
         if self.frames.is_empty() {
             return Err(Fault::NoHosts);
         }
-        let command = self.command(&words)?;
+        let command = self.command(words.words[0], words.behind(1, count)?)?;
         self.commands.push((number, command));
         Ok(())
     }
@@ -242,245 +247,142 @@ impl<'a> Reader<'a> {
     }
 
     fn header(&mut self, number: u32, words: &Words<'a>) -> Result<(), Fault> {
-        match words.words[0] {
+        let word = words.words[0];
+        if word == b"frames" && self.frames.is_empty() {
+            return Err(Fault::NoHosts);
+        }
+        let mut fields = words.behind(1, if matches!(word, b"page" | b"slots") { 1 } else { 2 })?;
+        match word {
             b"hosts" => {
-                let [hosts, frames] = words.behind(1)?;
-                let hosts = number_in(hosts, 1, 8)? as usize;
-                self.frames = vec![number_in(frames, 2, 4096)? as u32; hosts];
+                let hosts = fields.number(1, 8)? as usize;
+                self.frames = vec![fields.number(2, 4096)? as u32; hosts];
             }
             b"frames" => {
-                if self.frames.is_empty() {
-                    return Err(Fault::NoHosts);
-                }
-                let [host, frames] = words.behind(1)?;
-                let host = self.host_of(host)?;
-                self.frames[host as usize] = number_in(frames, 2, 4096)? as u32;
+                let host = self.host(fields.word())?;
+                self.frames[usize::from(host)] = fields.number(2, 4096)? as u32;
             }
             b"page" => {
-                let [size] = words.behind(1)?;
-                let size = number_in(size, 16, 4096)? as u32;
-                if !size.is_power_of_two() {
-                    return Err(Fault::OutOfRange);
-                }
-                self.size = Some(size);
+                let size = fields.number(16, 4096)? as u32;
+                self.size = Some(Some(size).filter(|size| size.is_power_of_two()).ok_or(Fault::OutOfRange)?);
             }
-            b"slots" => {
-                let [slots] = words.behind(1)?;
-                self.slots = Some(count_of(slots, 65_536)?);
-            }
-            b"file" => self.declare(Kind::File, words)?,
-            b"shared" => self.declare(Kind::Shared, words)?,
+            b"slots" => self.slots = Some(fields.count(65_536)?),
+            b"file" => self.declare(Kind::File, fields)?,
+            b"shared" => self.declare(Kind::Shared, fields)?,
             _ => {
-                self.declare(Kind::Wild, words)?;
+                self.declare(Kind::Wild, fields)?;
                 self.wild.get_or_insert(number);
             }
         }
         Ok(())
     }
 
-    fn declare(&mut self, kind: Kind, words: &Words<'a>) -> Result<(), Fault> {
-        let [name, pages] = words.behind(1)?;
-        if !is_name(name) {
+    fn declare(&mut self, kind: Kind, mut fields: Fields<'_, 'a>) -> Result<(), Fault> {
+        let word = fields.word();
+        if !is_name(word) {
             return Err(Fault::UnknownWord);
         }
-        let number = self.objects.len();
-        if self.names.contains_key(name) || number as u64 >= MOST_OBJECTS {
+        if self.names.contains_key(word) || self.objects.len() as u64 >= MOST_OBJECTS {
             return Err(Fault::OutOfRange);
         }
-        let pages = number_in(pages, 1, 4096)? as u32;
-        self.names.insert(name, number as u32);
-        self.objects.push(Declared { name: String::from_utf8_lossy(name).into_owned(), kind, pages });
+        let pages = fields.number(1, 4096)? as u32;
+        self.names.insert(word, self.objects.len() as u32);
+        self.objects.push(Declared { name: String::from_utf8_lossy(word).into_owned(), kind, pages });
         Ok(())
     }
 
-    fn command(&self, words: &Words<'a>) -> Result<Command, Fault> {
-        match words.words[0] {
-            b"load" => {
-                let [task, address, size] = words.behind(1)?;
-                let task = task_of(task)?;
-                let address = address_of(address)?;
-                Ok(Command::Load { task, address, size: access_size(size)? })
-            }
+    fn command(&self, word: &[u8], mut it: Fields) -> Result<Command, Fault> {
+        Ok(match word {
+            b"load" => Command::Load { task: it.task()?, address: it.address()?, size: it.access_size()? },
             b"store" => {
-                let [task, address, size, value] = words.behind(1)?;
-                let task = task_of(task)?;
-                let address = address_of(address)?;
-                let size = access_size(size)?;
-                let value = number_in(value, 0, u64::MAX >> (64 - 8 * size))?;
-                Ok(Command::Store { task, address, size, value })
+                let (task, address, size) = (it.task()?, it.address()?, it.access_size()?);
+                Command::Store { task, address, size, value: it.number(0, u64::MAX >> (64 - 8 * size))? }
             }
-            b"task" | b"fork" | b"exit" => self.task_command(words),
-            b"allocate" | b"map" | b"deallocate" | b"protect" | b"inherit" | b"copy" => self.range_command(words),
-            _ => self.system_command(words),
-        }
-    }
-
-    fn task_command(&self, words: &Words<'a>) -> Result<Command, Fault> {
-        if words.words[0] == b"exit" {
-            let [task] = words.behind(1)?;
-            return Ok(Command::Exit { task: task_of(task)? });
-        }
-        let [task, other] = words.behind(1)?;
-        let task = task_of(task)?;
-        if words.words[0] == b"fork" {
-            return Ok(Command::Fork { task, child: task_of(other)? });
-        }
-        Ok(Command::Task { task, host: self.host_of(other)? })
-    }
-
-    fn range_command(&self, words: &Words<'a>) -> Result<Command, Fault> {
-        match words.words[0] {
-            b"allocate" | b"deallocate" => {
-                let [task, address, bytes] = words.behind(1)?;
-                let (task, range) = range_of(task, address, bytes)?;
-                Ok(match words.words[0] {
-                    b"allocate" => Command::Allocate { task, range },
-                    _ => Command::Deallocate { task, range },
-                })
-            }
-            b"protect" | b"inherit" => {
-                let [task, address, bytes, way] = words.behind(1)?;
-                let (task, range) = range_of(task, address, bytes)?;
-                if words.words[0] == b"protect" {
-                    return Ok(Command::Protect { task, range, prot: number_in(way, 0, 3)? as u8 });
-                }
-                Ok(Command::Inherit { task, range, inherit: number_in(way, 0, 2)? as u8 })
-            }
+            b"settle" => Command::Settle { count: it.count(1_000_000)? },
+            b"take" => self.channel(it.word())?,
+            b"task" => Command::Task { task: it.task()?, host: self.host(it.word())? },
+            b"fork" => Command::Fork { task: it.task()?, child: it.task()? },
+            b"exit" => Command::Exit { task: it.task()? },
+            b"allocate" => Command::Allocate { task: it.task()?, range: it.range()? },
+            b"deallocate" => Command::Deallocate { task: it.task()?, range: it.range()? },
+            b"protect" => Command::Protect { task: it.task()?, range: it.range()?, prot: it.count(3)? as u8 },
+            b"inherit" => Command::Inherit { task: it.task()?, range: it.range()?, inherit: it.count(2)? as u8 },
             b"map" => {
-                let [task, address, bytes, name, offset] = words.behind(1)?;
-                let (task, range) = range_of(task, address, bytes)?;
-                let object = self.object_of(name)?;
-                Ok(Command::Map { task, range, object, offset: count_of(offset, 4096)? })
+                let (task, range, object) = (it.task()?, it.range()?, self.object(it.word())?);
+                Command::Map { task, range, object, offset: it.count(4096)? }
             }
-            _ => {
-                let [task, address, bytes, target, to] = words.behind(1)?;
-                let (task, range) = range_of(task, address, bytes)?;
-                let target = task_of(target)?;
-                Ok(Command::Copy { task, range, target, to: address_of(to)? as u32 })
+            b"copy" => {
+                let (task, range, target) = (it.task()?, it.range()?, it.task()?);
+                Command::Copy { task, range, target, to: it.address()? as u32 }
             }
-        }
-    }
-
-    fn system_command(&self, words: &Words<'a>) -> Result<Command, Fault> {
-        match words.words[0] {
-            b"take" => {
-                let [channel] = words.behind(1)?;
-                self.channel(channel)
-            }
-            b"settle" => {
-                let [count] = words.behind(1)?;
-                Ok(Command::Settle { count: count_of(count, 1_000_000)? })
-            }
+            b"pageout" => Command::Pageout { host: self.host(it.word())?, count: it.count(4096)? },
+            b"wire" => Command::Wire { host: self.host(it.word())?, count: it.count(4096)? },
+            b"unwire" => Command::Unwire { host: self.host(it.word())?, count: it.count(4096)? },
             b"clean" => {
-                let [name, page, count, flush] = words.behind(1)?;
-                let object = self.object_of(name)?;
-                let page = count_of(page, 4096)?;
-                let count = count_of(count, 4096)?;
-                Ok(Command::Clean { object, page, count, flush: number_in(flush, 0, 1)? == 1 })
+                let (object, page, count) = (self.object(it.word())?, it.count(4096)?, it.count(4096)?);
+                Command::Clean { object, page, count, flush: it.count(1)? == 1 }
             }
-            b"fail" => {
-                let [backing, count] = words.behind(1)?;
-                if backing != b"files" && backing != b"paging" {
-                    return Err(Fault::UnknownWord);
-                }
-                let count = number_in(count, 1, 1_000_000)? as u32;
-                Ok(if backing == b"files" { Command::FailFiles { count } } else { Command::FailPaging { count } })
+            b"fail" => match it.word() {
+                b"files" => Command::FailFiles { count: it.number(1, 1_000_000)? as u32 },
+                b"paging" => Command::FailPaging { count: it.number(1, 1_000_000)? as u32 },
+                _ => return Err(Fault::UnknownWord),
+            },
+            _ => {
+                let (host, object) = (self.host(it.word())?, self.object(it.word())?);
+                self.check_message(it)?;
+                Command::Say { host, object }
             }
-            b"say" => self.say(words),
-            word => {
-                let [host, count] = words.behind(1)?;
-                let host = self.host_of(host)?;
-                let count = count_of(count, 4096)?;
-                Ok(match word {
-                    b"pageout" => Command::Pageout { host, count },
-                    b"wire" => Command::Wire { host, count },
-                    _ => Command::Unwire { host, count },
-                })
-            }
-        }
+        })
     }
 
     fn channel(&self, word: &[u8]) -> Result<Command, Fault> {
-        let (&way, rest) = word.split_first().ok_or(Fault::UnknownWord)?;
+        let (way, rest) = word.split_first().ok_or(Fault::UnknownWord)?;
         let mut parts = rest.split(|byte| *byte == b'.');
-        let parts = [parts.next(), parts.next(), parts.next(), parts.next()];
-        let object_of = |word: &[u8]| count_of(word, MOST_OBJECTS - 1);
-        match (way, parts) {
-            (b'u', [Some(host), Some(object), None, None]) => {
-                let host = self.host_of(host)?;
-                Ok(Command::TakeUp { host, object: object_of(object)? })
-            }
-            (b'd', [Some(host), Some(object), Some(control), None]) => {
-                let host = self.host_of(host)?;
-                let object = object_of(object)?;
-                Ok(Command::TakeDown { host, object, control: count_of(control, ADDRESS_END - 1)? })
-            }
-            _ => Err(Fault::UnknownWord),
-        }
-    }
-
-    // Of a message that is said nothing is kept but whom it is for, since no wild object is built.
-    fn say(&self, words: &Words<'a>) -> Result<Command, Fault> {
-        if words.count < 4 {
-            return Err(Fault::WrongCount);
-        }
-        let word = words.words[3];
-        let fields = match word {
-            b"ready" | b"error" => 2,
-            b"supply" => 4,
-            b"unavailable" => 1,
-            b"lock" => 6,
-            _ => words.count - 4,
+        let (host, object, control) = match (way, [parts.next(), parts.next(), parts.next(), parts.next()]) {
+            (b'u', [Some(host), Some(object), None, None]) => (host, object, None),
+            (b'd', [Some(host), Some(object), control @ Some(_), None]) => (host, object, control),
+            _ => return Err(Fault::UnknownWord),
         };
-        if words.count != 4 + fields {
-            return Err(Fault::WrongCount);
+        let host = self.host(host)?;
+        let object = number_in(object, 0, MOST_OBJECTS - 1)? as u32;
+        match control.map(|control| number_in(control, 0, ADDRESS_END - 1)).transpose()? {
+            Some(0) => Ok(Command::TakeNone),
+            control => Ok(Command::Take { host, object, control: control.unwrap_or(0) as u32 }),
         }
-        let host = self.host_of(words.words[1])?;
-        let object = self.object_of(words.words[2])?;
-        self.check_message(word, &words.words[4..])?;
-        Ok(Command::Say { host, object })
     }
 
-    fn check_message(&self, word: &[u8], fields: &[&[u8]]) -> Result<(), Fault> {
-        match word {
+    // A message that is said. Nothing of it is kept, since no wild object is built.
+    fn check_message(&self, mut it: Fields) -> Result<(), Fault> {
+        match it.word() {
             b"ready" => {
-                number_in(fields[0], 0, 1)?;
-                number_in(fields[1], 0, 3)?;
+                it.count(1)?;
+                it.count(3)?;
             }
             b"supply" => {
-                number_in(fields[0], 0, 4095)?;
-                number_in(fields[1], 0, 3)?;
-                number_in(fields[2], 0, 1)?;
-                check_bytes(fields[3], self.size.unwrap_or(4096))?;
+                it.count(4095)?;
+                it.count(3)?;
+                it.count(1)?;
+                it.check_bytes(self.size.unwrap_or(4096))?;
             }
             b"unavailable" => {
-                number_in(fields[0], 0, 4095)?;
+                it.count(4095)?;
             }
             b"error" => {
-                number_in(fields[0], 0, 4095)?;
-                number_in(fields[1], 0, ADDRESS_END - 1)?;
+                it.count(4095)?;
+                it.address()?;
             }
             b"lock" => {
-                for (field, most) in fields.iter().zip([4095, 4096, 2, 1]) {
-                    number_in(field, 0, most)?;
+                for most in [4095, 4096, 2, 1] {
+                    it.count(most)?;
                 }
-                if !matches!(number_of(fields[4])?, 0..=3 | 8) {
+                if !matches!(number_of(it.word())?, 0..=3 | 8) {
                     return Err(Fault::OutOfRange);
                 }
-                number_in(fields[5], 0, 1)?;
+                it.count(1)?;
             }
             _ => return Err(Fault::UnknownWord),
         }
         Ok(())
     }
-}
-
-fn is_command(word: &[u8]) -> bool {
-    matches!(
-        word,
-        b"load" | b"store" | b"settle" | b"take" | b"task" | b"fork" | b"exit" | b"allocate" | b"map" | b"deallocate" | b"protect"
-            | b"inherit" | b"copy" | b"pageout" | b"clean" | b"wire" | b"unwire" | b"fail" | b"say"
-    )
 }
 
 impl Script {

@@ -72,7 +72,7 @@ impl System {
         if self.objects[object].kind == Kind::Temporary {
             self.wake_page(object, frame);
             self.discard(object, frame);
-            self.objects[object].set_absent(page, true);
+            self.objects[object].note_absent(page);
         } else {
             self.zeroed(object, page);
             self.fill(object, frame, Page::default(), 0);
@@ -127,7 +127,7 @@ impl System {
         row.bytes.trim();
         let bytes = row.bytes.clone();
         let it = &mut self.objects[object];
-        it.set_absent(page, false);
+        it.note_returned(page);
         let control = it.control;
         self.send_up(object, Message::Return { control, page, dirty, keep: true, bytes });
     }

@@ -5,7 +5,7 @@ use crate::maps::Entry;
 use crate::objects::{Object, Pager, Region};
 use crate::outside::{Arming, Files};
 use crate::pagers::{FilePager, Slots};
-use crate::ports::{Message, Ports, NONE};
+use crate::ports::{Message, Ports};
 use crate::script::{Command, Kind, Script};
 use crate::shared::{Directory, Reply};
 use crate::text::Out;
@@ -124,17 +124,15 @@ impl System {
         self.ports.oldest().is_none()
     }
 
-    pub fn send(&mut self, channel: u32, message: Message) {
-        self.out.sent(&self.ports.channels[channel as usize], &message, self.size);
-        self.ports.send(channel, message);
-    }
-
     pub fn send_up(&mut self, object: usize, message: Message) {
-        self.send(self.objects[object].up, message);
+        self.send_down(object, 0, message);
     }
 
     pub fn send_down(&mut self, object: usize, control: u32, message: Message) {
-        self.send(self.objects[object].downs[control as usize - 1], message);
+        if let Some(channel) = self.ports.channel(object, control) {
+            self.out.sent(&self.ports.channels[channel as usize], &message, self.size);
+            self.ports.send(channel, message);
+        }
     }
 
     /// The next control of an object begins, and its pager is told.
@@ -142,11 +140,8 @@ impl System {
         let object = &mut self.objects[at];
         object.control += 1;
         object.pager = Pager::Sent;
-        if object.up == NONE {
-            object.up = self.ports.add(object.host, object.number, 0);
-        }
         let control = object.control;
-        object.downs.push(self.ports.add(object.host, object.number, control));
+        self.ports.open(object.host, object.number, at);
         let is_temporary = object.kind == Kind::Temporary;
         self.send_up(at, if is_temporary { Message::Create { control } } else { Message::Init { control } });
     }
@@ -163,8 +158,7 @@ impl System {
         let message = self.ports.take(channel);
         let from = &self.ports.channels[channel as usize];
         self.out.taken(from, &message, self.size);
-        let (host, control) = (from.host, from.control);
-        let object = self.index(host, from.object);
+        let (host, object, control) = (from.host, from.index as usize, from.control);
         if control > 0 {
             return self.hear(object, control, message);
         }

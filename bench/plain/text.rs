@@ -93,23 +93,18 @@ impl Out {
     }
 
     fn number(&mut self, number: u64) {
-        if number < 10 {
-            self.text.push(b'0' + number as u8);
-            return;
+        let pair = |number: u64| PAIRS[(number % 100) as usize];
+        let ([a, b], [c, d]) = (pair(number / 100), pair(number));
+        match number {
+            0..=9 => self.text.push(d),
+            10..=99 => self.text.extend_from_slice(&[c, d]),
+            100..=999 => self.text.extend_from_slice(&[b, c, d]),
+            1000..=9999 => self.text.extend_from_slice(&[a, b, c, d]),
+            _ => {
+                self.number(number / 10_000);
+                self.text.extend_from_slice(&[a, b, c, d]);
+            }
         }
-        let mut digits = [0; 20];
-        let mut at = 20;
-        let mut rest = number;
-        while rest >= 10 {
-            at -= 2;
-            digits[at..at + 2].copy_from_slice(&PAIRS[(rest % 100) as usize]);
-            rest /= 100;
-        }
-        if rest > 0 {
-            at -= 1;
-            digits[at] = b'0' + rest as u8;
-        }
-        self.text.extend_from_slice(&digits[at..]);
     }
 
     fn fields<const N: usize>(&mut self, numbers: [u64; N]) {
