@@ -27,7 +27,11 @@ const MOST_REGIONS: u32 = 8192;
 const MOST_OBJECTS: u32 = 8192;
 
 fn require(holds: bool, code: Code) -> Result<(), Code> {
-    if holds { Ok(()) } else { Err(code) }
+    if holds {
+        Ok(())
+    } else {
+        Err(code)
+    }
 }
 
 fn whole_entry(range: Range, region: u32) -> Entry {
@@ -64,7 +68,7 @@ impl System {
                 Ok(())
             }
             Command::FailPaging { count } => {
-                self.arm_paging(count);
+                self.paging.0 = count;
                 Ok(())
             }
             Command::Say { host, object } => {
@@ -112,10 +116,7 @@ impl System {
     fn enter(&mut self, task: u16, entry: Entry) {
         maps::enter(&mut self.tasks[usize::from(task)].entries, entry);
         let Entry { address, bytes, region, offset, prot, inherit } = entry;
-        self.out.event(
-            "entered",
-            [task.into(), address, bytes, region.into(), offset.into(), prot.into(), inherit.into()],
-        );
+        self.out.event("entered", [task.into(), address, bytes, region.into(), offset.into(), prot.into(), inherit.into()]);
     }
 
     fn take_from(&mut self, host: u8, object: u32, control: u32) -> Result<(), Code> {

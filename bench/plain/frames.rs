@@ -122,7 +122,11 @@ impl Host {
     }
 
     fn ends(&mut self, list: List) -> &mut Ends {
-        if list == List::Active { &mut self.active } else { &mut self.inactive }
+        if list == List::Active {
+            &mut self.active
+        } else {
+            &mut self.inactive
+        }
     }
 
     fn link(&mut self, at: u16, list: List) {

@@ -87,7 +87,11 @@ impl Object {
 
     /// The number of pages that are looked at to find all that have a frame.
     pub fn reach(&self) -> u32 {
-        if self.resident == 0 { 0 } else { self.pages.len() as u32 }
+        if self.resident == 0 {
+            0
+        } else {
+            self.pages.len() as u32
+        }
     }
 
     /// Whether the pager may have a page that has no frame.

@@ -23,7 +23,11 @@ pub struct Files {
 
 impl Files {
     fn pass(&mut self) -> io::Result<()> {
-        if self.arming.strikes() { Err(ErrorKind::Other.into()) } else { Ok(()) }
+        if self.arming.strikes() {
+            Err(ErrorKind::Other.into())
+        } else {
+            Ok(())
+        }
     }
 
     /// The length of a file, None where there is none. What is no regular file fails.

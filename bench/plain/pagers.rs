@@ -3,7 +3,6 @@
 use std::cmp::Reverse;
 use std::collections::BinaryHeap;
 
-use crate::outside::Arming;
 use crate::page::Page;
 use crate::ports::Message;
 use crate::script::Kind;
@@ -136,7 +135,7 @@ impl System {
             None if stored == NEVER => Message::Unavailable { page },
             None | Some((_, true)) => Message::Error { page },
             Some(_) if self.paging.strikes() => {
-                self.out.device_failed("paging read", object, page);
+                self.out.event("device paging read", [object.into(), page.into()]);
                 Message::Error { page }
             }
             Some((slot, _)) => Message::Supply { page, lock: 0, bytes: slots.pages[slot as usize].clone() },
@@ -154,7 +153,7 @@ impl System {
         let torn = self.paging.strikes();
         slots.set_stored(object, page, in_slot(slot, torn));
         if torn {
-            self.out.device_failed("paging write", object, page);
+            self.out.event("device paging write", [object.into(), page.into()]);
         } else {
             slots.pages[slot as usize] = bytes;
         }
@@ -194,7 +193,7 @@ impl System {
             Ok(Some(bytes)) => Message::Supply { page, lock: 0, bytes: Page::of(bytes) },
             Ok(None) => Message::Unavailable { page },
             Err(_) => {
-                self.out.device_failed("files read", number, page);
+                self.out.event("device files read", [number.into(), page.into()]);
                 Message::Error { page }
             }
         }
@@ -207,7 +206,7 @@ impl System {
         let lost = self.files.write(&pager.name, u64::from(page) * u64::from(self.size), &whole).is_err();
         pager.set_lost(page, lost);
         if lost {
-            self.out.device_failed("files write", number, page);
+            self.out.event("device files write", [number.into(), page.into()]);
         }
     }
 
@@ -256,9 +255,5 @@ impl System {
             let message = Message::Lock { page, count, returns: 2, flush, lock: 8, reply: true };
             self.send_down(self.index(host, object), control, message);
         }
-    }
-
-    pub fn arm_paging(&mut self, count: u32) {
-        self.paging = Arming(count);
     }
 }

@@ -40,29 +40,97 @@ pub struct Range {
 
 #[derive(Clone, Copy)]
 pub enum Command {
-    Task { task: u16, host: u8 },
-    Fork { task: u16, child: u16 },
-    Exit { task: u16 },
-    Allocate { task: u16, range: Range },
-    Map { task: u16, range: Range, object: u32, offset: u32 },
-    Deallocate { task: u16, range: Range },
-    Protect { task: u16, range: Range, prot: u8 },
-    Inherit { task: u16, range: Range, inherit: u8 },
-    Load { task: u16, address: u64, size: u8 },
-    Store { task: u16, address: u64, size: u8, value: u64 },
-    Copy { task: u16, range: Range, target: u16, to: u32 },
+    Task {
+        task: u16,
+        host: u8,
+    },
+    Fork {
+        task: u16,
+        child: u16,
+    },
+    Exit {
+        task: u16,
+    },
+    Allocate {
+        task: u16,
+        range: Range,
+    },
+    Map {
+        task: u16,
+        range: Range,
+        object: u32,
+        offset: u32,
+    },
+    Deallocate {
+        task: u16,
+        range: Range,
+    },
+    Protect {
+        task: u16,
+        range: Range,
+        prot: u8,
+    },
+    Inherit {
+        task: u16,
+        range: Range,
+        inherit: u8,
+    },
+    Load {
+        task: u16,
+        address: u64,
+        size: u8,
+    },
+    Store {
+        task: u16,
+        address: u64,
+        size: u8,
+        value: u64,
+    },
+    Copy {
+        task: u16,
+        range: Range,
+        target: u16,
+        to: u32,
+    },
     /// Of the channel up, where the control is 0.
-    Take { host: u8, object: u32, control: u32 },
+    Take {
+        host: u8,
+        object: u32,
+        control: u32,
+    },
     /// Of a channel down to a control that never is.
     TakeNone,
-    Settle { count: u32 },
-    Pageout { host: u8, count: u32 },
-    Clean { object: u32, page: u32, count: u32, flush: bool },
-    Wire { host: u8, count: u32 },
-    Unwire { host: u8, count: u32 },
-    FailFiles { count: u32 },
-    FailPaging { count: u32 },
-    Say { host: u8, object: u32 },
+    Settle {
+        count: u32,
+    },
+    Pageout {
+        host: u8,
+        count: u32,
+    },
+    Clean {
+        object: u32,
+        page: u32,
+        count: u32,
+        flush: bool,
+    },
+    Wire {
+        host: u8,
+        count: u32,
+    },
+    Unwire {
+        host: u8,
+        count: u32,
+    },
+    FailFiles {
+        count: u32,
+    },
+    FailPaging {
+        count: u32,
+    },
+    Say {
+        host: u8,
+        object: u32,
+    },
 }
 
 pub struct Script {
@@ -106,7 +174,11 @@ impl<'a> Words<'a> {
     }
 
     fn behind(&self, first: usize, count: usize) -> Result<Fields<'_, 'a>, Fault> {
-        if self.count == first + count { Ok(Fields(&self.words[first..self.count.min(self.words.len())])) } else { Err(Fault::WrongCount) }
+        if self.count == first + count {
+            Ok(Fields(&self.words[first..self.count.min(self.words.len())]))
+        } else {
+            Err(Fault::WrongCount)
+        }
     }
 }
 
@@ -156,7 +228,11 @@ impl<'a> Fields<'_, 'a> {
         if word.len() % 2 != 0 || !word.iter().all(|byte| matches!(byte, b'0'..=b'9' | b'a'..=b'f')) {
             return Err(Fault::BadNumber);
         }
-        if word.len() / 2 > size as usize { Err(Fault::OutOfRange) } else { Ok(()) }
+        if word.len() / 2 > size as usize {
+            Err(Fault::OutOfRange)
+        } else {
+            Ok(())
+        }
     }
 }
 
@@ -172,7 +248,11 @@ pub fn number_of(word: &[u8]) -> Result<u64, Fault> {
 
 pub fn number_in(word: &[u8], least: u64, most: u64) -> Result<u64, Fault> {
     let number = number_of(word)?;
-    if number < least || number > most { Err(Fault::OutOfRange) } else { Ok(number) }
+    if number < least || number > most {
+        Err(Fault::OutOfRange)
+    } else {
+        Ok(number)
+    }
 }
 
 fn is_name(word: &[u8]) -> bool {
@@ -208,7 +288,11 @@ fn words_said(words: &Words) -> usize {
 impl<'a> Reader<'a> {
     fn host(&self, word: &[u8]) -> Result<u8, Fault> {
         let host = number_of(word)?;
-        if host < self.frames.len() as u64 { Ok(host as u8) } else { Err(Fault::OutOfRange) }
+        if host < self.frames.len() as u64 {
+            Ok(host as u8)
+        } else {
+            Err(Fault::OutOfRange)
+        }
     }
 
     fn object(&self, word: &[u8]) -> Result<u32, Fault> {

@@ -17,10 +17,18 @@ pub const MOST_TASKS: usize = 1024;
 #[derive(Clone, Copy)]
 pub enum Want {
     Load,
-    Store { value: u64 },
+    Store {
+        value: u64,
+    },
     /// So many pages are copied into an object of that index, those in front of `next` are; `region` and
     /// `to` are of the entry that is to be made.
-    Copy { pages: u32, next: u32, target: u32, region: u32, to: u64 },
+    Copy {
+        pages: u32,
+        next: u32,
+        target: u32,
+        region: u32,
+        to: u64,
+    },
 }
 
 /// A task's access: `region` is an index, `page` one of it, and `at` and `size` are a place in the page.

@@ -58,7 +58,11 @@ impl Out {
 
     /// Writes the text, where there is a piece of it.
     pub fn pass_on(&mut self) -> io::Result<()> {
-        if self.text.len() < PIECE { Ok(()) } else { self.flush() }
+        if self.text.len() < PIECE {
+            Ok(())
+        } else {
+            self.flush()
+        }
     }
 
     pub fn flush(&mut self) -> io::Result<()> {
@@ -195,17 +199,6 @@ impl Out {
     pub fn dropped(&mut self, host: u8, object: u32, page: u32) {
         self.counts.dropped += 1;
         self.event("dropped", [host.into(), object.into(), page.into()]);
-    }
-
-    /// `device` is as `files read`.
-    pub fn device_failed(&mut self, device: &str, object: u32, page: u32) {
-        self.events += 1;
-        if self.shows {
-            self.word("device ");
-            self.word(device);
-            self.fields([object.into(), page.into()]);
-            self.text.push(b'\n');
-        }
     }
 
     pub fn sent(&mut self, channel: &Channel, message: &Message, size: u32) {
