@@ -1,5 +1,5 @@
 // A list that grows at its end, and is seen with its newest item first.
-ghost use Rattle.std.specs.Prelude.{◌≡◌, ◌+◌, ◌≤◌, ◌<◌, ◌∷◌, [], ◌++◌, length, reverse, insert, slice_get, IsOk, OnOk, OnErr, MatchOption};
+ghost use Rattle.std.specs.Prelude.{◌≡◌, ◌+◌, ◌≤◌, ◌<◌, ◌∷◌, [], ◌++◌, length, reverse, take, drop, insert, slice_get, IsOk, OnOk, OnErr, MatchOption};
 
 use crate::NoMemory;
 use std::alloc::Global;
@@ -91,6 +91,29 @@ impl<T> Listing<T> {
             return Err(NoMemory);
         }
         self.items.insert(i as usize, item)?;
+        Ok(())
+    }
+
+    /// Puts other items in the place of those from an index on and below another, counted from the
+    /// oldest; it fails for want of memory alone.
+    pub fn replace(&mut self, from: u32, to: u32, mut others: Listing<T>) -> Result<(), NoMemory>
+    where
+        T: Drop,
+        requires order { from ≤ to }
+        requires within { to ≤ length self.old.items }
+        ensures ok { OnOk result (reverse self.new.items ≡ take from (reverse self.old.items)
+            ++ (reverse others.items ++ drop to (reverse self.old.items))) }
+        ensures err { OnErr result (self.new.items ≡ self.old.items) }
+        ensures succeeds { length others.items + from ≤ self.old.room + to → IsOk result }
+        ensures room { length self.old.items + self.old.room ≤ length self.new.items + self.new.room }
+    {
+        self.reserve(others.len().saturating_sub(to - from))?;
+        // The items behind the range wait in front, while the others are put at the end.
+        let behind = self.items.len() - to as usize;
+        self.items.rotate_left(to as usize);
+        self.items.truncate(behind + from as usize);
+        self.items.append(&mut others.items)?;
+        self.items.rotate_left(behind);
         Ok(())
     }
 
