@@ -1,22 +1,16 @@
 -- What no refusal tells of a change.
-use Rattle.std.proofs.Common.{ℕ, ◌≡◌, ◌+◌, ◌<◌, ◌≤◌, ◌^◌, Bool, true, false, not, List, length, reverse, Option, Some, None, subst, arith}
+use Rattle.std.proofs.Common.{ℕ, ◌≡◌, ◌+◌, ◌<◌, Bool, true, false, not, List, length, Option, Some, None, subst, arith}
 use Rattle.std.proofs.lemmas.Bool.Decides.{nat_tests}
 use Rattle.std.proofs.lemmas.Option.{same_Some}
 use Rattle.std.specs.Prelude.{IsSomeAnd, if◌then◌else◌, nat_lt}
-use Rattle.vm_base.specs.Entries.{entered, is_range, meets_range, most_entries, rewritten}
-use Rattle.vm_base.specs.Listing.{Listed}
+use Rattle.vm_base.specs.Entries.{is_range, meets_range, most_entries}
 use Rattle.vm_base.specs.declared.code.Code.{Code}
 use Rattle.vm_base.specs.declared.code.Code.TheVariants as code
 use Rattle.vm_base.specs.declared.entry.Entry.{Entry}
 use Rattle.vm_maps.specs.Judge.{count_after, is_occupied, is_unmapped, judged}
 use Rattle.vm_maps.specs.Maps.{IsNewEntry}
-use Rattle.vm_maps.specs.Rows.{becomes}
-use Rattle.vm_maps.specs.Tables.{IsTable, rows_of}
 use Rattle.vm_maps.specs.declared.change.MapChange.{MapChange}
 use Rattle.vm_maps.specs.declared.change.MapKind.TheVariants as kind
-use Rattle.vm_maps.specs.declared.task_map.TaskMap.{TaskMap}
-use Rattle.vm_maps.proofs.Entering.{length_entered, order_entered, whole_entered}
-use Rattle.vm_maps.proofs.Kept.{order_rewritten, whole_rewritten}
 use Rattle.vm_maps.proofs.Range.{IsRange, range_is}
 
 record NoTest (a b c d : Bool) : Type 0 where
@@ -50,35 +44,3 @@ is_and (Some x) row P is holds = subst P (same_Some x row is) holds
 
 pub new_entry : (bytes size : ℕ) (change : MapChange) (row : Entry) → bytes ≡ size → change.entry ≡ Some row → IsSomeAnd change.entry (IsNewEntry bytes change) → IsNewEntry size change row
 new_entry bytes size change row same is new = subst (λ (n : ℕ). IsNewEntry n change row) same (is_and change.entry row (IsNewEntry bytes change) is new)
-
--- the table with a new entry
-pub entered_table : (size : ℕ) (change : MapChange) (row : Entry) (table : TaskMap) (entries : Listed Entry) → IsTable size table → IsFree size change (rows_of table) → IsNewEntry size change row
-    → reverse entries.items ≡ entered row (rows_of table) → most_entries ≤ length entries.items + entries.room → IsTable size (record { task = table.task; entries = entries })
-entered_table size change row table entries was free new is room =
-    let some : 0 < row.bytes = omega (arith, new.bytes, free.range.some) in
-    let high : row.address + row.bytes ≤ 2 ^ 32 = omega (arith, new.address, new.bytes, free.range.end) in
-    let clear : meets_range row.address row.bytes (rows_of table) ≡ false = rw (new.address, new.bytes) free.free in
-    let count = length_entered row (rows_of table) in
-    record {
-      entries = rw is record {
-        in_order = order_entered 0 (2 ^ 32) row (rows_of table) was.entries.in_order (omega arith) high some clear;
-        whole = whole_entered size row (rows_of table) was.entries.whole record { address = rw new.address free.range.start; bytes = rw new.bytes free.range.whole; pages = new.pages };
-        few = omega (arith, count, free.few);
-      };
-      room = room;
-    }
-
--- the table with its entries cut at the ends of a range
-pub rewritten_table : (size : ℕ) (change : MapChange) (table : TaskMap) (entries : Listed Entry) → IsTable size table → is_range size change.address change.bytes ≡ true
-    → length (rewritten (becomes change) size change.address change.bytes (rows_of table)) ≤ most_entries
-    → reverse entries.items ≡ rewritten (becomes change) size change.address change.bytes (rows_of table) → most_entries ≤ length entries.items + entries.room → IsTable size (record { task = table.task; entries = entries })
-rewritten_table size change table entries was test few is room =
-    let range = range_is size change.address change.bytes test in
-    record {
-      entries = rw is record {
-        in_order = order_rewritten change size change.address change.bytes 0 (2 ^ 32) (rows_of table) range.end (omega arith) was.entries.in_order;
-        whole = whole_rewritten change size change.address change.bytes 0 (2 ^ 32) (rows_of table) range.start range.whole (omega arith) was.entries.in_order was.entries.whole;
-        few = few;
-      };
-      room = room;
-    }

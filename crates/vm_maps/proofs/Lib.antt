@@ -1,4 +1,5 @@
 mod Allowed
+mod Changes
 mod Counts
 mod Covered
 pub mod Entering

@@ -7,7 +7,6 @@ mod maps;
 mod place;
 mod rewrite;
 mod search;
-mod task_map;
 
 pub use change::{MapChange, MapKind};
 pub use maps::Maps;

@@ -10,8 +10,8 @@ ghost use Rattle.vm_maps.specs.declared.change.MapKind.TheVariants as kind;
 use crate::judge::{judge_change, look_up};
 use crate::rewrite::{put_entry, rewrite};
 use crate::search::entry_at;
-use crate::task_map::{TaskMap, find};
 use crate::{MapChange, Place};
+use indexmap::IndexMap;
 use std::alloc::Global;
 use std::marker::Model;
 use vm_base::limits::MOST_ENTRIES;
@@ -28,7 +28,7 @@ use vm_base::{Access, Code, Entries, Entry, NoMemory, PageSize, TaskId};
 pub struct Maps {
     alloc: Global,
     size: PageSize,
-    tables: Vec<TaskMap>,
+    tables: IndexMap<TaskId, Entries>,
 }
 
 impl Model for Maps {
@@ -36,11 +36,11 @@ impl Model for Maps {
 
     ghost Value = { Mapped };
 
-    ghost use Rattle.vm_maps.specs.Tables.{AreTaskMaps, task_rows};
+    ghost use Rattle.vm_maps.specs.Tables.{AreTables, task_rows};
 
-    ghost view = { λ m. record { size = m.size; tasks = task_rows m.tables.items } };
+    ghost view = { λ m. record { size = m.size; tasks = task_rows m.tables.entries } };
 
-    ghost invariant = { λ m. AreTaskMaps m.size m.tables.items };
+    ghost invariant = { λ m. AreTables m.size m.tables.entries };
 }
 
 impl Maps {
@@ -51,7 +51,7 @@ impl Maps {
         Maps {
             alloc,
             size,
-            tables: Vec::new(alloc),
+            tables: IndexMap::new(alloc),
         }
     }
 
@@ -75,8 +75,7 @@ impl Maps {
     {
         let mut entries = Entries::new(self.alloc);
         entries.reserve(MOST_ENTRIES)?;
-        let i = find(&self.tables, task);
-        self.tables.insert(i, TaskMap { task, entries })?;
+        self.tables.insert(task, entries)?;
         Ok(())
     }
 
@@ -86,17 +85,14 @@ impl Maps {
         ensures entries { entries_in task.0 self.old ≡ Some (by_address result) }
         ensures ended { ChangesOnly self.old self.new task.0 None }
     {
-        let i = find(&self.tables, task);
-        let table = self.tables.remove(i);
-        table.entries
+        self.tables.swap_remove(&task).unwrap()
     }
 
     /// Whether a task has a map.
     pub fn has(&self, task: TaskId) -> bool
         ensures { result ≡ is_some (entries_in task.0 self.now) }
     {
-        let i = find(&self.tables, task);
-        i < self.tables.len() && self.tables[i].task.0 == task.0
+        self.tables.contains_key(&task)
     }
 
     /// The entries of a task, by rising address.
@@ -105,8 +101,7 @@ impl Maps {
         ensures value { entries_in task.0 self.now ≡ Some (by_address result.now) }
         ensures sound { AreEntries self.now.size (by_address result.now) }
     {
-        let i = find(&self.tables, task);
-        &self.tables[i].entries
+        &self.tables[&task]
     }
 
     /// The first of four tests that the change meets, if it meets one.
@@ -139,9 +134,8 @@ impl Maps {
         let Some(entry) = change.entry else {
             unreachable!()
         };
-        let i = find(&self.tables, task);
-        let table = &mut self.tables[i];
-        put_entry(&mut table.entries, entry)?;
+        let table = self.tables.get_mut(&task).unwrap();
+        put_entry(table, entry)?;
         Ok(Entries::new(self.alloc))
     }
 
@@ -235,10 +229,9 @@ impl Maps {
             by_address taken ≡ parts_for self.old task.0 change.now) }
         ensures err { OnErr result (self.new ≡ self.old) }
     {
-        let i = find(&self.tables, task);
-        let table = &mut self.tables[i];
-        let made = rewrite(self.alloc, self.size, &table.entries, change)?;
-        table.entries = made.kept;
+        let made = rewrite(self.alloc, self.size, self.entries(task), change)?;
+        let table = self.tables.get_mut(&task).unwrap();
+        *table = made.kept;
         Ok(made.taken)
     }
 }
