@@ -8,6 +8,7 @@ mod Kept
 mod Mappings
 mod Multiples
 mod Order
+mod Outside
 mod Pages
 mod Range
 mod Rewriting

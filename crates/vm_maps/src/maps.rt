@@ -231,7 +231,7 @@ impl Maps {
     {
         let made = rewrite(self.alloc, self.size, self.entries(task), change)?;
         let table = self.tables.get_mut(&task).unwrap();
-        *table = made.kept;
+        table.replace(made.from, made.to, made.kept)?;
         Ok(made.taken)
     }
 }

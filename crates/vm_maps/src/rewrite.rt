@@ -1,13 +1,13 @@
 // Entries with one more, and entries cut at the ends of a range.
-ghost use Rattle.std.specs.Prelude.{◌≡◌, ◌+◌, ◌/◌, ◌≤◌, ◌<◌, ◌^◌, ◌++◌, IfOk, IsOk, OnOk, false, length, option_to_list};
+ghost use Rattle.std.specs.Prelude.{◌≡◌, ◌+◌, ◌/◌, ◌≤◌, ◌<◌, ◌^◌, ◌++◌, take, drop, IfOk, IsOk, OnOk, false, length, option_to_list};
 ghost use Rattle.std.specs.List.{flat_map};
 ghost use Rattle.vm_base.specs.Entries.{AreEntries, InOrder, by_address, cut, entered, meets_range, most_entries, parts_in, rewritten};
 ghost use Rattle.vm_maps.specs.Rows.{becomes, rewritten_one};
 
-use crate::search::count_passed;
+use crate::search::{count_cuts, count_passed};
 use crate::{MapChange, MapKind};
 use std::alloc::Global;
-use vm_base::limits::{ADDRESS_END, MOST_ENTRIES};
+use vm_base::limits::ADDRESS_END;
 use vm_base::{Entries, Entry, NoMemory, PageSize};
 
 /// Puts an entry in its place, where a table has room for the most entries.
@@ -25,15 +25,17 @@ pub fn put_entry(entries: &mut Entries, entry: Entry) -> Result<(), NoMemory>
     entries.insert(at, entry)
 }
 
-/// What a change makes of a task's entries: those that the task has then, and the parts in the
-/// range as they were.
+/// What a change makes of the entries that meet its range, which stand from an index on and below
+/// another: what is left of them, and their parts in the range as they were.
 #[derive(Drop)]
 pub struct Rewritten {
+    pub from: u32,
+    pub to: u32,
     pub kept: Entries,
     pub taken: Entries,
 }
 
-/// Cuts the entries at the ends of the range, and changes what lies in it.
+/// Cuts the entries that meet the range at its ends, and changes what lies in it.
 pub fn rewrite(
     alloc: Global,
     size: PageSize,
@@ -42,18 +44,22 @@ pub fn rewrite(
 ) -> Result<Rewritten, NoMemory>
     requires entries { AreEntries size (by_address entries.now) }
     requires end { change.now.address + change.now.bytes ≤ 2 ^ 32 }
-    ensures kept { IfOk result (λ made. by_address made.kept ≡ rewritten (becomes change.now)
-        size change.now.address change.now.bytes (by_address entries.now)) }
+    ensures order { IfOk result (λ made. made.from ≤ made.to) }
+    ensures within { IfOk result (λ made. made.to ≤ length entries.now.items) }
+    ensures kept { IfOk result (λ made. let rows = by_address entries.now in
+        take made.from rows ++ (by_address made.kept ++ drop made.to rows)
+        ≡ rewritten (becomes change.now) size change.now.address change.now.bytes rows) }
     ensures taken { IfOk result (λ made. by_address made.taken ≡ parts_in
         size change.now.address change.now.bytes (by_address entries.now)) }
-    ensures room { IfOk result (λ made. most_entries ≤ length made.kept.items + made.kept.room) }
 {
+    let end = change.address + change.bytes;
     let mut made = Rewritten {
+        from: count_passed(entries, change.address),
+        to: count_passed(entries, end) + count_cuts(entries, end),
         kept: Entries::new(alloc),
         taken: Entries::new(alloc),
     };
-    made.kept.reserve(MOST_ENTRIES)?;
-    'all: for i in 0..entries.len() {
+    'met: for i in made.from..made.to {
         rewrite_entry(size, change, *entries.at(i), &mut made)?;
     }
     Ok(made)
@@ -73,8 +79,7 @@ fn rewrite_entry(
         ≡ by_address made.old.kept ++ rewritten_one size change.now entry) }
     ensures taken { OnOk result (by_address made.new.taken ≡ by_address made.old.taken
         ++ cut size change.now.address (change.now.address + change.now.bytes) entry) }
-    ensures room { OnOk result (length made.old.kept.items + made.old.kept.room
-        ≤ length made.new.kept.items + made.new.kept.room) }
+    ensures place { OnOk result ((made.new.from ≡ made.old.from) × (made.new.to ≡ made.old.to)) }
 {
     let end = change.address + change.bytes;
     let part = cut(size, change.address, end, entry);
@@ -86,9 +91,7 @@ fn rewrite_entry(
 }
 
 fn push_part(list: &mut Entries, part: Option<Entry>) -> Result<(), NoMemory>
-    ensures ok { OnOk result (by_address list.new ≡ by_address list.old ++ option_to_list part) }
-    ensures room { OnOk result (length list.old.items + list.old.room
-        ≤ length list.new.items + list.new.room) }
+    ensures { OnOk result (by_address list.new ≡ by_address list.old ++ option_to_list part) }
 {
     if let Some(part) = part {
         list.push(part)?;
