@@ -6,11 +6,10 @@ use Rattle.std.specs.Result.{is_err}
 use Rattle.std.specs.Prelude.{IsSome, unwrap_or}
 use Rattle.pg_slots.proofs.Choices.{Gets, shown}
 use Rattle.pg_slots.specs.Contents.{AgreesWithContent, CarriesContent, Content, IsAreaTold, IsHeldAs, Kept, Lost, SlotsFit, Stored, area_name, same_content, with_stored}
-use Rattle.pg_slots.specs.Kept.{PutsRow}
-use Rattle.pg_slots.specs.Slots.{PutsHeld, SlotTable, held_among, held_at, held_slot}
+use Rattle.pg_slots.specs.Kept.{PutsRow, SlotMarks}
+use Rattle.pg_slots.specs.Slots.{HeldRows, PutsHeld, SlotTable, held_among, held_at, held_slot}
 use Rattle.pg_slots.specs.declared.slot_row.Held.{Held}
 use Rattle.pg_slots.specs.declared.slot_row.Held.TheVariants as held
-use Rattle.pg_slots.specs.declared.slot_row.SlotRow.{SlotRow}
 use Rattle.vm_base.specs.declared.failure.Failed.{Failed}
 use Rattle.vm_base.specs.declared.failure.WriteStop.TheVariants as stop
 use Rattle.vm_base.specs.declared.ids.PageKey.{PageKey}
@@ -117,10 +116,10 @@ carried_put before after old new o p has stored puts is others here = record {
   };
 }
 
-puts_held : (host size : ℕ) (old new : List SlotRow) (taken left : List Bool) (o p : ℕ) (has : Held) → PutsRow o p has old new → length left ≡ length taken → PutsHeld o p has (shown host size old taken) (shown host size new left)
+puts_held : (host size : ℕ) (old new : HeldRows) (taken left : SlotMarks) (o p : ℕ) (has : Held) → PutsRow o p has old new → left.count ≡ taken.count → PutsHeld o p has (shown host size old taken) (shown host size new left)
 puts_held host size old new taken left o p has puts same = record { host = refl; size = refl; count = same; at = puts.at }
 
-pub carried_lost : (areas : List ℕ → Told) (host size : ℕ) (old between new : List SlotRow) (taken : List Bool) (slots : SlotTable) (key : PageKey) → shown host size old taken ≡ slots → between ≡ old → PutsRow key.object.0 key.page.0 held.Lost between new
+pub carried_lost : (areas : List ℕ → Told) (host size : ℕ) (old between new : HeldRows) (taken : SlotMarks) (slots : SlotTable) (key : PageKey) → shown host size old taken ≡ slots → between ≡ old → PutsRow key.object.0 key.page.0 held.Lost between new
     → CarriesContent areas areas slots (shown host size new taken) (with_stored key.object.0 key.page.0 Lost)
 carried_lost areas host size old between new taken slots key view same puts =
     rw (← view) (carried_put areas areas (shown host size old taken) (shown host size new taken) key.object.0 key.page.0 held.Lost Lost
@@ -129,11 +128,11 @@ carried_lost areas host size old between new taken slots key view same puts =
     (λ t bytes one two. absurd (cc two)))
 
 -- the slot of a page is not that of another
-differs : (old : List SlotRow) (taken : List Bool) (key : PageKey) (s q r t : ℕ) → Gets old taken key s → (key.object.0 == q && key.page.0 == r) ≡ false → held_among q r old ≡ Some (held.Kept t) → s ≢ t
+differs : (old : HeldRows) (taken : SlotMarks) (key : PageKey) (s q r t : ℕ) → Gets old taken key s → (key.object.0 == q && key.page.0 == r) ≡ false → held_among q r old ≡ Some (held.Kept t) → s ≢ t
 differs old taken key s q r t get apart was same = false≢true (sym apart ∙ get.may.only q r (ap held_slot was ∙ ap Some (sym same)))
 
-pub carried_kept : (before after : List ℕ → Told) (host size : ℕ) (old between new : List SlotRow) (taken left : List Bool) (slots : SlotTable) (key : PageKey) (s : ℕ) (bytes : List ℕ) → shown host size old taken ≡ slots → between ≡ old
-    → PutsRow key.object.0 key.page.0 (held.Kept s) between new → length left ≡ length taken → Gets old taken key s → length bytes ≡ slots.size → WriteTold before after (area_name host) (s * size) bytes (Ok tt)
+pub carried_kept : (before after : List ℕ → Told) (host size : ℕ) (old between new : HeldRows) (taken left : SlotMarks) (slots : SlotTable) (key : PageKey) (s : ℕ) (bytes : List ℕ) → shown host size old taken ≡ slots → between ≡ old
+    → PutsRow key.object.0 key.page.0 (held.Kept s) between new → left.count ≡ taken.count → Gets old taken key s → length bytes ≡ slots.size → WriteTold before after (area_name host) (s * size) bytes (Ok tt)
     → CarriesContent before after slots (shown host size new left) (with_stored key.object.0 key.page.0 (Kept bytes))
 carried_kept before after host size old between new taken left slots key s bytes view same puts count get whole wrote =
     let fits : length bytes ≡ size = whole ∙ ap (λ (z : SlotTable). z.size) (sym view) in
@@ -145,8 +144,8 @@ carried_kept before after host size old between new taken left slots key s bytes
     let stored : bytes ≡ kept = cc two in
     rw (← slot, ← stored) (written_here before after (area_name host) size s bytes wrote fits was now told tells)))
 
-pub carried_torn : (before after : List ℕ → Told) (host size : ℕ) (old between new : List SlotRow) (taken left : List Bool) (slots : SlotTable) (key : PageKey) (s : ℕ) (bytes : List ℕ) → shown host size old taken ≡ slots → between ≡ old
-    → PutsRow key.object.0 key.page.0 (held.Torn s) between new → length left ≡ length taken → Gets old taken key s → length bytes ≡ slots.size → WriteTold before after (area_name host) (s * size) bytes (Err stop.Failed)
+pub carried_torn : (before after : List ℕ → Told) (host size : ℕ) (old between new : HeldRows) (taken left : SlotMarks) (slots : SlotTable) (key : PageKey) (s : ℕ) (bytes : List ℕ) → shown host size old taken ≡ slots → between ≡ old
+    → PutsRow key.object.0 key.page.0 (held.Torn s) between new → left.count ≡ taken.count → Gets old taken key s → length bytes ≡ slots.size → WriteTold before after (area_name host) (s * size) bytes (Err stop.Failed)
     → CarriesContent before after slots (shown host size new left) (with_stored key.object.0 key.page.0 Lost)
 carried_torn before after host size old between new taken left slots key s bytes view same puts count get whole wrote =
     let fits : length bytes ≡ size = whole ∙ ap (λ (z : SlotTable). z.size) (sym view) in
@@ -186,14 +185,14 @@ given before after slots o p s buffer page content has read whole same told fits
     let seen : buffer ≡ read_at (unwrap_or first.was []) (s * slots.size) slots.size = rw whole at (read.filled first.was first.is) in
     kept.is ∙ ap (λ (z : List ℕ). Some (Kept z)) (sym (same ∙ (seen ∙ stored)))
 
-pub kept_at : (host size : ℕ) (rows : List SlotRow) (taken : List Bool) (slots : SlotTable) (o p s : ℕ) (found : Option Held) (has : Held) → shown host size rows taken ≡ slots → found ≡ held_among o p rows → found ≡ Some has → has ≡ held.Kept s → held_at slots o p ≡ Some (held.Kept s)
+pub kept_at : (host size : ℕ) (rows : HeldRows) (taken : SlotMarks) (slots : SlotTable) (o p s : ℕ) (found : Option Held) (has : Held) → shown host size rows taken ≡ slots → found ≡ held_among o p rows → found ≡ Some has → has ≡ held.Kept s → held_at slots o p ≡ Some (held.Kept s)
 kept_at host size rows taken slots o p s found has view is some kept = rw (← view) (sym is ∙ (some ∙ ap Some kept))
 
 ok_of : (result : Result (Unit {0}) Failed) → is_err result ≡ false → result ≡ Ok tt
 ok_of (Ok done) is = refl
 ok_of (Err e) is = absurd (false≢true (sym is))
 
-pub read_told : (before after : List ℕ → Told) (host size : ℕ) (rows : List SlotRow) (taken : List Bool) (slots : SlotTable) (s at : ℕ) (name buffer : List ℕ) (result : Result (Unit {0}) Failed) (test : Bool)
+pub read_told : (before after : List ℕ → Told) (host size : ℕ) (rows : HeldRows) (taken : SlotMarks) (slots : SlotTable) (s at : ℕ) (name buffer : List ℕ) (result : Result (Unit {0}) Failed) (test : Bool)
     → shown host size rows taken ≡ slots → name ≡ area_name host → at ≡ s * size → test ≡ is_err result → test ≡ false → ReadTold before after name at buffer result → ReadTold before after (area_name slots.host) (s * slots.size) buffer (Ok tt)
 read_told before after host size rows taken slots s at name buffer result test view named place told failed read =
     let done : result ≡ Ok tt = ok_of result (sym told ∙ failed) in

@@ -1,6 +1,6 @@
 mod Choices
-mod Edits
 mod Fitting
+mod Free
+mod Giving
 mod Marks
-mod Places
 mod Tables

@@ -1,117 +1,81 @@
--- What each call knows of a page's place among the rows, and what it leaves of them.
-use Rattle.std.proofs.Common.{ℕ, ◌≡◌, ◌<◌, Bool, true, false, List, length, get_or, set, Option, Some, None, refl, sym, ◌∙◌, ap, arith}
-use Rattle.std.proofs.lemmas.Bool.{false≢true}
-use Rattle.std.proofs.lemmas.Option.{get_or_from_slice_get, slice_get_within}
-use Rattle.std.specs.List.{filter, insert}
-use Rattle.std.specs.Prelude.{slice_get}
-use Rattle.pg_slots.proofs.Edits.{by_key_filtered, by_key_inserted, by_key_set, held_filtered, held_inserted, held_set, is_apart}
-use Rattle.pg_slots.proofs.Places.{held_found, held_if}
-use Rattle.pg_slots.proofs.Marks.{frees}
-use Rattle.pg_slots.specs.Kept.{ByKey, DropsRows, FreesSlots, PutsRow, RowTable, freed, is_page_at, slot_rows_before}
-use Rattle.pg_slots.specs.Slots.{held_among}
+-- The rows of an object's pages, as they are read, written and taken out.
+use Rattle.indexmap.specs.IndexMap.{IndexMap, spare}
+use Rattle.std.proofs.Common.{ℕ, ◌≡◌, ◌==◌, Bool, true, false, List, [], ◌∷◌, ◌++◌, map, Option, Some, None, Result, Ok, Err, IsOk, IsSome, OnOk, if◌then◌else◌, refl, ◌∙◌, ap, ⊎_elim, arith}
+use Rattle.std.proofs.lemmas.Bool.{cases_Bool}
+use Rattle.std.proofs.lemmas.Bool.Decides.{nat_tests}
+use Rattle.std.proofs.lemmas.Map.Made.{lookup-map_values}
+use Rattle.std.specs.Map.{lookup, set_value}
+use Rattle.std.specs.Option.{option_map, unwrap_or}
+use Rattle.pg_slots.specs.Kept.{DropsRows, PutsRow, object_pages, object_room}
+use Rattle.pg_slots.specs.Slots.{HeldRows, held_among, held_in}
 use Rattle.pg_slots.specs.declared.slot_row.Held.{Held}
-use Rattle.pg_slots.specs.declared.slot_row.SlotRow.{SlotRow}
-use Rattle.vm_base.proofs.Keys.{key_is, page_read}
-use Rattle.vm_base.specs.Keys.{is_page}
-use Rattle.vm_base.specs.declared.ids.PageKey.{PageKey}
+use Rattle.vm_base.specs.declared.ids.ObjectId.{ObjectId}
+use Rattle.vm_base.specs.declared.ids.PageNo.{PageNo}
 
-abbrev pub seen : List SlotRow → ℕ → RowTable
-seen rows spare = record { rows = rows; spare = spare }
+-- each object has what it had, but for one
+abbrev pub Writes : {X : Type 0} → ℕ → Option X → List (ObjectId × X) → List (ObjectId × X) → Type 0
+Writes object now old new = (o : ℕ) → lookup (λ id. o == id.0) new ≡ (if object == o then now else lookup (λ id. o == id.0) old)
 
--- the place of a page in the table
-pub record Placed (rows : List SlotRow) (table : RowTable) (key : PageKey) (i : ℕ) : Type 0 where
-  pub kept : ByKey 0 0 rows
-  pub same : table.rows ≡ rows
-  pub place : i ≡ slot_rows_before key.object.0 key.page.0 rows
+module _ {X Y : Type 0} (f : X → Y) where
+  -- an object with what is seen of it
+  abbrev pub seen : ObjectId × X → ObjectId × Y
+  seen e = (e.0, f e.1)
 
-pub placed : (rows found : List SlotRow) (spare : ℕ) (table : RowTable) (key : PageKey) (i : ℕ) → seen rows spare ≡ table → ByKey 0 0 rows → found ≡ rows → i ≡ slot_rows_before key.object.0 key.page.0 found → Placed rows table key i
-placed rows found spare table key i view kept same place = record {
-  kept = kept;
-  same = ap (λ (z : RowTable). z.rows) (sym view);
-  place = place ∙ ap (slot_rows_before key.object.0 key.page.0) same;
+  -- the same of what is seen of each object
+  pub writes_seen : (object : ℕ) (now : Option X) (old new : List (ObjectId × X)) → Writes object now old new → Writes object (option_map f now) (map seen old) (map seen new)
+  writes_seen object now old new writes o =
+      rw (lookup-map_values f (λ id. o == id.0) new, lookup-map_values f (λ id. o == id.0) old, writes o)
+      (⊎_elim
+      (λ (here : (object == o) ≡ true). rw here refl)
+      (λ (apart : (object == o) ≡ false). rw apart refl)
+      (cases_Bool (object == o)))
+
+  -- a value that is seen as the old one leaves all as it is seen
+  pub seen_kept : (test : ObjectId → Bool) (es : List (ObjectId × X)) (was now : X) → lookup test es ≡ Some was → f now ≡ f was → map seen (set_value test es now) ≡ map seen es
+  seen_kept test [] was now is same = refl
+  seen_kept test (e ∷ es) was now is same =
+      ⊎_elim
+      (λ (here : test e.0 ≡ true). rw here (let one : e.1 ≡ was = cc (rw here at is) in rw (same, ← one) refl))
+      (λ (apart : test e.0 ≡ false). rw apart (ap (λ (rest : List (ObjectId × Y)). seen e ∷ rest) (seen_kept test es was now (rw apart at is) same)))
+      (cases_Bool (test e.0))
+
+-- what is held of a page, as the maps have it
+pub held_seen : {S : Type 0} (es : List (ObjectId × IndexMap PageNo Held S)) (o p : ℕ) → held_among o p (map object_pages es) ≡ held_in p (option_map (λ m. m.entries) (lookup (λ id. o == id.0) es))
+held_seen es o p = ap (held_in p) (lookup-map_values (λ m. m.entries) (λ id. o == id.0) es)
+
+-- the room for an object's pages, as the maps have it
+pub room_seen : {S : Type 0} (es : List (ObjectId × IndexMap PageNo Held S)) (object first : ℕ) → unwrap_or (lookup (λ id. object == id.0) (map object_room es)) first ≡ unwrap_or (option_map spare (lookup (λ id. object == id.0) es)) first
+room_seen es object first = ap (λ (o : Option ℕ). unwrap_or o first) (lookup-map_values spare (λ id. object == id.0) es)
+
+pub puts_row : (object page : ℕ) (held : Held) (old new : HeldRows) (pages : List (PageNo × Held)) → Writes object (Some pages) old new
+    → ((p : ℕ) → lookup (λ n. p == n.0) pages ≡ (if page == p then Some held else held_among object p old)) → PutsRow object page held old new
+puts_row object page held old new pages writes row = record {
+  at = λ o p. ⊎_elim
+      (λ (here : (object == o) ≡ true). let same : object ≡ o = grind (arith, nat_tests) in rw (writes o, here) (row p ∙ rw same refl))
+      (λ (apart : (object == o) ≡ false). rw (writes o, apart) refl)
+      (cases_Bool (object == o));
 }
 
--- what stands at the place of a page that has a row
-pub record At (rows : List SlotRow) (key : PageKey) (i : ℕ) (was : Held) : Type 0 where
-  pub within : i < length rows
-  pub is : (d : SlotRow) → get_or rows i d ≡ record { key = key; held = was }
-
-page_is : (x : SlotRow) (key : PageKey) → is_page x.key key.object.0 key.page.0 ≡ true → x ≡ record { key = key; held = x.held }
-page_is x key here =
-    let read = page_read x.key key.object.0 key.page.0 here in
-    ap (λ (z : PageKey). record { key = z; held = x.held }) (sym (key_is x.key key.object.0 key.page.0 read.object read.page))
-
-at_first : (rows : List SlotRow) (key : PageKey) (i : ℕ) (x : SlotRow) → slice_get rows i ≡ Some x → is_page x.key key.object.0 key.page.0 ≡ true → At rows key i x.held
-at_first rows key i x is here = record {
-  within = slice_get_within rows i x is;
-  is = λ d. get_or_from_slice_get rows i x d is ∙ page_is x key here;
+pub drops_rows : (object : ℕ) (old new : HeldRows) → Writes object None old new → DropsRows object old new
+drops_rows object old new writes = record {
+  at = λ o p. ⊎_elim
+      (λ (here : (object == o) ≡ true). rw (writes o, here) refl)
+      (λ (apart : (object == o) ≡ false). rw (writes o, apart) refl)
+      (cases_Bool (object == o));
 }
 
-held_is : (rows : List SlotRow) (table : RowTable) (key : PageKey) (i : ℕ) → Placed rows table key i → held_among key.object.0 key.page.0 table.rows ≡ held_if key.object.0 key.page.0 (slice_get rows i)
-held_is rows table key i h = rw (h.same, h.place) (held_found 0 0 key.object.0 key.page.0 rows h.kept)
+pub on_ok : {A E : Type 0} (result : Result A E) (P : Type 0) → OnOk result P → IsOk result → P
+on_ok (Ok done) P told ok = told
+on_ok (Err stop) P told ok = absurd (cc)
 
--- what is held of a page, where it has a row
-pub record Present (rows : List SlotRow) (table : RowTable) (key : PageKey) (i : ℕ) : Type 0 where
-  pub was : Held
-  pub held : held_among key.object.0 key.page.0 table.rows ≡ Some was
-  pub at : At rows key i was
+pub some_of : {A : Type 0} (o : Option A) (x : A) → o ≡ Some x → IsSome o
+some_of o x is = rw is refl
 
-present_read : (rows : List SlotRow) (table : RowTable) (key : PageKey) (i : ℕ) (stood : Option SlotRow) → slice_get rows i ≡ stood → held_among key.object.0 key.page.0 table.rows ≡ held_if key.object.0 key.page.0 stood
-    → is_page_at key.object.0 key.page.0 stood ≡ true → Present rows table key i
-present_read rows table key i None is held here = absurd (false≢true here)
-present_read rows table key i (Some x) is held here = record {
-  was = x.held;
-  held = rw here at held;
-  at = at_first rows key i x is here;
-}
-
-pub present : (rows found : List SlotRow) (table : RowTable) (key : PageKey) (i : ℕ) (test : Bool) → Placed rows table key i → found ≡ rows → test ≡ is_page_at key.object.0 key.page.0 (slice_get found i) → test ≡ true → Present rows table key i
-present rows found table key i test h same told stood =
-    present_read rows table key i (slice_get rows i) refl (held_is rows table key i h) (rw same at (sym told ∙ stood))
-
-absent_read : (o p : ℕ) (stood : Option SlotRow) → is_page_at o p stood ≡ false → held_if o p stood ≡ None
-absent_read o p None other = refl
-absent_read o p (Some x) other = rw other refl
-
-pub absent : (rows found : List SlotRow) (table : RowTable) (key : PageKey) (i : ℕ) (test : Bool) → Placed rows table key i → found ≡ rows → test ≡ is_page_at key.object.0 key.page.0 (slice_get found i) → test ≡ false → held_among key.object.0 key.page.0 table.rows ≡ None
-absent rows found table key i test h same told past =
-    held_is rows table key i h ∙ absent_read key.object.0 key.page.0 (slice_get rows i) (rw same at (sym told ∙ past))
-
--- what is left where a page has this row now
-pub record Left (table : RowTable) (left : List SlotRow) (key : PageKey) (held : Held) : Type 0 where
-  pub kept : ByKey 0 0 left
-  pub puts : PutsRow key.object.0 key.page.0 held table.rows left
-
-pub inserted : (rows left : List SlotRow) (table : RowTable) (key : PageKey) (i : ℕ) (held : Held) → Placed rows table key i → held_among key.object.0 key.page.0 table.rows ≡ None → left ≡ insert rows i (record { key = key; held = held }) → Left table left key held
-inserted rows left table key i held h none is =
-    let new : SlotRow = record { key = key; held = held } in
-    let place : left ≡ insert rows (slot_rows_before key.object.0 key.page.0 rows) new = is ∙ ap (λ (z : ℕ). insert rows z new) h.place in
-    rw place record {
-      kept = by_key_inserted 0 0 new rows h.kept (record { above = omega arith; inside = λ le. omega arith }) (rw h.same at none);
-      puts = record { at = λ o p. rw h.same (held_inserted o p new rows) };
-    }
-
-pub changed : (rows left : List SlotRow) (table : RowTable) (key : PageKey) (i : ℕ) (was held : Held) → Placed rows table key i → At rows key i was → left ≡ set rows i (record { key = key; held = held }) → Left table left key held
-changed rows left table key i was held h at is =
-    let new : SlotRow = record { key = key; held = held } in
-    let same : (get_or rows i new).key ≡ key = ap (λ (z : SlotRow). z.key) (at.is new) in
-    rw is record {
-      kept = by_key_set 0 0 i new rows new h.kept at.within same;
-      puts = record { at = λ o p. rw h.same (held_set 0 0 i o p new rows new h.kept at.within same) };
-    }
-
--- what is left where the rows of an object are taken out
-pub record Without (table : RowTable) (left : List SlotRow) (object : ℕ) : Type 0 where
-  pub kept : ByKey 0 0 left
-  pub drops : DropsRows object table.rows left
-
-pub filtered : (rows left : List SlotRow) (spare : ℕ) (table : RowTable) (object : ℕ) → seen rows spare ≡ table → ByKey 0 0 rows → left ≡ filter (is_apart object) rows → Without table left object
-filtered rows left spare table object view kept is =
-    let same : table.rows ≡ rows = ap (λ (z : RowTable). z.rows) (sym view) in
-    rw is record {
-      kept = by_key_filtered object 0 0 rows kept;
-      drops = record { at = λ o p. rw same (held_filtered object o p rows) };
-    }
-
-pub freed_is : (rows found : List SlotRow) (spare : ℕ) (table : RowTable) (object : ℕ) (taken left : List Bool) → seen rows spare ≡ table → ByKey 0 0 rows → found ≡ rows → left ≡ freed object found taken → FreesSlots object table.rows taken left
-freed_is rows found spare table object taken left view kept same is = rw (is, same, ← view) (frees object rows taken kept)
+-- the last entry is found where no other has its key
+pub found_last : {K X : Type 0} (test : K → Bool) (es : List (K × X)) (k : K) (x : X) → lookup test es ≡ None → test k ≡ true → lookup test (es ++ (k, x) ∷ []) ≡ Some x
+found_last test [] k x none is = rw is refl
+found_last test (e ∷ es) k x none is =
+    ⊎_elim
+    (λ (here : test e.0 ≡ true). absurd (cc (rw here at none)))
+    (λ (apart : test e.0 ≡ false). rw apart (found_last test es k x (rw apart at none) is))
+    (cases_Bool (test e.0))

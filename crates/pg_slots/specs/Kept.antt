@@ -1,90 +1,117 @@
--- How the slots are kept: the pages that were put by rising key, and a mark for each slot that one of them has.
-use Rattle.std.specs.Prelude.{ℕ, suc, ◌≡◌, ◌≤◌, ◌<◌, ◌==◌, ◌&&◌, Bool, true, false, List, [], ◌∷◌, Option, Some, None, if◌then◌else◌, get_or, length, set}
-use Rattle.pg_slots.specs.Slots.{held_among, held_slot}
+-- How the slots are kept: what is held of the pages that were put, and which slots are taken.
+use Rattle.indexmap.specs.IndexMap.{IndexMap, spare}
+use Rattle.std.specs.List.{IsDistinct, list_any}
+use Rattle.std.specs.Map.{lookup}
+use Rattle.std.specs.Option.{option_map, unwrap_or}
+use Rattle.std.specs.BinaryHeap.{IsHeap}
+use Rattle.std.specs.Prelude.{ℕ, ◌≡◌, ◌≤◌, ◌<◌, ◌==◌, ◌&&◌, ◌⊎◌, Bool, true, false, not, List, map, Option, Some, None, if◌then◌else◌, nat_eq, nat_lt}
+use Rattle.std.specs.Ordering.{nat_cmp}
+use Rattle.std.specs.declared.cmp.Reverse.{Reverse}
+use Rattle.pg_slots.specs.Slots.{HeldRows, held_among, held_in, held_slot}
 use Rattle.pg_slots.specs.declared.slot_row.Held.{Held}
-use Rattle.pg_slots.specs.declared.slot_row.SlotRow.{SlotRow}
-use Rattle.vm_base.specs.Limits.{most_hosts, most_slots}
-use Rattle.vm_base.specs.Keys.{IsFrom, is_before, is_page}
+use Rattle.vm_base.specs.Limits.{most_hosts}
+use Rattle.vm_base.specs.declared.ids.ObjectId.{ObjectId}
+use Rattle.vm_base.specs.declared.ids.PageNo.{PageNo}
 
--- the rows, and how many more there is room for
+-- the rows, for how many further pages of each object there is room, and for how many of an object with no page yet
 pub record RowTable : Type 0 where
-  pub rows : List SlotRow
-  pub spare : ℕ
+  pub rows : HeldRows
+  pub rooms : List (ObjectId × ℕ)
+  pub first : ℕ
 
--- by rising object and page, from one on
-abbrev pub ByKey : ℕ → ℕ → List SlotRow → Type 0
-ByKey object page [] = Unit {0}
-ByKey object page (row ∷ rows) = IsFrom object page row.key × ByKey row.key.object.0 (suc row.key.page.0) rows
+-- for how many further pages of an object there is room
+abbrev pub room_of : RowTable → ℕ → ℕ
+room_of table object = unwrap_or (lookup (λ o. object == o.0) table.rooms) table.first
 
--- how many pages come in front of one
-abbrev pub slot_rows_before : ℕ → ℕ → List SlotRow → ℕ
-slot_rows_before object page [] = 0
-slot_rows_before object page (row ∷ rows) = if is_before row.key object page then suc (slot_rows_before object page rows) else 0
+module _ {S : Type 0} where
+  -- an object with what is held of its pages
+  abbrev pub object_pages : ObjectId × IndexMap PageNo Held S → ObjectId × List (PageNo × Held)
+  object_pages row = (row.0, row.1.entries)
 
--- whether a page stands at a place
-abbrev pub is_page_at : ℕ → ℕ → Option SlotRow → Bool
-is_page_at object page None = false
-is_page_at object page (Some row) = is_page row.key object page
+  -- an object with the room for further pages
+  abbrev pub object_room : ObjectId × IndexMap PageNo Held S → ObjectId × ℕ
+  object_room row = (row.0, spare row.1)
+
+  -- the slot of a page, among those of its object
+  abbrev pub slot_in_map : Option (IndexMap PageNo Held S) → ℕ → Option ℕ
+  slot_in_map pages page = held_slot (held_in page (option_map (λ m. m.entries) pages))
 
 -- one page has this row now, and each other page the row that it had
-pub record PutsRow (object page : ℕ) (held : Held) (old new : List SlotRow) : Type 0 where
+pub record PutsRow (object page : ℕ) (held : Held) (old new : HeldRows) : Type 0 where
   pub at : (o p : ℕ) → held_among o p new ≡ (if object == o && page == p then Some held else held_among o p old)
 
 -- the pages of one object have no row now, and each other page has the row that it had
-pub record DropsRows (object : ℕ) (old new : List SlotRow) : Type 0 where
+pub record DropsRows (object : ℕ) (old new : HeldRows) : Type 0 where
   pub at : (o p : ℕ) → held_among o p new ≡ (if object == o then None else held_among o p old)
 
-abbrev pub unmarked : Option ℕ → List Bool → List Bool
-unmarked None taken = taken
-unmarked (Some s) taken = set taken s false
-
--- the marks without that of the row's slot, if it is a row of the object
-abbrev pub freed_row : ℕ → SlotRow → List Bool → List Bool
-freed_row object row taken = if row.key.object.0 == object then unmarked (held_slot (Some row.held)) taken else taken
-
--- the marks without those of the slots of an object's rows
-abbrev pub freed : ℕ → List SlotRow → List Bool → List Bool
-freed object [] taken = taken
-freed object (row ∷ rows) taken = freed object rows (freed_row object row taken)
-
 -- the slot of a page, among rows
-abbrev pub slot_among : ℕ → ℕ → List SlotRow → Option ℕ
+abbrev pub slot_among : ℕ → ℕ → HeldRows → Option ℕ
 slot_among object page rows = held_slot (held_among object page rows)
 
-abbrev pub is_slot_marked : List Bool → ℕ → Bool
-is_slot_marked taken s = get_or taken s false
+-- how many slots there are, the lowest that was never taken, and those that were given back
+pub record SlotMarks : Type 0 where
+  pub count : ℕ
+  pub unused : ℕ
+  pub given : List ℕ
+
+-- a slot is taken that was taken once and not given back since
+abbrev pub is_taken : SlotMarks → ℕ → Bool
+is_taken slots s = nat_lt s slots.unused && not (list_any (nat_eq s) slots.given)
 
 -- some row has the slot
-pub record HasRow (rows : List SlotRow) (s : ℕ) : Type 0 where
+pub record HasRow (rows : HeldRows) (s : ℕ) : Type 0 where
   pub object : ℕ
   pub page : ℕ
   pub at : slot_among object page rows ≡ Some s
 
--- the marks are those of the slots that rows have, and no two rows have the same slot
-pub record AreMarked (rows : List SlotRow) (taken : List Bool) : Type 0 where
-  pub marked : (o p s : ℕ) → slot_among o p rows ≡ Some s → is_slot_marked taken s ≡ true
-  pub owned : (s : ℕ) → is_slot_marked taken s ≡ true → HasRow rows s
+-- the slots that are taken are those that rows have, and no two rows have the same slot
+pub record AreMarked (rows : HeldRows) (taken : ℕ → Bool) : Type 0 where
+  pub marked : (o p s : ℕ) → slot_among o p rows ≡ Some s → taken s ≡ true
+  pub owned : (s : ℕ) → taken s ≡ true → HasRow rows s
   pub apart : (o p q r s : ℕ) → slot_among o p rows ≡ Some s → slot_among q r rows ≡ Some s → (o ≡ q) × (p ≡ r)
 
-pub record AreSlotRows (host : ℕ) (rows : List SlotRow) (taken : List Bool) : Type 0 where
+pub record AreSlotRows (host : ℕ) (rows : HeldRows) (slots : SlotMarks) : Type 0 where
   pub host_low : host < most_hosts
-  pub few : length taken ≤ most_slots
-  pub marks : AreMarked rows taken
+  pub inside : (s : ℕ) → is_taken slots s ≡ true → s < slots.count
+  pub marks : AreMarked rows (is_taken slots)
 
--- an object's rows gave up the marks of their slots; all others are as they were
-pub record FreesSlots (object : ℕ) (rows : List SlotRow) (old new : List Bool) : Type 0 where
-  pub count : length new ≡ length old
-  pub left : (s : ℕ) → is_slot_marked new s ≡ true → is_slot_marked old s ≡ true
-  pub freed : (p s : ℕ) → is_slot_marked new s ≡ true → slot_among object p rows ≡ Some s → ⊥
-  pub kept : (s : ℕ) → is_slot_marked old s ≡ true → ((p : ℕ) → slot_among object p rows ≡ Some s → ⊥)
-      → is_slot_marked new s ≡ true
+-- the lowest slot that is not taken
+pub record IsUnmarked (slots : SlotMarks) (s : ℕ) : Type 0 where
+  pub inside : s < slots.count
+  pub free : is_taken slots s ≡ false
+  pub lowest : (t : ℕ) → t < s → is_taken slots t ≡ true
 
--- the lowest slot without a mark
-pub record IsUnmarked (taken : List Bool) (s : ℕ) : Type 0 where
-  pub inside : s < length taken
-  pub free : is_slot_marked taken s ≡ false
-  pub lowest : (t : ℕ) → t < s → is_slot_marked taken t ≡ true
+-- each slot is taken
+abbrev pub AllMarked : SlotMarks → Type 0
+AllMarked slots = (s : ℕ) → s < slots.count → is_taken slots s ≡ true
 
--- each slot has a mark
-abbrev pub AllMarked : List Bool → Type 0
-AllMarked taken = (s : ℕ) → s < length taken → is_slot_marked taken s ≡ true
+-- a slot that a page may take: one that is taken, or else the lowest free one
+abbrev pub MayTake : SlotMarks → ℕ → Type 0
+MayTake slots s = (is_taken slots s ≡ true) ⊎ IsUnmarked slots s
+
+-- the slots of pages are taken, and no two pages have the same
+pub record AreGivable (slot : ℕ → Option ℕ) (slots : SlotMarks) : Type 0 where
+  pub taken : (p s : ℕ) → slot p ≡ Some s → is_taken slots s ≡ true
+  pub apart : (p q s : ℕ) → slot p ≡ Some s → slot q ≡ Some s → p ≡ q
+
+-- the slots of pages were given back; all others are as they were
+pub record FreesSlots (slot : ℕ → Option ℕ) (old new : SlotMarks) : Type 0 where
+  pub count : new.count ≡ old.count
+  pub left : (s : ℕ) → is_taken new s ≡ true → is_taken old s ≡ true
+  pub freed : (p s : ℕ) → is_taken new s ≡ true → slot p ≡ Some s → ⊥
+  pub kept : (s : ℕ) → is_taken old s ≡ true → ((p : ℕ) → slot p ≡ Some s → ⊥) → is_taken new s ≡ true
+
+-- the slots that were given back were taken once, each stands there once, and there is room for each slot
+pub record AreFree (slots : SlotMarks) (room : ℕ) : Type 0 where
+  pub inside : slots.unused ≤ slots.count
+  pub room_for : slots.count ≤ room
+  pub below : (s : ℕ) → list_any (nat_eq s) slots.given ≡ true → s < slots.unused
+  pub apart : IsDistinct nat_eq slots.given
+
+-- the numbers in a heap that has the lowest on top
+abbrev pub slots_of : List (Reverse ℕ) → List ℕ
+slots_of given = map (λ r. r.0) given
+
+-- the lowest is on top
+abbrev pub IsLowestFirst : List (Reverse ℕ) → Type 0
+IsLowestFirst = IsHeap (λ x y. nat_cmp y.0 x.0)

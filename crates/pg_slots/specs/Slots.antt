@@ -1,23 +1,31 @@
 -- The paging slots of a host, as contracts see them.
-use Rattle.std.specs.Prelude.{ℕ, ◌≡◌, ◌<◌, ◌==◌, ◌&&◌, List, [], ◌∷◌, Option, Some, None, MatchOption, if◌then◌else◌}
+use Rattle.std.specs.Map.{lookup}
+use Rattle.std.specs.Prelude.{ℕ, ◌≡◌, ◌<◌, ◌==◌, ◌&&◌, List, Option, Some, None, MatchOption, if◌then◌else◌}
 use Rattle.pg_slots.specs.declared.answers.Put.{Put}
 use Rattle.pg_slots.specs.declared.answers.Put.TheVariants as put
 use Rattle.pg_slots.specs.declared.slot_row.Held.{Held}
 use Rattle.pg_slots.specs.declared.slot_row.Held.TheVariants.{Kept, Torn, Lost}
-use Rattle.pg_slots.specs.declared.slot_row.SlotRow.{SlotRow}
-use Rattle.vm_base.specs.Keys.{is_page}
+use Rattle.vm_base.specs.declared.ids.ObjectId.{ObjectId}
+use Rattle.vm_base.specs.declared.ids.PageNo.{PageNo}
 
--- the number of the host, the bytes of a page, the number of slots, and the pages that were put with what is held
--- of each
+-- each object of which a page was put, with what is held of each such page
+abbrev pub HeldRows : Type 0
+HeldRows = List (ObjectId × List (PageNo × Held))
+
+-- the number of the host, the bytes of a page, the number of slots, and what is held of the pages that were put
 pub record SlotTable : Type 0 where
   pub host : ℕ
   pub size : ℕ
   pub count : ℕ
-  pub rows : List SlotRow
+  pub rows : HeldRows
 
-abbrev pub held_among : ℕ → ℕ → List SlotRow → Option Held
-held_among object page [] = None
-held_among object page (row ∷ rows) = if is_page row.key object page then Some row.held else held_among object page rows
+-- what is held of a page, among those of its object
+abbrev pub held_in : ℕ → Option (List (PageNo × Held)) → Option Held
+held_in page None = None
+held_in page (Some pages) = lookup (λ p. page == p.0) pages
+
+abbrev pub held_among : ℕ → ℕ → HeldRows → Option Held
+held_among object page rows = held_in page (lookup (λ o. object == o.0) rows)
 
 -- what is held of a page, None where it was never put
 abbrev pub held_at : SlotTable → ℕ → ℕ → Option Held

@@ -3,10 +3,11 @@
 #![tactic(auto)]
 
 mod answers;
+mod free_slots;
 mod rows;
 mod slot_row;
 mod slots;
 
 pub use answers::{Got, Put};
-pub use slot_row::{Held, SlotRow};
+pub use slot_row::Held;
 pub use slots::Slots;

@@ -1,47 +1,66 @@
 // The pages that were put, with what is held of each.
 ghost use Rattle.std.specs.Prelude.{ℕ, ◌≡◌, ◌<◌, [], None, OnErr, OnOk};
-ghost use Rattle.pg_slots.specs.Kept.{DropsRows, FreesSlots, PutsRow};
+ghost use Rattle.pg_slots.specs.Kept.{DropsRows, PutsRow, room_of, slot_among, slot_in_map};
 ghost use Rattle.pg_slots.specs.Slots.{held_among, held_slot};
 
-use crate::slot_row::{Held, SlotRow, find, free_rows, slot_in, stands_at};
+use crate::slot_row::{Held, slot_in};
+use indexmap::IndexMap;
 use std::alloc::Global;
 use std::marker::Model;
-use vm_base::{NoMemory, ObjectId, PageKey};
+use std::mem;
+use vm_base::{NoMemory, ObjectId, PageKey, PageNo};
+
+/// What is held of each page of an object.
+pub type Pages = IndexMap<PageNo, Held>;
 
 /// What is held of each page that was put. Only `reserve` takes memory.
 #[derive(Drop)]
 pub struct Rows {
-    // By rising object, and by rising page of an object.
-    rows: Vec<SlotRow>,
+    alloc: Global,
+    rows: IndexMap<ObjectId, Pages>,
+    // No page, with the room that was reserved for the first page of an object.
+    next: Pages,
 }
 
 impl Model for Rows {
-    ghost use Rattle.std.specs.Prelude.{◌-◌, length, vec_capacity};
-    ghost use Rattle.pg_slots.specs.Kept.{ByKey, RowTable};
+    ghost use Rattle.std.specs.Prelude.{◌≡◌, [], map, min};
+    ghost use Rattle.indexmap.specs.IndexMap.{spare};
+    ghost use Rattle.pg_slots.specs.Kept.{RowTable, object_pages, object_room};
 
     ghost Value = { RowTable };
 
-    ghost view = { λ s. record { rows = s.rows.items; spare = vec_capacity s.rows - length s.rows.items } };
+    ghost view = { λ s. record {
+      rows = map object_pages s.rows.entries;
+      rooms = map object_room s.rows.entries;
+      first = min (spare s.rows) (spare s.next);
+    } };
 
-    ghost invariant = { λ s. ByKey 0 0 s.rows.items };
+    ghost invariant = { λ s. s.next.entries ≡ [] };
 }
 
 impl Rows {
     /// No page was put.
     pub fn new(alloc: Global) -> Rows
-        ensures { result ≡ record { rows = []; spare = 0 } }
+        ensures { result.rows ≡ [] }
     {
         Rows {
-            rows: Vec::new(alloc),
+            alloc,
+            rows: IndexMap::new(alloc),
+            next: IndexMap::new(alloc),
         }
     }
 
-    /// Makes room for a further page.
-    pub fn reserve(&mut self) -> Result<(), NoMemory>
+    /// Makes room for a page.
+    pub fn reserve(&mut self, key: PageKey) -> Result<(), NoMemory>
         ensures rows { self.new.rows ≡ self.old.rows }
-        ensures room { OnOk result (0 < self.new.spare) }
+        ensures room { OnOk result (0 < room_of self.new key.object.0) }
     {
+        if let Some(pages) = self.rows.get_mut(&key.object) {
+            pages.reserve(1)?;
+            return Ok(());
+        }
         self.rows.reserve(1)?;
+        self.next.reserve(1)?;
         Ok(())
     }
 
@@ -49,11 +68,8 @@ impl Rows {
     pub fn held(&self, key: PageKey) -> Option<Held>
         ensures { result ≡ held_among key.object.0 key.page.0 self.now.rows }
     {
-        let i = find(&self.rows, key);
-        if !stands_at(&self.rows, i, key) {
-            return None;
-        }
-        Some(self.rows[i].held)
+        let pages = self.rows.get(&key.object)?;
+        pages.get(&key.page).copied()
     }
 
     /// The slot that a page has.
@@ -68,29 +84,23 @@ impl Rows {
 
     /// Puts in or changes the row of a page.
     pub fn put(&mut self, key: PageKey, held: Held)
-        requires { 0 < self.old.spare }
+        requires { 0 < room_of self.old key.object.0 }
         ensures { PutsRow key.object.0 key.page.0 held self.old.rows self.new.rows }
     {
-        let i = find(&self.rows, key);
-        let row = SlotRow { key, held };
-        if stands_at(&self.rows, i, key) {
-            self.rows[i] = row;
+        if let Some(pages) = self.rows.get_mut(&key.object) {
+            let _ = pages.insert(key.page, held);
             return;
         }
-        let _ = self.rows.insert(i, row);
+        let mut pages = mem::replace(&mut self.next, IndexMap::new(self.alloc));
+        let _ = pages.insert(key.page, held);
+        let _ = self.rows.insert(key.object, pages);
     }
 
-    /// Takes the marks from the slots of an object's pages.
-    pub fn free(&self, object: ObjectId, taken: &mut [bool])
-        ensures { FreesSlots object.0 self.now.rows taken.old taken.new }
+    /// Takes out the rows of an object, and gives them.
+    pub fn drop_object(&mut self, object: ObjectId) -> Option<Pages>
+        ensures slots { (p : ℕ) → slot_in_map result p ≡ slot_among object.0 p self.old.rows }
+        ensures dropped { DropsRows object.0 self.old.rows self.new.rows }
     {
-        free_rows(&self.rows, object, taken);
-    }
-
-    /// Takes out the rows of an object.
-    pub fn drop_object(&mut self, object: ObjectId)
-        ensures { DropsRows object.0 self.old.rows self.new.rows }
-    {
-        self.rows.retain(|row| row.key.object.0 != object.0);
+        self.rows.swap_remove(&object)
     }
 }

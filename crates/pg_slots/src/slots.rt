@@ -1,12 +1,14 @@
 // The slots.
-ghost use Rattle.std.specs.Prelude.{ℕ, ◌≡◌, ◌*◌, ◌<◌, ◌≤◌, ◌↔◌, [], List, None, Some, IfOk, MatchOption, OnErr, length, set, true};
+ghost use Rattle.std.specs.Prelude.{ℕ, ◌≡◌, ◌*◌, ◌<◌, ◌≤◌, ◌↔◌, ◌==◌, [], List, None, Some, IfOk, IfSome, MatchOption, OnErr, length, true, if◌then◌else◌};
 ghost use Rattle.pg_slots.specs.Contents.{AgreesWithContent, AnswersHeld, CarriesContent, Content, GetHasCause, GivesStored, IsAreaTold, IsGetAnswer, IsWholePage, PutHasCause, PutTold, SlotsFit, after_put, area_name, content_without, same_content};
-ghost use Rattle.pg_slots.specs.Kept.{AllMarked, IsUnmarked, PutsRow};
+ghost use Rattle.pg_slots.specs.Kept.{AreGivable, FreesSlots, MayTake, PutsRow, is_taken, room_of, slot_in_map};
 ghost use Rattle.pg_slots.specs.Slots.{DropsHeld, GoesTo, HasNoSlot, KeepsShape, PutEffects, held_at, slot_in_table};
 ghost use Rattle.vm_base.specs.Limits.{most_hosts, most_slots};
 ghost use Rattle.vm_outside.specs.Areas.{SameAreas, Told};
 
-use crate::rows::Rows;
+use crate::free_slots::FreeSlots;
+use crate::rows::{Pages, Rows};
+use crate::slot_row::slot_in;
 use crate::{Got, Held, Put};
 use std::alloc::Global;
 use std::marker::Model;
@@ -26,20 +28,18 @@ pub struct Slots {
     host: HostId,
     size: PageSize,
     rows: Rows,
-    // For each slot, whether a page has it.
-    taken: Vec<bool>,
+    free: FreeSlots,
 }
 
 impl Model for Slots {
-    ghost use Rattle.std.specs.Prelude.{length};
     ghost use Rattle.pg_slots.specs.Kept.{AreSlotRows};
     ghost use Rattle.pg_slots.specs.Slots.{SlotTable};
 
     ghost Value = { SlotTable };
 
-    ghost view = { λ s. record { host = s.host.0; size = s.size; count = length s.taken.items; rows = s.rows.rows } };
+    ghost view = { λ s. record { host = s.host.0; size = s.size; count = s.free.count; rows = s.rows.rows } };
 
-    ghost invariant = { λ s. AreSlotRows s.host.0 s.rows.rows s.taken.items };
+    ghost invariant = { λ s. AreSlotRows s.host.0 s.rows.rows s.free };
 }
 
 impl Slots {
@@ -50,13 +50,13 @@ impl Slots {
         ensures value { IfOk result (λ slots. slots ≡ record { host = host.0; size = size; count = count; rows = [] }) }
         ensures fits { IfOk result (λ slots. (told : List ℕ → Told) → SlotsFit told slots (λ o p. None)) }
     {
-        let taken = vec![in alloc; false; count as usize]?;
+        let free = FreeSlots::new(alloc, count)?;
         Ok(Slots {
             alloc,
             host,
             size,
             rows: Rows::new(alloc),
-            taken,
+            free,
         })
     }
 
@@ -91,7 +91,7 @@ impl Slots {
         ensures untouched { result ≡ Ok Put.NoSlot → paging.new ≡ paging.old }
     {
         let slot = self.slot_for(key);
-        self.rows.reserve()?;
+        self.rows.reserve(key)?;
         let Some(slot) = slot else {
             self.rows.put(key, Held::Lost);
             return Ok(Put::NoSlot);
@@ -99,12 +99,12 @@ impl Slots {
         match paging.write(area_of(self.host), place(slot, self.size), bytes.as_slice()) {
             Ok(()) => {
                 let held = Held::Kept { slot };
-                hold(&mut self.rows, &mut self.taken, key, held, slot);
+                hold(&mut self.rows, &mut self.free, key, held, slot);
                 Ok(Put::Kept)
             }
             Err(WriteStop::Failed) => {
                 let held = Held::Torn { slot };
-                hold(&mut self.rows, &mut self.taken, key, held, slot);
+                hold(&mut self.rows, &mut self.free, key, held, slot);
                 Ok(Put::Failed)
             }
             Err(WriteStop::NoMemory) => Err(NoMemory),
@@ -154,8 +154,9 @@ impl Slots {
         ensures fits { (told : List ℕ → Told) (content : Content) → SlotsFit told self.old content
             → SlotsFit told self.new (content_without object.0 content) }
     {
-        self.rows.free(object, &mut self.taken);
-        self.rows.drop_object(object);
+        if let Some(pages) = self.rows.drop_object(object) {
+            give_back(pages, &mut self.free);
+        }
     }
 
     // The slot that a put of a page goes to; None where it has none and none is free.
@@ -164,7 +165,7 @@ impl Slots {
     {
         match self.rows.slot(key) {
             Some(slot) => Some(slot),
-            None => lowest_free(&self.taken),
+            None => self.free.lowest(),
         }
     }
 }
@@ -193,26 +194,27 @@ fn place(slot: u32, size: PageSize) -> u64
     u64::from(slot) * u64::from(size.bytes())
 }
 
-// The lowest slot without a mark.
-fn lowest_free(taken: &[bool]) -> Option<u32>
-    requires { length taken.now ≤ most_slots }
-    ensures { MatchOption result (AllMarked taken.now) (IsUnmarked taken.now) }
-{
-    'all: for (i, mark) in taken.iter().enumerate() {
-        if !*mark {
-            return Some(i as u32);
-        }
-    }
-    None
-}
-
-// Holds this of a page with a slot, and marks the slot.
-fn hold(rows: &mut Rows, taken: &mut Vec<bool>, key: PageKey, held: Held, slot: u32)
-    requires room { 0 < rows.old.spare }
-    requires inside { slot < length taken.old.items }
+// Holds this of a page with a slot, and takes the slot.
+fn hold(rows: &mut Rows, free: &mut FreeSlots, key: PageKey, held: Held, slot: u32)
+    requires room { 0 < room_of rows.old key.object.0 }
+    requires may { MayTake free.old slot }
     ensures rows { PutsRow key.object.0 key.page.0 held rows.old.rows rows.new.rows }
-    ensures taken { taken.new.items ≡ set taken.old.items slot true }
+    ensures count { free.new.count ≡ free.old.count }
+    ensures taken { (s : ℕ) → is_taken free.new s ≡ (if slot == s then true else is_taken free.old s) }
 {
     rows.put(key, held);
-    taken[slot as usize] = true;
+    free.take(slot);
+}
+
+// Gives back the slots of pages.
+fn give_back(pages: Pages, free: &mut FreeSlots)
+    requires { AreGivable (slot_in_map (Some pages)) free.old }
+    ensures { FreesSlots (slot_in_map (Some pages)) free.old free.new }
+{
+    let mut left = pages;
+    'all: while let Some((_, held)) = left.pop() {
+        if let Some(slot) = slot_in(held) {
+            free.give(slot);
+        }
+    }
 }

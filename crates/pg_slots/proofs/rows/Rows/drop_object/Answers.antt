@@ -1,17 +1,11 @@
-use Rattle.std.proofs.Common.{rules}
-use Rattle.std.proofs.lemmas.Fn.{filter_same}
-use Rattle.pg_slots.proofs.Edits.{is_apart}
-use Rattle.pg_slots.proofs.Tables.{filtered}
+use Rattle.std.proofs.Common.{None, ap, sym}
+use Rattle.pg_slots.proofs.Tables.{drops_rows, held_seen, writes_seen}
+use Rattle.pg_slots.specs.Slots.{held_slot}
 use Rattle.pg_slots.proofs.rows.Rows.drop_object.Goals as goal
 
-pub invariant_of-self : goal.invariant_of-self
-invariant_of-self c =
-    let left = filter_same _ (is_apart c.args.object.0) _ (λ x b f' h. search rules) c.self.inside.rows.items _ c.retain.ensures.filtered in
-    let without = filtered c.self.inside.rows.items _ _ c.args.self.now c.args.object.0 c.self.view_is c.self.invariant left in
-    without.kept
+pub returns-clause-slots : goal.returns-clause-slots
+returns-clause-slots c = λ p. rw (← c.self.view_is, c.swap_remove.ensures.value) (ap held_slot (sym (held_seen c.self.inside.rows.entries c.args.object.0 p)))
 
-pub returns : goal.returns
-returns c =
-    let left = filter_same _ (is_apart c.args.object.0) _ (λ x b f' h. search rules) c.self.inside.rows.items _ c.retain.ensures.filtered in
-    let without = filtered c.self.inside.rows.items _ _ c.args.self.now c.args.object.0 c.self.view_is c.self.invariant left in
-    without.drops
+pub returns-clause-dropped : goal.returns-clause-dropped
+returns-clause-dropped c =
+    rw (← c.self.view_is) (drops_rows c.args.object.0 _ _ (writes_seen (λ m. m.entries) c.args.object.0 None c.self.inside.rows.entries c.swap_remove.new.self.entries (λ o. c.swap_remove.ensures.updates.0 (record { 0 = o }))))

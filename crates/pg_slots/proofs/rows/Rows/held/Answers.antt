@@ -1,21 +1,14 @@
-use Rattle.std.proofs.Common.{ap, sym, ◌∙◌, Some, arith}
-use Rattle.pg_slots.proofs.Tables.{absent, placed, present}
+use Rattle.std.proofs.Common.{◌≡◌, ◌==◌, Some, None, rules}
+use Rattle.std.specs.Map.{lookup}
+use Rattle.pg_slots.proofs.Tables.{held_seen}
 use Rattle.pg_slots.proofs.rows.Rows.held.Goals as goal
-use Rattle.pg_slots.specs.declared.slot_row.SlotRow.{SlotRow}
 
-pub returns-then-not-stands_at : goal.returns-then-not-stands_at
-returns-then-not-stands_at c =
-    let place = placed c.self.inside.rows.items c.deref.result.now _ c.args.self.now c.args.key c.find-i.result c.self.view_is c.self.invariant c.deref.ensures.value c.find-i.ensures.value in
-    sym (absent c.self.inside.rows.items c.deref-2.result.now c.args.self.now c.args.key c.find-i.result c.stands_at.result place c.deref-2.ensures.value c.stands_at.ensures c.if-not-stands_at.true)
-
-pub index-requires : goal.index-requires
-index-requires c =
-    let place = placed c.self.inside.rows.items c.deref.result.now _ c.args.self.now c.args.key c.find-i.result c.self.view_is c.self.invariant c.deref.ensures.value c.find-i.ensures.value in
-    let here = present c.self.inside.rows.items c.deref-2.result.now c.args.self.now c.args.key c.find-i.result c.stands_at.result place c.deref-2.ensures.value c.stands_at.ensures c.if-not-stands_at.false in
-    omega (arith, here.at.within, c.self.inside.rows.ok.0)
+pub returns-in_err-pages : goal.returns-in_err-pages
+returns-in_err-pages c =
+    let none : lookup (λ id. c.args.key.object.0 == id.0) c.self.inside.rows.entries ≡ None = search rules in
+    rw (← c.self.view_is) (rw (held_seen c.self.inside.rows.entries c.args.key.object.0 c.args.key.page.0, none) (search rules))
 
 pub returns : goal.returns
 returns c =
-    let place = placed c.self.inside.rows.items c.deref.result.now _ c.args.self.now c.args.key c.find-i.result c.self.view_is c.self.invariant c.deref.ensures.value c.find-i.ensures.value in
-    let here = present c.self.inside.rows.items c.deref-2.result.now c.args.self.now c.args.key c.find-i.result c.stands_at.result place c.deref-2.ensures.value c.stands_at.ensures c.if-not-stands_at.false in
-    ap (λ (z : SlotRow). Some z.held) (c.index.ensures ∙ here.at.is c.index.result.now) ∙ sym here.held
+    let found : lookup (λ id. c.args.key.object.0 == id.0) c.self.inside.rows.entries ≡ Some c.in_ok-pages.pages.now = search rules in
+    rw (← c.self.view_is) (rw (held_seen c.self.inside.rows.entries c.args.key.object.0 c.args.key.page.0, found) (search rules))

@@ -1,44 +1,28 @@
-use Rattle.std.proofs.Common.{refl, ap, ◌≡◌, ◌<◌, arith}
-use Rattle.std.specs.List.{insert}
-use Rattle.std.specs.Vec.{vec_capacity, vec_len}
-use Rattle.pg_slots.proofs.Tables.{absent, changed, inserted, placed, present}
+use Rattle.std.proofs.Common.{◌≡◌, ◌<◌, ◌==◌, Some, None, min, rules, arith}
+use Rattle.indexmap.specs.IndexMap.{spare}
+use Rattle.std.specs.Map.{lookup}
+use Rattle.pg_slots.proofs.Tables.{held_seen, on_ok, puts_row, room_seen, some_of, writes_seen}
 use Rattle.pg_slots.proofs.rows.Rows.put.Goals as goal
-use Rattle.pg_slots.specs.Kept.{RowTable}
 
-pub index_mut-requires : goal.index_mut-requires
-index_mut-requires c =
-    let place = placed c.self.inside.rows.items c.deref.result.now _ c.args.self.now c.args.key c.find-i.result c.self.view_is c.self.invariant c.deref.ensures.value c.find-i.ensures.value in
-    let here = present c.self.inside.rows.items c.deref-2.result.now c.args.self.now c.args.key c.find-i.result c.stands_at.result place c.deref-2.ensures.value c.stands_at.ensures c.if-stands_at.true in
-    omega (arith, here.at.within, c.self.inside.rows.ok.0)
-
-pub invariant_of-self : goal.invariant_of-self
-invariant_of-self c =
-    let place = placed c.self.inside.rows.items c.deref.result.now _ c.args.self.now c.args.key c.find-i.result c.self.view_is c.self.invariant c.deref.ensures.value c.find-i.ensures.value in
-    let here = present c.self.inside.rows.items c.deref-2.result.now c.args.self.now c.args.key c.find-i.result c.stands_at.result place c.deref-2.ensures.value c.stands_at.ensures c.if-stands_at.true in
-    let left = changed c.self.inside.rows.items _ c.args.self.now c.args.key c.find-i.result here.was c.args.held place here.at refl in
-    left.kept
-
-pub returns-then-stands_at : goal.returns-then-stands_at
-returns-then-stands_at c =
-    let place = placed c.self.inside.rows.items c.deref.result.now _ c.args.self.now c.args.key c.find-i.result c.self.view_is c.self.invariant c.deref.ensures.value c.find-i.ensures.value in
-    let here = present c.self.inside.rows.items c.deref-2.result.now c.args.self.now c.args.key c.find-i.result c.stands_at.result place c.deref-2.ensures.value c.stands_at.ensures c.if-stands_at.true in
-    let left = changed c.self.inside.rows.items _ c.args.self.now c.args.key c.find-i.result here.was c.args.held place here.at refl in
-    left.puts
-
-pub invariant_of-self-2 : goal.invariant_of-self-2
-invariant_of-self-2 c =
-    let place = placed c.self.inside.rows.items c.deref.result.now _ c.args.self.now c.args.key c.find-i.result c.self.view_is c.self.invariant c.deref.ensures.value c.find-i.ensures.value in
-    let none = absent c.self.inside.rows.items c.deref-2.result.now c.args.self.now c.args.key c.find-i.result c.stands_at.result place c.deref-2.ensures.value c.stands_at.ensures c.if-stands_at.false in
-    let room : vec_len c.self.inside.rows < vec_capacity c.self.inside.rows = omega (arith, ap (λ (z : RowTable). z.spare) c.self.view_is, c.requires, c.self.inside.rows.ok.0) in
-    let put : c.insert.new.self.items ≡ insert c.self.inside.rows.items c.find-i.result (record { key = c.args.key; held = c.args.held }) = rw (c.insert.ensures.succeeds room) at c.insert.ensures.items in
-    let left = inserted c.self.inside.rows.items c.insert.new.self.items c.args.self.now c.args.key c.find-i.result c.args.held place none put in
-    left.kept
+pub returns-in-Some : goal.returns-in-Some
+returns-in-Some c =
+    let object = c.args.key.object.0 in
+    let found : lookup (λ id. object == id.0) c.self.inside.rows.entries ≡ Some c.in-Some.pages.now = search rules in
+    let room : 0 < spare c.in-Some.pages.now = rw (room_seen c.self.inside.rows.entries object _, found) at (rw (← c.self.view_is) at c.requires) in
+    let row = on_ok c.insert.result _ c.insert.ensures.updates (c.insert.ensures.succeeds room) in
+    let there = (c.get_mut.follows.holds c.insert.new.self).3 (some_of _ _ found) in
+    rw (← c.self.view_is) (puts_row object c.args.key.page.0 c.args.held _ _ c.insert.new.self.entries
+    (writes_seen (λ m. m.entries) object (Some c.insert.new.self) c.self.inside.rows.entries _ (λ o. there.0 (record { 0 = o })))
+    (λ p. rw (held_seen c.self.inside.rows.entries object p, found) (row.0 (record { 0 = p }))))
 
 pub returns : goal.returns
 returns c =
-    let place = placed c.self.inside.rows.items c.deref.result.now _ c.args.self.now c.args.key c.find-i.result c.self.view_is c.self.invariant c.deref.ensures.value c.find-i.ensures.value in
-    let none = absent c.self.inside.rows.items c.deref-2.result.now c.args.self.now c.args.key c.find-i.result c.stands_at.result place c.deref-2.ensures.value c.stands_at.ensures c.if-stands_at.false in
-    let room : vec_len c.self.inside.rows < vec_capacity c.self.inside.rows = omega (arith, ap (λ (z : RowTable). z.spare) c.self.view_is, c.requires, c.self.inside.rows.ok.0) in
-    let put : c.insert.new.self.items ≡ insert c.self.inside.rows.items c.find-i.result (record { key = c.args.key; held = c.args.held }) = rw (c.insert.ensures.succeeds room) at c.insert.ensures.items in
-    let left = inserted c.self.inside.rows.items c.insert.new.self.items c.args.self.now c.args.key c.find-i.result c.args.held place none put in
-    left.puts
+    let object = c.args.key.object.0 in
+    let none : lookup (λ id. object == id.0) c.self.inside.rows.entries ≡ None = search rules in
+    let same : c.get_mut.follows.lender-at-none ≡ c.self.inside.rows = search rules in
+    let room : 0 < min (spare c.self.inside.rows) (spare c.self.inside.next) = rw (room_seen c.self.inside.rows.entries object _, none) at (rw (← c.self.view_is) at c.requires) in
+    let row = on_ok c.insert-2.result _ c.insert-2.ensures.updates (c.insert-2.ensures.succeeds (rw c.replace-pages.ensures.value (grind (arith, room)))) in
+    let there = on_ok c.insert-3.result _ c.insert-3.ensures.updates (c.insert-3.ensures.succeeds (rw same (grind (arith, room)))) in
+    rw (← c.self.view_is) (puts_row object c.args.key.page.0 c.args.held _ _ c.insert-2.new.self.entries
+    (writes_seen (λ m. m.entries) object (Some c.insert-2.new.self) c.self.inside.rows.entries _ (λ o. rw same at (there.0 (record { 0 = o }))))
+    (λ p. rw (held_seen c.self.inside.rows.entries object p, none) (rw (c.replace-pages.ensures.value, c.self.invariant) at (row.0 (record { 0 = p })))))
