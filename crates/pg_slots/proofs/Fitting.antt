@@ -1,5 +1,5 @@
 -- What slots and backing fit after a call.
-use Rattle.std.proofs.Common.{ℕ, ◌≡◌, ◌≢◌, ◌+◌, ◌-◌, ◌*◌, ◌≤◌, ◌<◌, ◌==◌, ◌&&◌, ◌⊎◌, ◌++◌, inl, inr, Bool, true, false, List, [], ◌∷◌, length, take, drop, replicate, append-nil, Option, Some, None, Result, Ok, Err, refl, sym, ◌∙◌, ap, subst, ⊎_elim, arith}
+use Rattle.std.proofs.Common.{ℕ, ◌≡◌, ◌≢◌, ◌+◌, ◌*◌, ◌≤◌, ◌<◌, ◌==◌, ◌&&◌, ◌⊎◌, ◌++◌, inl, inr, Bool, true, false, List, [], ◌∷◌, length, take, drop, Option, Some, None, Result, Ok, Err, refl, sym, ◌∙◌, ap, subst, ⊎_elim, arith}
 use Rattle.std.proofs.lemmas.Bool.{cases_Bool, cases_order, false≢true}
 use Rattle.std.proofs.lemmas.Option.{same_Some}
 use Rattle.std.specs.Result.{is_err}
@@ -202,9 +202,6 @@ front : (xs ys : List ℕ) → take (length xs) (xs ++ ys) ≡ xs
 front [] ys = refl
 front (x ∷ xs) ys = ap (λ (z : List ℕ). x ∷ z) (front xs ys)
 
--- a page that is filled with a whole page of bytes has these bytes
-pub whole_page : (n : ℕ) (buffer items zeroed found page : List ℕ) → length buffer ≡ n → length zeroed ≡ n → found ≡ take n (buffer ++ drop (length buffer) items) → page ≡ found ++ replicate (length zeroed - length found) 0 → page ≡ buffer
-whole_page n buffer items zeroed found page long zeros is full =
-    let one : found ≡ buffer = is ∙ rw (← long) (front buffer (drop (length buffer) items)) in
-    let none : length zeroed - length buffer ≡ 0 = omega arith in
-    full ∙ rw (one, none) (append-nil buffer)
+-- where a whole page of bytes is written back, the page has these bytes
+pub whole_page : (n : ℕ) (buffer items page : List ℕ) → length buffer ≡ n → page ≡ take n (buffer ++ drop (length buffer) items) → page ≡ buffer
+whole_page n buffer items page long is = is ∙ rw (← long) (front buffer (drop (length buffer) items))

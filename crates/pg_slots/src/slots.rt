@@ -135,16 +135,16 @@ impl Slots {
             Some(Held::Torn { slot: _ } | Held::Lost) => return Ok(Got::Lost),
             Some(Held::Kept { slot }) => slot,
         };
-        let mut buffer = vec![in self.alloc; 0u8; self.size.bytes() as usize]?;
-        let mut bytes = PageBytes::zero(self.alloc, self.size)?;
+        let mut bytes = vec![in self.alloc; 0u8; self.size.bytes() as usize]?;
         if paging
-            .read(area_of(self.host), place(slot, self.size), &mut buffer)
+            .read(area_of(self.host), place(slot, self.size), &mut bytes)
             .is_err()
         {
             return Ok(Got::Failed);
         }
-        bytes.fill(&buffer);
-        Ok(Got::Page { bytes })
+        Ok(Got::Page {
+            bytes: PageBytes::of(bytes),
+        })
     }
 
     /// Frees the slots of an object's pages, and forgets which of them were lost. It takes no

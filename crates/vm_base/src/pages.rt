@@ -68,6 +68,13 @@ impl PageBytes {
         Ok(PageBytes { bytes })
     }
 
+    /// The page with these bytes.
+    pub fn of(bytes: Vec<u8>) -> PageBytes
+        ensures { result ≡ bytes.items }
+    {
+        PageBytes { bytes }
+    }
+
     /// The number in the `n` bytes from `at` on, of which there are 1, 2, 4 or 8, the lowest first.
     pub fn get(&self, at: u32, n: u32) -> u64
         requires size { IsAccessSize n }
