@@ -1,5 +1,5 @@
 -- Commands that change a task's entries, from their beginning to their end.
-use Rattle.vm_kernel.proofs.Common.{Access, AllReferred, AllRows, AllUsed, ChainTable, ChangesOnly, Code, Entry, Event, HasEntries, HasHomes, HasKinds, HasPages, HasRegions, HasUse, HasWaiters, Header, Ids, Inherit, IsInside, List, Lowered, MapChange, Mapped, None, Option, Outside, Parts, Prot, Raised, Ran, RegionRow, Rests, Some, Starts, TaskId, Waiting, [], acting, all_tasks, ap, arith, backing_of, code_where, copy_target, count_by, count_on, entries_in, entries_in_row, entries_of, entry, eqb_tells, false, fills, has_entry, has_region, holds, home_of, host_of, if◌then◌else◌, in_use, inheritance, inherited, inl, inr, is_copied, is_none, is_range, is_some, is_woken, length, local, marked_regions, meets_declared, most_entries, named, next_object, next_page, next_region, place_of, protected, protection, refl, refusal, region_at, region_entries, region_of, rows_in, rows_map, subst, suc, sym, tasks, true, unwrap_or, waiting, waiting_in, zero, ℕ, ◌&&◌, ◌*◌, ◌+◌, ◌-◌, ◌<◌, ◌==◌, ◌||◌, ◌∙◌, ◌∷◌, ◌≡◌, ◌≤◌}
+use Rattle.vm_kernel.proofs.Common.{Access, AllReferred, AllRows, AllUsed, ChainTable, ChangesOnly, Code, Entry, Event, HasEntries, HasHomes, HasKinds, HasPages, HasRegions, HasUse, HasWaiters, Header, Ids, Inherit, IsInside, List, MapChange, Mapped, None, Option, Outside, Parts, Prot, Raised, Ran, RegionRow, Rests, Some, Starts, TaskId, Waiting, [], acting, all_tasks, ap, arith, backing_of, code_where, copy_target, count_by, count_on, cut_at_ends, entries_in, entries_in_row, entries_of, entry, eqb_tells, false, fills, has_entry, has_region, holds, home_of, host_of, if◌then◌else◌, in_use, inheritance, inherited, inl, inr, is_copied, is_none, is_range, is_some, is_woken, local, marked_regions, meets_declared, most_entries, named, next_object, next_page, next_region, not-false, place_of, protected, protection, refl, region_at, region_entries, region_of, removed, rows_in, rows_map, subst, suc, sym, tasks, true, unwrap_or, waiting, waiting_in, zero, ℕ, ◌&&◌, ◌*◌, ◌+◌, ◌-◌, ◌<◌, ◌==◌, ◌^◌, ◌||◌, ◌∙◌, ◌∷◌, ◌≡◌, ◌≤◌}
 use Rattle.vm_kernel.proofs.Filled.{recount_filled, same_waiting}
 use Rattle.vm_state.proofs.Filling.{copies_kept, rows_unmade}
 use Rattle.vm_state.specs.Places.{known_local}
@@ -13,16 +13,16 @@ use Rattle.vm_model.specs.declared.command.Command.TheVariants as command
 use Rattle.vm_supply.specs.declared.woken.Woken.TheVariants as woken
 use Rattle.vm_kernel.proofs.After.{Leaves, controls_after, homeless_after, regions_after}
 use Rattle.vm_kernel.proofs.Counts.{by_changed, by_few, most_is}
-use Rattle.vm_kernel.proofs.Cutting.{Cuts, inherit_cuts, protect_cuts}
+use Rattle.vm_kernel.proofs.Cutting.{Cuts, MayCut, inherit_cuts, may_cut, protect_cuts}
 use Rattle.vm_kernel.proofs.Growing.{suffices}
 use Rattle.vm_kernel.proofs.Heads.{grows_one, passed}
-use Rattle.vm_kernel.proofs.Recounts.{Recounts, entries_are, entries_most, lowered_recounts, raised_recounts, recounts_as, recounts_twice}
+use Rattle.vm_kernel.proofs.Recounts.{raised_recounts}
 use Rattle.vm_kernel.proofs.Regions.{region_row, tops_recounted}
-use Rattle.vm_kernel.proofs.Rewrites.{entries_changed, lives_below, on_among, recount_homes, recount_known, recount_referred, recount_regions, recount_used, tasks_changed}
+use Rattle.vm_kernel.proofs.Rewrites.{entries_changed, lives_below, on_among, recount_homes, recount_referred, recount_regions, recount_used, tasks_changed}
 use Rattle.vm_kernel.proofs.Uses.{uses_same, holds_rows}
 use Rattle.vm_state.proofs.Waited.{waits_changed, told_changed}
 use Rattle.vm_kernel.proofs.Mine.{own_task}
-use Rattle.vm_kernel.proofs.Own.{rows_here}
+use Rattle.vm_kernel.proofs.Own.{lives_in, rows_here}
 use Rattle.vm_kernel.proofs.Sharing.{kinds_recounted, shared_changed, shared_inherited, shared_protected}
 use Rattle.vm_kernel.proofs.Replied.{replied_behind}
 
@@ -35,7 +35,7 @@ by_most (suc n) r task maps less = elim (eqb_tells n task) [
   | inr apart ↦ let later = by_most n r task maps (let other = apart.1 in grind arith) in omega arith
 ]
 
-pub counted : (size task : ℕ) (maps : Mapped) (cs : ChainTable) (lost : List Entry) → HasEntries size maps cs lost → entries_in task maps ≡ Some (rows_in task maps) → (r : ℕ) → has_region cs r ≡ true → count_on r (rows_in task maps) ≤ region_entries cs r
+counted : (size task : ℕ) (maps : Mapped) (cs : ChainTable) (lost : List Entry) → HasEntries size maps cs lost → entries_in task maps ≡ Some (rows_in task maps) → (r : ℕ) → has_region cs r ≡ true → count_on r (rows_in task maps) ≤ region_entries cs r
 counted size task maps cs lost has lives r there =
     let row = region_row cs r there in
     let counts = has.counts r row.0 row.1 in
@@ -43,10 +43,10 @@ counted size task maps cs lost has lives r there =
     let most = by_most all_tasks r task maps (lives_below size task maps cs lost has lives) in
     omega arith
 
-pub entries_few : (size : ℕ) (maps : Mapped) (cs : ChainTable) → HasEntries size maps cs [] → (r : ℕ) → region_entries cs r ≤ 262144
+pub entries_few : (size : ℕ) (maps : Mapped) (cs : ChainTable) → HasEntries size maps cs [] → (r : ℕ) → region_entries cs r < 2 ^ 32 - 2
 entries_few size maps cs has r = go (region_at cs r) refl
   where
-    go : (x : Option RegionRow) → region_at cs r ≡ x → entries_in_row x ≤ 262144
+    go : (x : Option RegionRow) → region_at cs r ≡ x → entries_in_row x < 2 ^ 32 - 2
     go None is = omega arith
     go (Some row) is =
         let counts = has.counts r row is in
@@ -91,37 +91,38 @@ pub record Changed (header : Header) (h : ℕ) (past : List Event) (k : Parts) (
   pub referred : AllReferred chains k.memory.objects k.memory.resident
   pub waits : HasWaiters maps chains k.memory.resident k.memory.objects k.waits.rows (is_woken woken.Nobody) (λ t. waiting t past)
 
-pub changed_by : (header : Header) (h : ℕ) (past : List Event) (k : Parts) (ids : Ids) (maps : Mapped) (chains : ChainTable) (task : ℕ) (rows : Option (List Entry)) (lost : List Entry) (count : ℕ → ℕ) → Rests header h k ids past → waiting task past ≡ None
-    → ChangesOnly k.maps maps task rows → entries_in task k.maps ≡ Some (rows_in task k.maps) → Cuts header.size k.chains (rows_in task k.maps) (unwrap_or rows []) lost → Recounts count k.chains chains
-    → ((r : ℕ) → has_region k.chains r ≡ true → count r + count_on r (rows_in task k.maps) ≡ region_entries k.chains r + (count_on r (unwrap_or rows []) + count_on r lost)) → Changed header h past k ids maps chains lost
-changed_by header h past k ids maps chains task rows lost count rests idle changes lives cuts is sums =
+pub changed_by : (header : Header) (h : ℕ) (past : List Event) (k : Parts) (ids : Ids) (maps : Mapped) (chains : ChainTable) (task : ℕ) (rows : Option (List Entry)) (lost more : List Entry) → Rests header h k ids past → waiting task past ≡ None
+    → ChangesOnly k.maps maps task rows → entries_in task k.maps ≡ Some (rows_in task k.maps) → Cuts header.size k.chains (rows_in task k.maps) (unwrap_or rows []) lost more → Raised more k.chains chains → Changed header h past k ids maps chains lost
+changed_by header h past k ids maps chains task rows lost more rests idle changes lives cuts up =
     let m = rests.matches in
     let old = rows_in task k.maps in
-    let made = unwrap_or rows [] in
+    let is = raised_recounts more k.chains chains up in
     record {
       regions = recount_regions count k.chains chains k.memory.objects ids (λ r. region_of header r past) (λ o. backing_of header o past) (next_region header past) (next_object header past) (marked_regions header past) is m.regions;
-      entries = entries_changed header.size task k.maps maps k.chains chains count rows lost m.entries changes lives is sums cuts.inside cuts.known cuts.few;
+      entries = entries_changed header.size task k.maps maps k.chains chains count rows lost m.entries changes lives is (λ r there. let sum = cuts.sums r in omega arith) cuts.inside cuts.known cuts.few;
       kinds = kinds_recounted header count k.memory.objects k.chains chains is m.kinds;
       homes = recount_homes count header h k.chains chains (λ r. home_of r past) is m.homes;
       pages = m.pages;
       used = record {
-        regions = recount_used count k.chains chains is (λ r there some. let sum = sums r there in let kept = cuts.kept r in omega arith) k.waits.rows rests.used.regions;
+        regions = recount_used count k.chains chains is (λ r there some. omega arith) k.waits.rows rests.used.regions;
         copies = copies_kept k.maps maps k.chains chains k.memory.resident k.memory.resident rests.used.copies (same_waiting k.maps maps task rows k.waits.rows changes (not_there header h past k ids task old rests lives idle))
-            (recount_filled count k.chains chains is (λ r there none. none_counted r there none)) (rows_unmade k.chains k.memory.resident);
+            (recount_filled count k.chains chains is none_counted) (rows_unmade k.chains k.memory.resident);
       };
       referred = recount_referred count k.chains chains k.memory.objects k.memory.resident is rests.referred;
       waits = waits_changed k.maps maps k.chains chains k.memory.resident k.memory.objects k.waits.rows (is_woken woken.Nobody) (λ t. waiting t past) task rows rests.waits changes (not_there header h past k ids task old rests lives idle) (tops_recounted count k.chains chains is)
           (told_changed k.maps maps k.waits.rows (λ t. waiting t past) task old rows rests.waits.is changes lives);
     }
   where
+    count : ℕ → ℕ
+    count r = region_entries k.chains r + count_on r more
+
     -- a region without entries has none of the new ones
     none_counted : (r : ℕ) → has_region k.chains r ≡ true → region_entries k.chains r ≡ 0 → count r ≡ 0
     none_counted r there none =
         let had : count_on r (rows_in task k.maps) ≤ region_entries k.chains r = counted header.size task k.maps k.chains [] rests.matches.entries lives r there in
-        let sum = sums r there in
         let made_none = none_among r (rows_in task k.maps) (unwrap_or rows []) cuts.own (omega (arith, had, none)) in
         let lost_none = none_among r (rows_in task k.maps) lost cuts.gone (omega (arith, had, none)) in
-        omega (arith, sum, had, none, made_none, lost_none)
+        omega (arith, cuts.sums r, had, none, made_none, lost_none)
 
 -- a region is in use as long as before where no entry on it is new, and after where none goes
 
@@ -139,60 +140,62 @@ uses_fewer size task r maps new cs rows has changes lives own some = by_count (c
         let most = by_most all_tasks r task maps below in
         omega arith
 
-pub uses_kept : (header : Header) (h : ℕ) (past : List Event) (k : Parts) (ids : Ids) (maps : Mapped) (task : ℕ) (two : List Entry) → Rests header h k ids past → ChangesOnly k.maps maps task (Some two) → entries_in task k.maps ≡ Some (rows_in task k.maps)
-    → Cuts header.size k.chains (rows_in task k.maps) two [] → (own : ℕ → List Entry)
+pub uses_kept : (header : Header) (h : ℕ) (past : List Event) (k : Parts) (ids : Ids) (maps : Mapped) (task : ℕ) (two more : List Entry) → Rests header h k ids past → ChangesOnly k.maps maps task (Some two) → entries_in task k.maps ≡ Some (rows_in task k.maps)
+    → Cuts header.size k.chains (rows_in task k.maps) two [] more → (own : ℕ → List Entry)
     → HasUse header maps k.waits.rows (λ r. in_use header h r past) (tasks past) (λ t r. has_entry r (if task == t then own t else entries_of header.size t past) || fills r (waiting t past) (copy_target t past)) (next_region header past)
-uses_kept header h past k ids maps task two rests changes lives cuts own =
+uses_kept header h past k ids maps task two more rests changes lives cuts own =
     let m = rests.matches in
     uses_same header k.maps maps (λ r. in_use header h r past) (tasks past) (λ t r. holds header.size t r past) _ (next_region header past) task two m.uses changes lives
-    (λ r some. let moved = by_changed all_tasks r task k.maps maps (Some two) (lives_below header.size task k.maps k.chains [] m.entries lives) changes in let kept = cuts.kept r in omega arith)
+    (λ r some. let moved = by_changed all_tasks r task k.maps maps (Some two) (lives_below header.size task k.maps k.chains [] m.entries lives) changes in let sum = cuts.sums r in omega arith)
     (λ r some. uses_fewer header.size task r k.maps maps k.chains (Some two) m.entries changes lives cuts.own some)
     (λ t r none. holds_rows header.size task t r k.maps (rows_in task k.maps) (own t) past lives none)
 
--- counts that go down, and up again
-pub recounted : (rows made : List Entry) (old mid new : ChainTable) → Lowered rows old mid → Raised made mid new → Recounts (λ r. region_entries old r - count_on r rows + count_on r made) old new
-recounted rows made old mid new down up =
-    let one = lowered_recounts rows old mid down in
-    let two = raised_recounts made mid new up in
-    recounts_as (λ r. region_entries mid r + count_on r made) (λ r. region_entries old r - count_on r rows + count_on r made) old new
-    (recounts_twice (λ r. region_entries old r - count_on r rows) (λ r. region_entries mid r + count_on r made) old mid new one two)
-    (λ r there. ap (λ z. z + count_on r made) (entries_are (λ r. region_entries old r - count_on r rows) old mid one r there))
+-- the entries of a task lead to regions
+pub all_there : {header : Header} {h : ℕ} {past : List Event} {k : Parts} {ids : Ids} (task : ℕ) → Rests header h k ids past → AllRows (λ row. has_region k.chains row.region.0 ≡ true) (rows_in task k.maps)
+all_there {header = header} {k = k} task rests = rows_map (IsInside header.size k.chains) (λ row. has_region k.chains row.region.0 ≡ true) (λ row is. is.region) (rows_in task k.maps) (rests.matches.entries.inside task)
 
-pub lowered_few : (rows : List Entry) (old mid : ChainTable) → Lowered rows old mid → ((r : ℕ) → region_entries old r ≤ 262144) → (r : ℕ) → region_entries mid r ≤ 262144
-lowered_few rows old mid down few r =
-    let most = entries_most (λ r. region_entries old r - count_on r rows) old mid (lowered_recounts rows old mid down) r in
-    let all = few r in
-    omega arith
+-- what a task that acts lets a command do to a range of its entries
 
--- what was made can be counted
-pub raise_there : (size : ℕ) (old mid : ChainTable) (rows made lost : List Entry) → Cuts size old rows made lost → Lowered rows old mid → AllRows (λ row. has_region mid row.region.0 ≡ true) made
-raise_there size old mid rows made lost cuts down =
-    recount_known (λ r. region_entries old r - count_on r rows) old mid (lowered_recounts rows old mid down) made (rows_map (IsInside size old) (λ row. has_region old row.region.0 ≡ true) (λ row is. is.region) made cuts.inside)
+acted : (task : ℕ) (past : List Event) (later : Option Code) → acting past task later ≡ None → later ≡ None
+acted task past later accepted = (passed (is_some (waiting task past)) code.Blocked later (passed (is_none (host_of task past)) code.NoSuchName (code_where (is_some (waiting task past)) code.Blocked later) accepted).1).1
 
--- counts, once the rows were taken off and what was made of them was put on
-pub changed_counts : (header : Header) (h : ℕ) (past : List Event) (k : Parts) (ids : Ids) (maps : Mapped) (mid chains : ChainTable) (task : ℕ) (one two : List Entry) → Rests header h k ids past → waiting task past ≡ None
-    → ChangesOnly k.maps maps task (Some two) → entries_in task k.maps ≡ Some one → Cuts header.size k.chains (rows_in task k.maps) two [] → Lowered one k.chains mid → Raised two mid chains → Changed header h past k ids maps chains []
-changed_counts header h past k ids maps mid chains task one two rests idle changes value cuts down up =
-    let live = lives_as task k.maps one value in
-    let rows = rows_in task k.maps in
-    let down2 = subst (λ (z : List Entry). Lowered z k.chains mid) (sym live.0) down in
-    changed_by header h past k ids maps chains task (Some two) [] (λ r. region_entries k.chains r - count_on r rows + count_on r two) rests idle changes live.1 cuts (recounted rows two k.chains mid chains down2 up)
-    (λ r there. let most = counted header.size task k.maps k.chains [] rests.matches.entries live.1 r there in omega arith)
-
-pub ran_protect : (header : Header) (h : ℕ) (outside : Outside) (task : TaskId) (address bytes : ℕ) (prot : Prot) (past events : List Event) (k : Parts) (ids : Ids) (maps : Mapped) (mid chains : ChainTable) (change : MapChange) (one two : List Entry)
-    → Starts header h (command.Protect task address bytes prot) past k ids events → change ≡ protection address bytes prot
-    → ChangesOnly k.maps maps task.0 (Some (protected k.maps.size change.address change.bytes change.prot (rows_in task.0 k.maps)))
-    → entries_in task.0 k.maps ≡ Some one → entries_in task.0 maps ≡ Some two → length two ≤ most_entries → Lowered one k.chains mid → Raised two mid chains
-    → Ran header h outside (command.Protect task address bytes prot) past (record k { maps = maps; chains = chains }) ids (event.Protected task address bytes prot ∷ [])
-ran_protect header h outside task address bytes prot past events k ids maps mid chains change one two s is changes value now few down up =
+pub may_remove : {header : Header} {h : ℕ} {task : TaskId} {address bytes : ℕ} {past events : List Event} {k : Parts} {ids : Ids} → Starts header h (command.Deallocate task address bytes) past k ids events → MayCut address bytes (removed header.size address bytes (rows_in task.0 k.maps))
+may_remove {header = header} {task = task} {address = address} {bytes = bytes} {past = past} {k = k} s =
     let m = s.rests.matches in
-    let live = lives_as task.0 k.maps one value in
+    let full = are_too_many (removed header.size address bytes (entries_of header.size task.0 past)) in
+    let first = passed (not (is_range header.size address bytes)) code.InvalidArgument (code_where full code.TableFull None) (acted task.0 past _ s.accepted) in
+    let second = passed full code.TableFull None first.1 in
+    may_cut header.size address bytes (removed header.size address bytes (rows_in task.0 k.maps)) (not-false (is_range header.size address bytes) first.0)
+    (ap (λ z. are_too_many (removed header.size address bytes z)) (sym (rows_here m.tasks (lives_in task.0 m.tasks s.acts))) ∙ second.0)
+
+pub may_protect : {header : Header} {h : ℕ} {task : TaskId} {address bytes : ℕ} {prot : Prot} {past events : List Event} {k : Parts} {ids : Ids} → Starts header h (command.Protect task address bytes prot) past k ids events
+    → MayCut address bytes (protected header.size address bytes prot (rows_in task.0 k.maps))
+may_protect {header = header} {task = task} {address = address} {bytes = bytes} {prot = prot} {past = past} {k = k} s =
+    let m = s.rests.matches in
+    let rows = entries_of header.size task.0 past in
+    let full = are_too_many (protected header.size address bytes prot rows) in
+    let last = code_where full code.TableFull None in
+    let first = passed (not (is_range header.size address bytes)) code.InvalidArgument (code_where (not (is_mapped header.size address bytes rows)) code.InvalidAddress last) (acted task.0 past _ s.accepted) in
+    let second = passed (not (is_mapped header.size address bytes rows)) code.InvalidAddress last first.1 in
+    let third = passed full code.TableFull None second.1 in
+    may_cut header.size address bytes (protected header.size address bytes prot (rows_in task.0 k.maps)) (not-false (is_range header.size address bytes) first.0)
+    (ap (λ z. are_too_many (protected header.size address bytes prot z)) (sym (rows_here m.tasks (lives_in task.0 m.tasks s.acts))) ∙ third.0)
+
+pub ran_protect : (header : Header) (h : ℕ) (outside : Outside) (task : TaskId) (address bytes : ℕ) (prot : Prot) (past events : List Event) (k : Parts) (ids : Ids) (maps : Mapped) (chains : ChainTable) (change : MapChange)
+    → Starts header h (command.Protect task address bytes prot) past k ids events → change ≡ protection address bytes prot
+    → ChangesOnly k.maps maps task.0 (Some (protected k.maps.size change.address change.bytes change.prot (rows_in task.0 k.maps))) → Raised (cut_at_ends address bytes (rows_in task.0 k.maps)) k.chains chains
+    → Ran header h outside (command.Protect task address bytes prot) past (record k { maps = maps; chains = chains }) ids (event.Protected task address bytes prot ∷ [])
+ran_protect header h outside task address bytes prot past events k ids maps chains change s is changes up =
+    let m = s.rests.matches in
+    let lives = lives_in task.0 m.tasks s.acts in
     let rows = rows_in task.0 k.maps in
-    let cuts = protect_cuts header.size address bytes task.0 prot k.maps maps k.chains change two m.entries m.tasks.sized is changes now few in
+    let made = protected header.size address bytes prot rows in
+    let more = cut_at_ends address bytes rows in
+    let cuts = protect_cuts header.size address bytes prot k.chains rows (m.entries.inside task.0) (may_protect s) in
     let idle = acts task.0 past _ s.accepted in
-    let c = changed_counts header h past k ids maps mid chains task.0 one two s.rests idle (record { size = changes.size; changed = now; others = changes.others }) value cuts down up in
-    let same : ChangesOnly k.maps maps task.0 (Some (protected header.size address bytes prot rows)) =
+    let same : ChangesOnly k.maps maps task.0 (Some made) =
     record { size = changes.size; changed = changes.changed ∙ ap Some (ap (λ z. protected k.maps.size z.address z.bytes z.prot rows) is ∙ ap (λ z. protected z address bytes prot rows) m.tasks.sized); others = changes.others } in
+    let c = changed_by header h past k ids maps chains task.0 (Some made) [] more s.rests idle same lives cuts up in
     let leaves : Leaves header past (event.Protected task address bytes prot ∷ past) = record { regions_made = refl; objects_made = refl; region = λ r. refl; backing = λ o. refl; home = λ r. refl; made_for = λ o. refl; used = λ g r. refl; target = λ task. refl } in
     let rests : Rests header h (record k { maps = maps; chains = chains }) ids (event.Protected task address bytes prot ∷ past) =
     record {
@@ -201,16 +204,16 @@ ran_protect header h outside task address bytes prot past events k ids maps mid 
             ranged = m.ranged;
             declared = m.declared;
             kinds = c.kinds;
-            shared = shared_changed (named header) task.0 k.maps maps (Some (protected header.size address bytes prot rows)) same (shared_protected (named header) header.size address bytes prot rows (m.shared task.0)) m.shared;
+            shared = shared_changed (named header) task.0 k.maps maps (Some made) same (shared_protected (named header) header.size address bytes prot rows (m.shared task.0)) m.shared;
             known = m.known;
             size = m.size;
             host = m.host;
             fits = record { parts = m.fits.parts; plain = m.fits.plain; buffers = m.fits.buffers };
-            tasks = tasks_changed h header.size task.0 k.maps maps (λ t. host_of t past) (λ t. entries_of header.size t past) (protected header.size address bytes prot) m.tasks same live.1;
+            tasks = tasks_changed h header.size task.0 k.maps maps (λ t. host_of t past) (λ t. entries_of header.size t past) (protected header.size address bytes prot) m.tasks same lives;
             regions = regions_after leaves c.regions;
             entries = c.entries;
             pages = c.pages;
-            uses = uses_kept header h past k ids maps task.0 two s.rests (record { size = changes.size; changed = now; others = changes.others }) live.1 cuts (λ t. protected header.size address bytes prot (entries_of header.size t past));
+            uses = uses_kept header h past k ids maps task.0 made more s.rests same lives cuts (λ t. protected header.size address bytes prot (entries_of header.size t past));
             controls = controls_after leaves m.controls;
             homeless = homeless_after leaves m.homeless;
             homes = c.homes;
@@ -232,36 +235,42 @@ ran_protect header h outside task address bytes prot past events k ids maps mid 
       done = tt;
     }
 
--- no entry on a declared object is in a range that a fork is to copy
-not_met : (header : Header) (task address bytes : ℕ) (inherit : Inherit) (past : List Event) → refusal header past (command.Inherit (record { 0 = task }) address bytes inherit) ≡ None
-    → (is_copied inherit && meets_declared (named header) address bytes (entries_of header.size task past)) ≡ false
-not_met header task address bytes inherit past accepted =
-    let rows = entries_of header.size task past in
-    let tests = not (is_range header.size address bytes) || (is_copied inherit && meets_declared (named header) address bytes rows) in
-    let last = code_where (not (is_mapped header.size address bytes rows)) code.InvalidAddress (code_where (are_too_many (inherited header.size address bytes inherit rows)) code.TableFull None) in
-    let next = code_where tests code.InvalidArgument last in
-    let first = passed (is_none (host_of task past)) code.NoSuchName (code_where (is_some (waiting task past)) code.Blocked next) accepted in
-    let second = passed (is_some (waiting task past)) code.Blocked next first.1 in
-    let third = passed tests code.InvalidArgument last second.1 in
-    (or_parts (not (is_range header.size address bytes)) (is_copied inherit && meets_declared (named header) address bytes rows) third.0).1
-
-pub ran_inherit : (header : Header) (h : ℕ) (outside : Outside) (task : TaskId) (address bytes : ℕ) (inherit : Inherit) (past events : List Event) (k : Parts) (ids : Ids) (maps : Mapped) (mid chains : ChainTable) (change : MapChange) (one two : List Entry)
-    → Starts header h (command.Inherit task address bytes inherit) past k ids events → change ≡ inheritance address bytes inherit
-    → ChangesOnly k.maps maps task.0 (Some (inherited k.maps.size change.address change.bytes change.inherit (rows_in task.0 k.maps)))
-    → entries_in task.0 k.maps ≡ Some one → entries_in task.0 maps ≡ Some two → length two ≤ most_entries → Lowered one k.chains mid → Raised two mid chains
-    → Ran header h outside (command.Inherit task address bytes inherit) past (record k { maps = maps; chains = chains }) ids (event.Inherited task address bytes inherit ∷ [])
-ran_inherit header h outside task address bytes inherit past events k ids maps mid chains change one two s is changes value now few down up =
+-- here no entry on a declared object is in a range that a fork is to copy, too
+pub may_inherit : {header : Header} {h : ℕ} {task : TaskId} {address bytes : ℕ} {inherit : Inherit} {past events : List Event} {k : Parts} {ids : Ids} → Starts header h (command.Inherit task address bytes inherit) past k ids events
+    → MayCut address bytes (inherited header.size address bytes inherit (rows_in task.0 k.maps)) × ((is_copied inherit && meets_declared (named header) address bytes (rows_in task.0 k.maps)) ≡ false)
+may_inherit {header = header} {task = task} {address = address} {bytes = bytes} {inherit = inherit} {past = past} {k = k} s =
     let m = s.rests.matches in
-    let live = lives_as task.0 k.maps one value in
+    let rows = entries_of header.size task.0 past in
+    let own = sym (rows_here m.tasks (lives_in task.0 m.tasks s.acts)) in
+    let full = are_too_many (inherited header.size address bytes inherit rows) in
+    let last = code_where full code.TableFull None in
+    let next = code_where (not (is_mapped header.size address bytes rows)) code.InvalidAddress last in
+    let met = is_copied inherit && meets_declared (named header) address bytes rows in
+    let first = passed (not (is_range header.size address bytes) || met) code.InvalidArgument next (acted task.0 past _ s.accepted) in
+    let both = or_parts (not (is_range header.size address bytes)) met first.0 in
+    let second = passed (not (is_mapped header.size address bytes rows)) code.InvalidAddress last first.1 in
+    let third = passed full code.TableFull None second.1 in (
+      may_cut header.size address bytes (inherited header.size address bytes inherit (rows_in task.0 k.maps)) (not-false (is_range header.size address bytes) both.0)
+          (ap (λ z. are_too_many (inherited header.size address bytes inherit z)) own ∙ third.0),
+      ap (λ (z : List Entry). is_copied inherit && meets_declared (named header) address bytes z) own ∙ both.1,
+    )
+
+pub ran_inherit : (header : Header) (h : ℕ) (outside : Outside) (task : TaskId) (address bytes : ℕ) (inherit : Inherit) (past events : List Event) (k : Parts) (ids : Ids) (maps : Mapped) (chains : ChainTable) (change : MapChange)
+    → Starts header h (command.Inherit task address bytes inherit) past k ids events → change ≡ inheritance address bytes inherit
+    → ChangesOnly k.maps maps task.0 (Some (inherited k.maps.size change.address change.bytes change.inherit (rows_in task.0 k.maps))) → Raised (cut_at_ends address bytes (rows_in task.0 k.maps)) k.chains chains
+    → Ran header h outside (command.Inherit task address bytes inherit) past (record k { maps = maps; chains = chains }) ids (event.Inherited task address bytes inherit ∷ [])
+ran_inherit header h outside task address bytes inherit past events k ids maps chains change s is changes up =
+    let m = s.rests.matches in
+    let lives = lives_in task.0 m.tasks s.acts in
     let rows = rows_in task.0 k.maps in
-    let cuts = inherit_cuts header.size address bytes task.0 inherit k.maps maps k.chains change two m.entries m.tasks.sized is changes now few in
+    let made = inherited header.size address bytes inherit rows in
+    let more = cut_at_ends address bytes rows in
+    let may = may_inherit s in
+    let cuts = inherit_cuts header.size address bytes inherit k.chains rows (m.entries.inside task.0) may.0 in
     let idle = acts task.0 past _ s.accepted in
-    let apart : (is_copied inherit && meets_declared (named header) address bytes rows) ≡ false =
-    ap (λ (z : List Entry). is_copied inherit && meets_declared (named header) address bytes z) (sym (rows_here m.tasks live.1))
-    ∙ not_met header task.0 address bytes inherit past s.accepted in
-    let c = changed_counts header h past k ids maps mid chains task.0 one two s.rests idle (record { size = changes.size; changed = now; others = changes.others }) value cuts down up in
-    let same : ChangesOnly k.maps maps task.0 (Some (inherited header.size address bytes inherit rows)) =
+    let same : ChangesOnly k.maps maps task.0 (Some made) =
     record { size = changes.size; changed = changes.changed ∙ ap Some (ap (λ z. inherited k.maps.size z.address z.bytes z.inherit rows) is ∙ ap (λ z. inherited z address bytes inherit rows) m.tasks.sized); others = changes.others } in
+    let c = changed_by header h past k ids maps chains task.0 (Some made) [] more s.rests idle same lives cuts up in
     let leaves : Leaves header past (event.Inherited task address bytes inherit ∷ past) = record { regions_made = refl; objects_made = refl; region = λ r. refl; backing = λ o. refl; home = λ r. refl; made_for = λ o. refl; used = λ g r. refl; target = λ task. refl } in
     let rests : Rests header h (record k { maps = maps; chains = chains }) ids (event.Inherited task address bytes inherit ∷ past) =
     record {
@@ -270,16 +279,16 @@ ran_inherit header h outside task address bytes inherit past events k ids maps m
             ranged = m.ranged;
             declared = m.declared;
             kinds = c.kinds;
-            shared = shared_changed (named header) task.0 k.maps maps (Some (inherited header.size address bytes inherit rows)) same (shared_inherited (named header) header.size address bytes inherit rows (m.shared task.0) apart) m.shared;
+            shared = shared_changed (named header) task.0 k.maps maps (Some made) same (shared_inherited (named header) header.size address bytes inherit rows (m.shared task.0) may.1) m.shared;
             known = m.known;
             size = m.size;
             host = m.host;
             fits = record { parts = m.fits.parts; plain = m.fits.plain; buffers = m.fits.buffers };
-            tasks = tasks_changed h header.size task.0 k.maps maps (λ t. host_of t past) (λ t. entries_of header.size t past) (inherited header.size address bytes inherit) m.tasks same live.1;
+            tasks = tasks_changed h header.size task.0 k.maps maps (λ t. host_of t past) (λ t. entries_of header.size t past) (inherited header.size address bytes inherit) m.tasks same lives;
             regions = regions_after leaves c.regions;
             entries = c.entries;
             pages = c.pages;
-            uses = uses_kept header h past k ids maps task.0 two s.rests (record { size = changes.size; changed = now; others = changes.others }) live.1 cuts (λ t. inherited header.size address bytes inherit (entries_of header.size t past));
+            uses = uses_kept header h past k ids maps task.0 made more s.rests same lives cuts (λ t. inherited header.size address bytes inherit (entries_of header.size t past));
             controls = controls_after leaves m.controls;
             homeless = homeless_after leaves m.homeless;
             homes = c.homes;

@@ -133,7 +133,7 @@ pub use Rattle.vm_state.specs.Places.{entries_in_row, has_region, local_of_row, 
 pub use Rattle.vm_kernel.specs.Plays.{AnswerBrings, DepartsFrom, Does, IsVictim, Marks, Paging, Plays, PlaysAnswer, Still, Then, frame_here, paging, places_with_frame}
 pub use Rattle.vm_kernel.specs.Refusing.{IsForHere, acting_in, code_of, is_marked, object_total, takes_name}
 pub use Rattle.vm_kernel.specs.Serving.{Attempts, FreesOrReturns, HasQueue, IsHere, IsNextAccess, JoinsQueue, QueueIsServed, RunsFirst}
-pub use Rattle.vm_kernel.specs.Sweeping.{EndsObject, EndsOnly, EndsRegion, IsAmid, IsEnding, IsWhole, Lowered, OnlyLoses, PutsEntries, Raised, Sweeps}
+pub use Rattle.vm_kernel.specs.Sweeping.{EndsObject, EndsOnly, EndsRegion, IsAmid, IsEnding, IsWhole, OnlyLoses, PutsEntries, Raised, Sweeps, cut_at, cut_at_ends}
 pub use Rattle.vm_kernel.specs.Taking.{EachGone, EndsAll, EndsEach, EndsNobody, FailsNow, HasAsker, HasEnded, HasFailed, IsAbsencePaid, IsAnswered, IsErrorPaid}
 pub use Rattle.vm_kernel.specs.Turns.{ClaimsInTurn, Did, ForAsked, ForZeros, Found, Goes, IsBrought, Joins, KeepsOthers, LeavesInTurn, Nothing, QueueAfter, QueueIsStill, Restarted, Restarts, RunsNobody, RunsNone, RunsNoneYet, RunsOnce, Start}
 pub use Rattle.vm_state.specs.Waiters.{Asker, BeganInOrder, HasWaiters, IsAsked, IsPagerTold, IsPlaceOf, LeadsTo, Reason, access_in, copies_to, is_woken, waiting_in}

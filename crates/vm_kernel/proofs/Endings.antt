@@ -1,19 +1,19 @@
 -- Tasks end, and ranges are unmapped.
-use Rattle.vm_kernel.proofs.Common.{Access, AllRows, Bool, ChainTable, ChangesOnly, Command, Entry, Event, HasTasks, HasUse, HasWaiters, Header, Ids, IsDone, IsShared, List, Lowered, MapChange, Mapped, None, ObjectTable, On, Option, Outside, Parts, Raised, Ran, ResidentTable, Rests, Some, Starts, Sweeps, TaskId, Waiting, [], ap, arith, count_on, entries_in, entries_of, eqb_tells, false, has_region, holds, host_of, if◌then◌else◌, in_use, inl, inr, is_on, is_woken, length, most_entries, named, next_region, parts_for, refl, region_entries, removal, removed, rows_in, rows_rewritten, subst, sym, true, unwrap_or, waiting, ℕ, ◌++◌, ◌+◌, ◌-◌, ◌==◌, ◌∙◌, ◌∷◌, ◌≡◌, ◌≤◌}
+use Rattle.vm_kernel.proofs.Common.{Access, AllRows, Bool, ChainTable, ChangesOnly, Command, Entry, Event, HasTasks, HasUse, HasWaiters, Header, Ids, IsDone, IsShared, List, MapChange, Mapped, None, ObjectTable, On, Option, Outside, Parts, Raised, Ran, ResidentTable, Rests, Some, Starts, Sweeps, TaskId, Waiting, [], ap, cut_at_ends, entries_in, entries_of, eqb_tells, false, holds, host_of, if◌then◌else◌, in_use, inl, inr, is_on, is_woken, named, next_region, parts_for, parts_in, refl, removal, removed, rows_in, rows_rewritten, subst, sym, true, unwrap_or, waiting, ℕ, ◌++◌, ◌==◌, ◌∙◌, ◌∷◌, ◌≡◌}
 use Rattle.std.proofs.Common.{is_some}
 use Rattle.vm_abroad.proofs.Home.{homes_next, object_stays}
 use Rattle.vm_kernel.proofs.After.{controls_stay, regions_moved}
 use Rattle.vm_model.specs.declared.event.Event.TheVariants as event
 use Rattle.vm_model.specs.declared.command.Command.TheVariants as command
 use Rattle.vm_supply.specs.declared.woken.Woken.TheVariants as woken
-use Rattle.vm_kernel.proofs.Changing.{acts, changed_by, counted, lives_as, recounted, uses_fewer}
-use Rattle.vm_kernel.proofs.Counts.{on_few}
+use Rattle.vm_kernel.proofs.Changing.{acts, changed_by, lives_as, may_remove, uses_fewer}
+use Rattle.vm_kernel.proofs.Own.{lives_in}
 use Rattle.vm_kernel.proofs.Cutting.{Cuts, ended_cuts, removed_cuts}
 use Rattle.vm_kernel.proofs.Growing.{suffices}
 use Rattle.vm_kernel.proofs.Heads.{grows_one}
-use Rattle.vm_kernel.proofs.Recounts.{Recounts, entries_are, entries_most, lowered_recounts, raised_recounts, recounts_as, recounts_same, recounts_twice}
-use Rattle.vm_kernel.proofs.Rewrites.{recount_known, tasks_changed}
-use Rattle.vm_kernel.proofs.Sharing.{kinds_recounted, shared_changed}
+use Rattle.vm_kernel.proofs.Recounts.{raised_none}
+use Rattle.vm_kernel.proofs.Rewrites.{tasks_changed}
+use Rattle.vm_kernel.proofs.Sharing.{shared_changed}
 use Rattle.vm_kernel.proofs.Uses.{fills_here, uses_cut, ApartFrom, elsewhere, holds_rows}
 use Rattle.vm_kernel.proofs.Mine.{own_task}
 use Rattle.vm_kernel.proofs.Replied.{replied_behind}
@@ -68,8 +68,7 @@ sweeps_exit header h outside task past events k ids maps gone s value changes =
     let rows = rows_in task.0 k.maps in
     let cuts = ended_cuts header.size k.chains rows gone (m.entries.inside task.0) live.0 in
     let idle = acts task.0 past None s.accepted in
-    let c = changed_by header h past k ids maps k.chains task.0 None gone (region_entries k.chains) s.rests idle changes live.1 cuts (recounts_same k.chains)
-    (λ r there. let same = ap (count_on r) live.0 in omega arith) in
+    let c = changed_by header h past k ids maps k.chains task.0 None gone [] s.rests idle changes live.1 cuts (raised_none k.chains) in
     let shown_tasks : HasTasks h header.size maps (λ t. host_of t (event.TaskEnded task ∷ past)) (λ t. entries_of header.size t (event.TaskEnded task ∷ past)) =
     tasks_ended h header.size task.0 k.maps maps (λ t. host_of t past) (λ t. entries_of header.size t past) m.tasks changes in
     let shown_waits : HasWaiters maps k.chains k.memory.resident k.memory.objects k.waits.rows (is_woken woken.Nobody) (λ t. waiting t (event.TaskEnded task ∷ past)) =
@@ -117,53 +116,32 @@ sweeps_exit header h outside task past events k ids maps gone s value changes =
 shared_removed : (declared size address bytes : ℕ) (rows : List Entry) → AllRows (IsShared declared) rows → AllRows (IsShared declared) (removed size address bytes rows)
 shared_removed declared size address bytes rows all = rows_rewritten size (IsShared declared) (λ row. []) (λ row start end is low less high. is) (λ row is. tt) address bytes rows all
 
-pub raised_few : (rows : List Entry) (old mid : ChainTable) (most : ℕ) → Raised rows old mid → length rows ≤ most_entries → ((r : ℕ) → region_entries old r ≤ most) → (r : ℕ) → region_entries mid r ≤ most + 256
-raised_few rows old mid most up few all r =
-    let le = entries_most (λ r. region_entries old r + count_on r rows) old mid (raised_recounts rows old mid up) r in
-    let on = on_few r rows in
-    let each = all r in
-    omega arith
-
--- what was lost can be counted on too
-pub gone_there : (size : ℕ) (old mid high : ChainTable) (rows made lost : List Entry) → Cuts size old rows made lost → Lowered rows old mid → Raised made mid high → AllRows (λ row. has_region high row.region.0 ≡ true) lost
-gone_there size old mid high rows made lost cuts down up =
-    recount_known (λ r. region_entries mid r + count_on r made) mid high (raised_recounts made mid high up) lost
-    (recount_known (λ r. region_entries old r - count_on r rows) old mid (lowered_recounts rows old mid down) lost cuts.known)
-
-pub sweeps_removed : (header : Header) (h : ℕ) (outside : Outside) (task : TaskId) (address bytes : ℕ) (past events : List Event) (k : Parts) (ids : Ids) (maps : Mapped) (mid high chains : ChainTable) (change : MapChange) (one two gone : List Entry)
+pub sweeps_removed : (header : Header) (h : ℕ) (outside : Outside) (task : TaskId) (address bytes : ℕ) (past events : List Event) (k : Parts) (ids : Ids) (maps : Mapped) (chains : ChainTable) (change : MapChange) (gone : List Entry)
     → Starts header h (command.Deallocate task address bytes) past k ids events → change ≡ removal address bytes
-    → ChangesOnly k.maps maps task.0 (Some (removed k.maps.size change.address change.bytes (rows_in task.0 k.maps))) → gone ≡ parts_for k.maps task.0 change
-    → entries_in task.0 k.maps ≡ Some one → entries_in task.0 maps ≡ Some two → length two ≤ most_entries → Lowered one k.chains mid → Raised two mid high → Raised gone high chains
+    → ChangesOnly k.maps maps task.0 (Some (removed k.maps.size change.address change.bytes (rows_in task.0 k.maps))) → gone ≡ parts_for k.maps task.0 change → Raised (cut_at_ends address bytes (rows_in task.0 k.maps)) k.chains chains
     → Sweeps header h outside (command.Deallocate task address bytes) past (record k { maps = maps; chains = chains }) ids gone (event.Removed task address bytes ∷ [])
-sweeps_removed header h outside task address bytes past events k ids maps mid high chains change one two gone s is changes taken value now few down up more =
+sweeps_removed header h outside task address bytes past events k ids maps chains change gone s is changes taken up =
     let m = s.rests.matches in
-    let live = lives_as task.0 k.maps one value in
+    let lives = lives_in task.0 m.tasks s.acts in
     let rows = rows_in task.0 k.maps in
-    let old = k.chains in
-    let cuts = removed_cuts header.size address bytes task.0 k.maps maps old change two gone m.entries m.tasks.sized is changes now few taken in
-    let down2 = subst (λ (z : List Entry). Lowered z old mid) (sym live.0) down in
-    let first = recounted rows two old mid high down2 up in
-    let count = λ (r : ℕ). region_entries old r - count_on r rows + count_on r two + count_on r gone in
-    let counts : Recounts count old chains =
-    recounts_as (λ r. region_entries high r + count_on r gone) count old chains
-    (recounts_twice (λ r. region_entries old r - count_on r rows + count_on r two) (λ r. region_entries high r + count_on r gone) old high chains first (raised_recounts gone high chains more))
-    (λ r there. ap (λ z. z + count_on r gone) (entries_are (λ r. region_entries old r - count_on r rows + count_on r two) old high first r there)) in
+    let made = removed header.size address bytes rows in
+    let more = cut_at_ends address bytes rows in
+    let parts : gone ≡ parts_in header.size address bytes rows = taken ∙ (ap (λ z. parts_for k.maps task.0 z) is ∙ ap (λ z. parts_in z address bytes rows) m.tasks.sized) in
+    let cuts = subst (λ (z : List Entry). Cuts header.size k.chains rows made z more) (sym parts) (removed_cuts header.size address bytes k.chains rows (m.entries.inside task.0) (may_remove s)) in
     let idle = acts task.0 past _ s.accepted in
-    let c = changed_by header h past k ids maps chains task.0 (Some two) gone count s.rests idle (record { size = changes.size; changed = now; others = changes.others }) live.1 cuts counts
-    (λ r there. let most = counted header.size task.0 k.maps old [] m.entries live.1 r there in omega arith) in
-    let same : ChangesOnly k.maps maps task.0 (Some (removed header.size address bytes rows)) =
+    let same : ChangesOnly k.maps maps task.0 (Some made) =
     record { size = changes.size; changed = changes.changed ∙ ap Some (ap (λ z. removed k.maps.size z.address z.bytes rows) is ∙ ap (λ z. removed z address bytes rows) m.tasks.sized); others = changes.others } in
-    let cut_to : ChangesOnly k.maps maps task.0 (Some two) = record { size = changes.size; changed = now; others = changes.others } in
+    let c = changed_by header h past k ids maps chains task.0 (Some made) gone more s.rests idle same lives cuts up in
     let shown_tasks : HasTasks h header.size maps (λ t. host_of t (event.Removed task address bytes ∷ past)) (λ t. entries_of header.size t (event.Removed task address bytes ∷ past)) =
-    tasks_changed h header.size task.0 k.maps maps (λ t. host_of t past) (λ t. entries_of header.size t past) (removed header.size address bytes) m.tasks same live.1 in
+    tasks_changed h header.size task.0 k.maps maps (λ t. host_of t past) (λ t. entries_of header.size t past) (removed header.size address bytes) m.tasks same lives in
     record {
       runs = record {
         begins = s.begins;
         matches = record {
           ranged = m.ranged;
           declared = m.declared;
-          kinds = kinds_recounted header count k.memory.objects k.chains chains counts m.kinds;
-          shared = shared_changed (named header) task.0 k.maps maps (Some (removed header.size address bytes rows)) same (shared_removed (named header) header.size address bytes rows (m.shared task.0)) m.shared;
+          kinds = c.kinds;
+          shared = shared_changed (named header) task.0 k.maps maps (Some made) same (shared_removed (named header) header.size address bytes rows (m.shared task.0)) m.shared;
           known = m.known;
           size = m.size;
           host = m.host;
@@ -172,12 +150,12 @@ sweeps_removed header h outside task address bytes past events k ids maps mid hi
           regions = regions_moved header past (event.Removed task address bytes ∷ past) refl refl (λ r. refl) (λ o. refl) c.regions;
           entries = c.entries;
           pages = m.pages;
-          uses = uses_cut header k.maps maps k.waits.rows (λ r. in_use header h r past) _ (next_region header past) (event.Removed task address bytes ∷ past) task.0 (Some two) m.uses cut_to live.1 (λ r some. uses_fewer header.size task.0 r k.maps maps k.chains (Some two) m.entries cut_to live.1 cuts.own some)
+          uses = uses_cut header k.maps maps k.waits.rows (λ r. in_use header h r past) _ (next_region header past) (event.Removed task address bytes ∷ past) task.0 (Some made) m.uses same lives (λ r some. uses_fewer header.size task.0 r k.maps maps k.chains (Some made) m.entries same lives cuts.own some)
               (record { rows = shown_tasks.rows; filled = fills_here {past = event.Removed task address bytes ∷ past} c.waits c.used.copies }) c.entries.most
               (λ t r none why.
-              let other = elsewhere maps task.0 t two now none in
+              let other = elsewhere maps task.0 t made same.changed none in
               let was = sym (changes.others t (λ e. other (sym e))) ∙ none in
-              holds_rows header.size task.0 t r k.maps rows _ past live.1 was ∙ m.uses.apart t r was why);
+              holds_rows header.size task.0 t r k.maps rows _ past lives was ∙ m.uses.apart t r was why);
           controls = controls_stay (λ o is. object_stays o h (event.Removed task address bytes) past is) m.controls;
           homeless = homes_next header outside (event.Removed task address bytes) past (command.Deallocate task address bytes, idle) m.homeless;
           homes = c.homes;

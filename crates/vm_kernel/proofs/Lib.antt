@@ -7,6 +7,7 @@ pub mod Asking
 pub mod Attempting
 pub mod Beginning
 pub mod Brings
+pub mod Boundaries
 pub mod Built
 pub mod Changing
 pub mod Claiming

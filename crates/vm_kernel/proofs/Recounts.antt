@@ -1,5 +1,5 @@
 -- Regions that count other entries, and are as they were else.
-use Rattle.vm_kernel.proofs.Common.{AllRows, ChainTable, Entry, List, Lowered, None, Option, PutsEntries, Raised, RegionRow, Some, [], ap, arith, count_on, drop, drop-cons, entries_in_row, eqb_tells, false, get_or, get_or_from_slice_get, has_region, if◌then◌else◌, inl, inr, is_some, length, pages_in, refl, region_at, region_entries, region_pages, shadow_at, slice_get_within, some_is, subst, suc, sym, take, take_more, true, with_entries, zero, ℕ, ◌++◌, ◌+◌, ◌-◌, ◌<◌, ◌==◌, ◌^◌, ◌∙◌, ◌∷◌, ◌≡◌, ◌≤◌}
+use Rattle.vm_kernel.proofs.Common.{AllRows, ChainTable, Entry, List, None, Option, PutsEntries, Raised, RegionRow, Some, [], ap, arith, count_on, drop, drop-cons, entries_in_row, eqb_tells, false, get_or, get_or_from_slice_get, has_region, if◌then◌else◌, inl, inr, is_some, length, pages_in, refl, region_at, region_entries, region_pages, shadow_at, slice_get_within, some_is, subst, suc, sym, take, take_more, true, with_entries, zero, ℕ, ◌++◌, ◌+◌, ◌==◌, ◌∙◌, ◌∷◌, ◌≡◌, ◌≤◌}
 use Rattle.std.proofs.Common.{slice_get}
 use Rattle.vm_state.proofs.Changing.{SameButEntries}
 use Rattle.vm_kernel.proofs.Counts.{on_append, on_few}
@@ -108,79 +108,35 @@ row_among P [] i entry all found = absurd (let bad = slice_get_within [] i entry
 row_among P (row ∷ rows) zero entry all found = subst P (let same : row ≡ entry = cc in same) all.0
 row_among P (row ∷ rows) (suc i) entry all found = row_among P rows i entry all.1 found
 
-pub on_split : (r : ℕ) (rows : List Entry) (i : ℕ) → count_on r rows ≡ count_on r (take i rows) + count_on r (drop i rows)
-on_split r [] zero = refl
-on_split r [] (suc i) = refl
-on_split r (row ∷ rows) zero = omega arith
-on_split r (row ∷ rows) (suc i) = omega (arith, on_split r rows i)
-
--- counts go up, an entry at a time
+-- counts go up
 
 pub raised_recounts : (rows : List Entry) (old new : ChainTable) → Raised rows old new → Recounts (λ r. region_entries old r + count_on r rows) old new
 raised_recounts rows old new is = record { at = is.at; shadows = is.shadows }
 
-pub lowered_recounts : (rows : List Entry) (old new : ChainTable) → Lowered rows old new → Recounts (λ r. region_entries old r - count_on r rows) old new
-lowered_recounts rows old new is = record { at = is.at; shadows = is.shadows }
+raised_by : (rows : List Entry) (count : ℕ → ℕ) (old new : ChainTable) → Recounts count old new → ((r : ℕ) → has_region old r ≡ true → count r ≡ region_entries old r + count_on r rows) → Raised rows old new
+raised_by rows count old new is same = let all = recounts_as count (λ r. region_entries old r + count_on r rows) old new is same in record { at = all.at; shadows = all.shadows }
 
-pub raised_more : (front : List Entry) (entry : Entry) (old mid new : ChainTable) → Raised front old mid → PutsEntries entry.region.0 (region_entries mid entry.region.0 + 1) mid new → Raised (front ++ entry ∷ []) old new
-raised_more front entry old mid new is put =
-    let one = raised_recounts front old mid is in
-    let two = recounts_put entry.region.0 (region_entries mid entry.region.0 + 1) mid new put in
-    let both = recounts_twice (λ r. region_entries old r + count_on r front) (λ r. if entry.region.0 == r then region_entries mid entry.region.0 + 1 else region_entries mid r) old mid new one two in
-    let all = recounts_as (λ r. if entry.region.0 == r then region_entries mid entry.region.0 + 1 else region_entries mid r) (λ r. region_entries old r + count_on r (front ++ entry ∷ [])) old new both
-    (λ r there. elim (eqb_tells entry.region.0 r) [
-      | inl same ↦
-          let was = entries_are (λ r. region_entries old r + count_on r front) old mid one r there in
-          let sum = on_append r front (entry ∷ []) in
-          let last : count_on r (entry ∷ []) ≡ 1 = rw same.0 refl in
-          rw same.0 (ap (λ z. region_entries mid z + 1) same.1 ∙ omega arith)
-      | inr apart ↦
-          let was = entries_are (λ r. region_entries old r + count_on r front) old mid one r there in
-          let sum = on_append r front (entry ∷ []) in
-          let last : count_on r (entry ∷ []) ≡ 0 = rw apart.0 refl in
-          rw apart.0 (omega arith)
-    ]) in
-    record { shadows = all.shadows; at = all.at }
+pub raised_none : (chains : ChainTable) → Raised [] chains chains
+raised_none chains = raised_by [] (region_entries chains) chains chains (recounts_same chains) (λ r there. omega arith)
 
-pub lowered_more : (front : List Entry) (entry : Entry) (old mid new : ChainTable) → Lowered front old mid → PutsEntries entry.region.0 (region_entries mid entry.region.0 - 1) mid new → Lowered (front ++ entry ∷ []) old new
-lowered_more front entry old mid new is put =
-    let one = lowered_recounts front old mid is in
-    let two = recounts_put entry.region.0 (region_entries mid entry.region.0 - 1) mid new put in
-    let both = recounts_twice (λ r. region_entries old r - count_on r front) (λ r. if entry.region.0 == r then region_entries mid entry.region.0 - 1 else region_entries mid r) old mid new one two in
-    let all = recounts_as (λ r. if entry.region.0 == r then region_entries mid entry.region.0 - 1 else region_entries mid r) (λ r. region_entries old r - count_on r (front ++ entry ∷ [])) old new both
-    (λ r there. elim (eqb_tells entry.region.0 r) [
-      | inl same ↦
-          let was = entries_are (λ r. region_entries old r - count_on r front) old mid one r there in
-          let sum = on_append r front (entry ∷ []) in
-          let last : count_on r (entry ∷ []) ≡ 1 = rw same.0 refl in
-          rw same.0 (ap (λ z. region_entries mid z - 1) same.1 ∙ omega arith)
-      | inr apart ↦
-          let was = entries_are (λ r. region_entries old r - count_on r front) old mid one r there in
-          let sum = on_append r front (entry ∷ []) in
-          let last : count_on r (entry ∷ []) ≡ 0 = rw apart.0 refl in
-          rw apart.0 (omega arith)
-    ]) in
-    record { shadows = all.shadows; at = all.at }
+pub raised_one : (row : Entry) (old new : ChainTable) → PutsEntries row.region.0 (region_entries old row.region.0 + 1) old new → Raised (row ∷ []) old new
+raised_one row old new put =
+    raised_by (row ∷ []) (λ r. if row.region.0 == r then region_entries old row.region.0 + 1 else region_entries old r) old new (recounts_put row.region.0 (region_entries old row.region.0 + 1) old new put)
+    (λ r there. elim (eqb_tells row.region.0 r) [
+      | inl same ↦ rw same.0 (ap (λ z. region_entries old z + 1) same.1)
+      | inr apart ↦ rw apart.0 (omega arith)
+    ])
 
--- one more fits its type
-pub raise_fits : (rows : List Entry) (i : ℕ) (entry : Entry) (old mid : ChainTable) → Raised (take i rows) old mid → slice_get rows i ≡ Some entry → region_entries old entry.region.0 + length rows < 2 ^ 32 → region_entries mid entry.region.0 + 1 < 2 ^ 32
-raise_fits rows i entry old mid is found few =
-    let r = entry.region.0 in
-    let most = entries_most (λ r. region_entries old r + count_on r (take i rows)) old mid (raised_recounts (take i rows) old mid is) r in
-    let split = on_split r rows i in
-    let next = ap (count_on r) (next_row rows i entry found) in
-    let itself : (r == r) ≡ true = elim (eqb_tells r r) [ inl same ↦ same.0 | inr apart ↦ absurd (apart.1 refl) ] in
-    let this : count_on r (entry ∷ drop (i + 1) rows) ≡ 1 + count_on r (drop (i + 1) rows) = rw itself refl in
-    let all = on_few r rows in
-    omega arith
+pub raised_twice : (one two : List Entry) (old mid new : ChainTable) → Raised one old mid → Raised two mid new → Raised (one ++ two) old new
+raised_twice one two old mid new first second =
+    let low = raised_recounts one old mid first in
+    raised_by (one ++ two) (λ r. region_entries mid r + count_on r two) old new
+    (recounts_twice (λ r. region_entries old r + count_on r one) (λ r. region_entries mid r + count_on r two) old mid new low (raised_recounts two mid new second))
+    (λ r there. let was = entries_are (λ r. region_entries old r + count_on r one) old mid low r there in let sum = on_append r one two in omega arith)
 
--- one less is not below none
-pub lower_fits : (rows : List Entry) (i : ℕ) (entry : Entry) (old mid : ChainTable) → Lowered (take i rows) old mid → slice_get rows i ≡ Some entry → has_region old entry.region.0 ≡ true → count_on entry.region.0 rows ≤ region_entries old entry.region.0 → 1 ≤ region_entries mid entry.region.0
-lower_fits rows i entry old mid is found there counted =
-    let r = entry.region.0 in
-    let are = entries_are (λ r. region_entries old r - count_on r (take i rows)) old mid (lowered_recounts (take i rows) old mid is) r there in
-    let split = on_split r rows i in
-    let next = ap (count_on r) (next_row rows i entry found) in
-    let itself : (r == r) ≡ true = elim (eqb_tells r r) [ inl same ↦ same.0 | inr apart ↦ absurd (apart.1 refl) ] in
-    let this : count_on r (entry ∷ drop (i + 1) rows) ≡ 1 + count_on r (drop (i + 1) rows) = rw itself refl in
+-- by one entry at most
+pub raised_few : (rows : List Entry) (old new : ChainTable) → Raised rows old new → length rows ≤ 1 → (r : ℕ) → region_entries new r ≤ region_entries old r + 1
+raised_few rows old new up few r =
+    let le = entries_most (λ r. region_entries old r + count_on r rows) old new (raised_recounts rows old new up) r in
+    let on = on_few r rows in
     omega arith

@@ -1,6 +1,8 @@
 -- A task's entries are cut, changed or taken away, and regions count what is left.
-use Rattle.vm_kernel.proofs.Common.{AllEntriesInside, AllReferred, AllRows, Backing, Bool, ChainTable, ChangesOnly, Entry, HasEntries, HasHomes, HasRegions, HasTasks, Header, Ids, Inside, IsFilledIn, IsInside, List, Mapped, None, ObjectTable, Option, Region, RegionRow, ResidentTable, Some, Waiting, [], all_tasks, ap, arith, count_on, cut, entries_in, entries_in_row, eqb_tells, false, flat_map, has_entry, has_region, if◌then◌else◌, inl, inr, is_on, is_some, length, max, min, most_entries, nat_lt, nat_tests, part, parts_in, refl, region_at, region_entries, removed, rewritten, rows_in, rows_map, subst, suc, sym, true, unwrap_or, zero, ℕ, ◌++◌, ◌+◌, ◌<◌, ◌==◌, ◌^◌, ◌∙◌, ◌∷◌, ◌≡◌, ◌≢◌, ◌≤◌, ◌⊎◌}
+use Rattle.vm_kernel.proofs.Common.{AllEntriesInside, AllReferred, AllRows, Backing, Bool, ChainTable, ChangesOnly, Entry, HasEntries, HasHomes, HasRegions, HasTasks, Header, Ids, Inside, IsFilledIn, IsInside, List, Mapped, None, ObjectTable, Option, Region, RegionRow, ResidentTable, Some, Waiting, [], all_tasks, ap, arith, count_on, cut, cut_at, cut_at_ends, entries_in, entries_in_row, eqb_tells, false, flat_map, has_entry, has_region, if◌then◌else◌, inl, inr, is_on, is_some, length, max, min, most_entries, nat_lt, nat_tests, part, parts_in, refl, region_at, region_entries, removed, rewritten, rows_in, rows_map, subst, suc, sym, true, unwrap_or, zero, ℕ, ◌&&◌, ◌++◌, ◌+◌, ◌<◌, ◌==◌, ◌^◌, ◌∙◌, ◌∷◌, ◌≡◌, ◌≢◌, ◌≤◌, ◌⊎◌}
+use Rattle.vm_kernel.proofs.Boundaries.{on_cut_at}
 use Rattle.vm_kernel.proofs.Counts.{by_changed, on_append, on_zero}
+use Rattle.std.proofs.lemmas.Grind.{flat_map-append}
 use Rattle.vm_kernel.proofs.Recounts.{Recounts, has_same, pages_same, recounts_but, row_before}
 use Rattle.vm_state.proofs.Changing.{regions_recounted}
 use Rattle.vm_state.proofs.Referred.{referred_recounted}
@@ -112,33 +114,31 @@ on_cut r size from to row = by_test (nat_lt (max from row.address) (min to (row.
     by_test true = refl
     by_test false = refl
 
-some_of : (n : ℕ) (a b c : Bool) → (a ≡ false → b ≡ false → c ≡ false → ⊥) → n ≤ (if a then n else 0) + ((if b then n else 0) + (if c then n else 0))
-some_of n true b c some = omega arith
-some_of n false true c some = omega arith
-some_of n false false true some = omega arith
-some_of n false false false some = absurd (some refl refl refl)
-
 -- an entry isn't empty, and its addresses are below 2^32
 pub record IsSpan (row : Entry) : Type 0 where
   pub some : 0 < row.bytes
   pub below : row.address + row.bytes ≤ 2 ^ 32
 
--- a part of it is left
-one_left : (r size address bytes : ℕ) (row : Entry) → IsSpan row
-    → count_on r (row ∷ []) ≤ count_on r (cut size 0 address row) + (count_on r (cut size address (address + bytes) row) + count_on r (cut size (address + bytes) (2 ^ 32) row))
-one_left r size address bytes row span =
-    let end = row.address + row.bytes in
-    let a = nat_lt (max 0 row.address) (min address end) in
-    let b = nat_lt (max address row.address) (min (address + bytes) end) in
-    let c = nat_lt (max (address + bytes) row.address) (min (2 ^ 32) end) in
-    let some = span.some in
-    let below = span.below in
-    let all = some_of (count_on r (row ∷ [])) a b c (λ no_a no_b no_c.
-    let one : min address end ≤ max 0 row.address = grind (arith, nat_tests) in
-    let two : min (address + bytes) end ≤ max address row.address = grind (arith, nat_tests) in
-    let three : min (2 ^ 32) end ≤ max (address + bytes) row.address = grind (arith, nat_tests) in
-    omega arith) in
-    omega (arith, all, on_cut r size 0 address row, on_cut r size address (address + bytes) row, on_cut r size (address + bytes) (2 ^ 32) row)
+-- a range cuts it into one part, and one more for each of its ends inside
+three_parts : (n low high start end top : ℕ) → low < high → start < end → end ≤ top → high ≤ top
+    → (if nat_lt (max 0 low) (min start high) then n else 0) + ((if nat_lt (max start low) (min end high) then n else 0) + (if nat_lt (max end low) (min top high) then n else 0))
+    ≡ n + ((if nat_lt low start && nat_lt start high then n else 0) + (if nat_lt low end && nat_lt end high then n else 0))
+three_parts n low high start end top some range below inside = grind (arith, nat_tests)
+
+one_cut : (r size address bytes : ℕ) (row : Entry) → IsSpan row → 0 < bytes → address + bytes ≤ 2 ^ 32
+    → count_on r (cut size 0 address row) + (count_on r (cut size address (address + bytes) row) + count_on r (cut size (address + bytes) (2 ^ 32) row)) ≡ count_on r (row ∷ []) + count_on r (cut_at_ends address bytes (row ∷ []))
+one_cut r size address bytes row span some below =
+    let three = three_parts (count_on r (row ∷ [])) row.address (row.address + row.bytes) address (address + bytes) (2 ^ 32) (let filled = span.some in omega arith) (omega arith) below span.below in
+    omega (
+      arith,
+      three,
+      on_cut r size 0 address row,
+      on_cut r size address (address + bytes) row,
+      on_cut r size (address + bytes) (2 ^ 32) row,
+      on_append r (cut_at address (row ∷ [])) (cut_at (address + bytes) (row ∷ [])),
+      on_cut_at r address row [],
+      on_cut_at r (address + bytes) row [],
+    )
 
 on_flat : (r : ℕ) (becomes : Entry → List Entry) → ((row : Entry) → count_on r (becomes row) ≡ count_on r (row ∷ [])) → (rows : List Entry) → count_on r (flat_map becomes rows) ≡ count_on r rows
 on_flat r becomes same [] = refl
@@ -148,13 +148,18 @@ flat_nothing : (rows : List Entry) → ◌≡◌ {A = List Entry} (flat_map (λ 
 flat_nothing [] = refl
 flat_nothing (row ∷ rows) = flat_nothing rows
 
-pub on_kept : (r size address bytes : ℕ) (becomes : Entry → List Entry) (rows : List Entry) → ((row : Entry) → count_on r (becomes row) ≡ count_on r (row ∷ [])) → AllRows IsSpan rows → count_on r rows ≤ count_on r (rewritten becomes size address bytes rows)
-on_kept r size address bytes becomes [] same all = omega arith
-on_kept r size address bytes becomes (row ∷ rows) same all =
+-- the parts in the range, and what they become, each counted
+on_rewritten : (r size address bytes : ℕ) (becomes : Entry → List Entry) (rows : List Entry) → 0 < bytes → address + bytes ≤ 2 ^ 32 → AllRows IsSpan rows
+    → count_on r (rewritten becomes size address bytes rows) + count_on r (parts_in size address bytes rows) ≡ count_on r rows + (count_on r (cut_at_ends address bytes rows) + count_on r (flat_map becomes (parts_in size address bytes rows)))
+on_rewritten r size address bytes becomes [] some below all = refl
+on_rewritten r size address bytes becomes (row ∷ rows) some below all =
+    let end = address + bytes in
     let front = cut size 0 address row in
-    let middle = flat_map becomes (cut size address (address + bytes) row) in
-    let back = cut size (address + bytes) (2 ^ 32) row in
+    let inside = cut size address end row in
+    let middle = flat_map becomes inside in
+    let back = cut size end (2 ^ 32) row in
     let later = rewritten becomes size address bytes rows in
+    let parts = parts_in size address bytes rows in
     let one : count_on r (row ∷ rows) ≡ count_on r (row ∷ []) + count_on r rows = omega arith in
     omega (
       arith,
@@ -162,40 +167,28 @@ on_kept r size address bytes becomes (row ∷ rows) same all =
       on_append r front (middle ++ (back ++ later)),
       on_append r middle (back ++ later),
       on_append r back later,
-      on_flat r becomes same (cut size address (address + bytes) row),
-      one_left r size address bytes row all.0,
-      on_kept r size address bytes becomes rows same all.1,
+      on_append r inside parts,
+      ap (count_on r) (flat_map-append becomes inside parts),
+      on_append r middle (flat_map becomes parts),
+      on_append r (cut_at address (row ∷ [])) (cut_at end (row ∷ [])),
+      on_append r (cut_at address (row ∷ rows)) (cut_at end (row ∷ rows)),
+      on_append r (cut_at address rows) (cut_at end rows),
+      on_cut_at r address row [],
+      on_cut_at r address row rows,
+      on_cut_at r end row [],
+      on_cut_at r end row rows,
+      one_cut r size address bytes row all.0 some below,
+      on_rewritten r size address bytes becomes rows some below all.1,
     )
 
--- what is taken out, and what is left
-pub on_removed : (r size address bytes : ℕ) (rows : List Entry) → AllRows IsSpan rows → count_on r rows ≤ count_on r (removed size address bytes rows) + count_on r (parts_in size address bytes rows)
-on_removed r size address bytes [] all = omega arith
-on_removed r size address bytes (row ∷ rows) all =
-    let front = cut size 0 address row in
-    let part_here = cut size address (address + bytes) row in
-    let middle : List Entry = flat_map (λ (row : Entry). []) part_here in
-    let back = cut size (address + bytes) (2 ^ 32) row in
-    let later = removed size address bytes rows in
-    let one : count_on r (row ∷ rows) ≡ count_on r (row ∷ []) + count_on r rows = omega arith in
-    omega (
-      arith,
-      one,
-      on_append r front (middle ++ (back ++ later)),
-      on_append r middle (back ++ later),
-      on_append r back later,
-      ap (count_on r) (flat_nothing part_here),
-      on_append r part_here (parts_in size address bytes rows),
-      one_left r size address bytes row all.0,
-      on_removed r size address bytes rows all.1,
-    )
+pub on_kept : (r size address bytes : ℕ) (becomes : Entry → List Entry) (rows : List Entry) → 0 < bytes → address + bytes ≤ 2 ^ 32 → ((row : Entry) → count_on r (becomes row) ≡ count_on r (row ∷ [])) → AllRows IsSpan rows
+    → count_on r (rewritten becomes size address bytes rows) ≡ count_on r rows + count_on r (cut_at_ends address bytes rows)
+on_kept r size address bytes becomes rows some below same all = omega (arith, on_rewritten r size address bytes becomes rows some below all, on_flat r becomes same (parts_in size address bytes rows))
 
-pub parts_few : (size from to : ℕ) (rows : List Entry) → length (flat_map (cut size from to) rows) ≤ length rows
-parts_few size from to [] = omega arith
-parts_few size from to (row ∷ rows) = by_test (flat_map (cut size from to) rows) (parts_few size from to rows) (nat_lt (max from row.address) (min to (row.address + row.bytes)))
-  where
-    by_test : (more : List Entry) → length more ≤ length rows → (b : Bool) → length ((if b then part size row (max from row.address) (min to (row.address + row.bytes)) ∷ [] else []) ++ more) ≤ suc (length rows)
-    by_test more later true = omega arith
-    by_test more later false = omega arith
+-- what is left, and what is taken out
+pub on_removed : (r size address bytes : ℕ) (rows : List Entry) → 0 < bytes → address + bytes ≤ 2 ^ 32 → AllRows IsSpan rows
+    → count_on r (removed size address bytes rows) + count_on r (parts_in size address bytes rows) ≡ count_on r rows + count_on r (cut_at_ends address bytes rows)
+on_removed r size address bytes rows some below all = omega (arith, on_rewritten r size address bytes (λ row. []) rows some below all, ap (count_on r) (flat_nothing (parts_in size address bytes rows)))
 
 -- what leads to a region led to it before
 pub on_among : (r : ℕ) (rows made : List Entry) → AllRows (λ row. has_entry row.region.0 rows ≡ true) made → 0 < count_on r made → 0 < count_on r rows

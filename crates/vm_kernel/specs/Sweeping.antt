@@ -1,5 +1,6 @@
 -- The counts of entries go up and down, and what no entry leads to goes.
-use Rattle.std.specs.Prelude.{ℕ, ◌≡◌, ◌≢◌, ◌+◌, ◌-◌, ◌<◌, ◌⊎◌, ◌++◌, false, true, List, Some}
+use Rattle.std.specs.Prelude.{ℕ, ◌≡◌, ◌≢◌, ◌&&◌, ◌+◌, ◌<◌, ◌⊎◌, ◌++◌, false, nat_lt, true, List, Some}
+use Rattle.std.specs.List.{filter}
 use Rattle.vm_base.specs.declared.entry.Entry.{Entry}
 use Rattle.vm_model.specs.declared.event.Event.{Event}
 use Rattle.vm_model.specs.declared.event.Event.TheVariants as event
@@ -36,10 +37,13 @@ pub record Raised (rows : List Entry) (old new : ChainTable) : Type 0 where
   pub shadows : (o : ℕ) → shadow_at new o ≡ shadow_at old o
   pub at : (r : ℕ) → region_at new r ≡ with_entries (region_entries old r + count_on r rows) (region_at old r)
 
--- each region counts these entries no more
-pub record Lowered (rows : List Entry) (old new : ChainTable) : Type 0 where
-  pub shadows : (o : ℕ) → shadow_at new o ≡ shadow_at old o
-  pub at : (r : ℕ) → region_at new r ≡ with_entries (region_entries old r - count_on r rows) (region_at old r)
+-- the entries with addresses on both sides of a boundary
+abbrev pub cut_at : ℕ → List Entry → List Entry
+cut_at boundary rows = filter (λ row. nat_lt row.address boundary && nat_lt boundary (row.address + row.bytes)) rows
+
+-- the entries that are cut at the ends of a range, one that is cut at both twice
+abbrev pub cut_at_ends : ℕ → ℕ → List Entry → List Entry
+cut_at_ends address bytes rows = cut_at address rows ++ cut_at (address + bytes) rows
 
 -- what is given to calls that take entries out of the counts: those that are left, too
 pub record Releasing : Type 0 where

@@ -6,7 +6,7 @@ ghost use Rattle.vm_kernel.specs.Changes.{enter, inheritance, protection, remova
 ghost use Rattle.vm_kernel.specs.Plays.{Plays, paging};
 ghost use Rattle.vm_kernel.specs.Turns.{QueueIsStill};
 
-use crate::counting::{lower, raise};
+use crate::counting::count_cuts;
 use crate::parts::Parts;
 use vm_base::{Inherit, NoMemory, Prot, TaskId};
 use vm_maps::{MapChange, MapKind};
@@ -105,10 +105,8 @@ impl Parts {
         ensures plays { OnOk result (Plays given.header given.past log.old.items (paging self.old) log.new.items (paging self.new)) }
         ensures quiet { OnOk result (QueueIsStill self.old.waits.queue self.new.waits.queue log.old.items log.new.items) }
     {
-        lower(&mut self.chains, self.maps.entries(task));
+        count_cuts(&mut self.chains, &self.maps, task, address, bytes);
         let gone = self.maps.remove(task, &removal(address, bytes))?;
-        raise(&mut self.chains, self.maps.entries(task));
-        raise(&mut self.chains, &gone);
         log.push(Event::Removed {
             task,
             address,
@@ -133,9 +131,8 @@ impl Parts {
         ensures plays { OnOk result (Plays given.header given.past log.old.items (paging self.old) log.new.items (paging self.new)) }
         ensures quiet { OnOk result (QueueIsStill self.old.waits.queue self.new.waits.queue log.old.items log.new.items) }
     {
-        lower(&mut self.chains, self.maps.entries(task));
+        count_cuts(&mut self.chains, &self.maps, task, address, bytes);
         let _ = self.maps.protect(task, &protection(address, bytes, prot))?;
-        raise(&mut self.chains, self.maps.entries(task));
         log.push(Event::Protected {
             task,
             address,
@@ -160,11 +157,10 @@ impl Parts {
         ensures plays { OnOk result (Plays given.header given.past log.old.items (paging self.old) log.new.items (paging self.new)) }
         ensures quiet { OnOk result (QueueIsStill self.old.waits.queue self.new.waits.queue log.old.items log.new.items) }
     {
-        lower(&mut self.chains, self.maps.entries(task));
+        count_cuts(&mut self.chains, &self.maps, task, address, bytes);
         let _ = self
             .maps
             .inherit(task, &inheritance(address, bytes, inherit))?;
-        raise(&mut self.chains, self.maps.entries(task));
         log.push(Event::Inherited {
             task,
             address,

@@ -1,12 +1,13 @@
 // Regions count the entries that lead to them.
-ghost use Rattle.std.specs.Prelude.{◌≡◌, ◌+◌, ◌<◌, ◌≤◌, ◌^◌, ℕ, true, length};
-ghost use Rattle.vm_base.specs.Entries.{by_address};
+ghost use Rattle.std.specs.Prelude.{◌≡◌, ◌+◌, ◌-◌, ◌<◌, ◌≤◌, ◌^◌, ℕ, true, IsSome};
+ghost use Rattle.vm_base.specs.Entries.{InOrder};
+ghost use Rattle.vm_maps.specs.Maps.{entries_in, rows_in};
 ghost use Rattle.vm_model.specs.Rows.{AllRows};
-ghost use Rattle.vm_state.specs.Counts.{count_on};
 ghost use Rattle.vm_state.specs.Places.{has_region, region_entries};
-ghost use Rattle.vm_kernel.specs.Sweeping.{Lowered, Raised, PutsEntries};
+ghost use Rattle.vm_kernel.specs.Sweeping.{PutsEntries, Raised, cut_at, cut_at_ends};
 
-use vm_base::{Entries, RegionId};
+use vm_base::{RegionId, TaskId};
+use vm_maps::Maps;
 use vm_shadow::Chains;
 
 // Sets how many entries lead to a region.
@@ -27,28 +28,32 @@ pub fn count_of(chains: &Chains, region: RegionId) -> u32
     }
 }
 
-// Each of these entries leads to its region.
-pub fn raise(chains: &mut Chains, entries: &Entries)
-    requires there { AllRows (λ row. has_region chains.old row.region.0 ≡ true) (by_address entries.now) }
-    requires few { (r : ℕ) → region_entries chains.old r + length entries.now.items < 2 ^ 32 }
-    ensures { Raised (by_address entries.now) chains.old chains.new }
+// The entry that a boundary cuts is to be two.
+fn count_cut(chains: &mut Chains, maps: &Maps, task: TaskId, boundary: u64)
+    requires lives { IsSome (entries_in task.0 maps.now) }
+    requires order { InOrder 0 (2 ^ 32) (rows_in task.0 maps.now) }
+    requires there { AllRows (λ row. has_region chains.old row.region.0 ≡ true) (rows_in task.0 maps.now) }
+    requires few { (r : ℕ) → region_entries chains.old r < 2 ^ 32 - 1 }
+    ensures { Raised (cut_at boundary (rows_in task.0 maps.now)) chains.old chains.new }
 {
-    'all: for i in 0..entries.len() {
-        let region = entries.at(i).region;
-        let count = count_of(chains, region);
-        set_count(chains, region, count + 1);
+    let Some(entry) = maps.entry(task, boundary) else {
+        return;
+    };
+    if entry.address < boundary {
+        let count = count_of(chains, entry.region);
+        set_count(chains, entry.region, count + 1);
     }
 }
 
-// None of these entries leads to its region any more.
-pub fn lower(chains: &mut Chains, entries: &Entries)
-    requires there { AllRows (λ row. has_region chains.old row.region.0 ≡ true) (by_address entries.now) }
-    requires counted { (r : ℕ) → has_region chains.old r ≡ true → count_on r (by_address entries.now) ≤ region_entries chains.old r }
-    ensures { Lowered (by_address entries.now) chains.old chains.new }
+// A task's entries, which stand in their order, are to be cut at the ends of a range.
+pub fn count_cuts(chains: &mut Chains, maps: &Maps, task: TaskId, address: u64, bytes: u64)
+    requires lives { IsSome (entries_in task.0 maps.now) }
+    requires end { address + bytes ≤ 2 ^ 32 }
+    requires there { AllRows (λ row. has_region chains.old row.region.0 ≡ true) (rows_in task.0 maps.now) }
+    requires few { (r : ℕ) → region_entries chains.old r < 2 ^ 32 - 2 }
+    ensures { Raised (cut_at_ends address bytes (rows_in task.0 maps.now)) chains.old chains.new }
 {
-    'all: for i in 0..entries.len() {
-        let region = entries.at(i).region;
-        let count = count_of(chains, region);
-        set_count(chains, region, count - 1);
-    }
+    let _ = maps.entries(task);
+    count_cut(chains, maps, task, address);
+    count_cut(chains, maps, task, address + bytes);
 }
