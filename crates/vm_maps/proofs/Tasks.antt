@@ -14,7 +14,7 @@ abbrev pub seen : ℕ → List (TaskId × Listed Entry) → Mapped
 seen size tables = record { size = size; tasks = task_rows tables }
 
 -- a task's entries are those of its table
-pub rows_of_table : (task : ℕ) (tables : List (TaskId × Listed Entry)) → entries_among task (task_rows tables) ≡ option_map by_address (table_of task tables)
+rows_of_table : (task : ℕ) (tables : List (TaskId × Listed Entry)) → entries_among task (task_rows tables) ≡ option_map by_address (table_of task tables)
 rows_of_table task [] = refl
 rows_of_table task (table ∷ tables) = let rest = rows_of_table task tables in grind (arith, nat_tests, rest)
 
@@ -32,9 +32,6 @@ some_of o x is = rw is refl
 pub table_is : {A : Type 0} (o : Option (MutBor A)) (was : Option A) → option_copied_mut o ≡ was → IsSome was → IsSome o
 table_is None was is there = rw (← is) at there
 table_is (Some table) was is there = refl
-
-pub no_tables : (size : ℕ) → AreTables size []
-no_tables size task table is = let none : None ≡ Some table = is in cc
 
 pub empty_table : (size : ℕ) (table : Listed Entry) → table.items ≡ [] → most_entries ≤ table.room → IsTable size table
 empty_table size table none room = record {
