@@ -45,7 +45,6 @@ impl System {
             Command::Load { task, address, size } => self.load(task, address, size),
             Command::Store { task, address, size, value } => self.store(task, address, size, value),
             Command::Take { host, object, control } => self.take_from(host, object, control),
-            Command::TakeNone => Err(Code::NoSuchName),
             Command::Settle { .. } => Ok(()),
             Command::Task { task, host } => self.make_task(task, host),
             Command::Fork { task, child } => self.fork(task, child),
@@ -119,11 +118,12 @@ impl System {
         self.out.event("entered", [task.into(), address, bytes, region.into(), offset.into(), prot.into(), inherit.into()]);
     }
 
-    fn take_from(&mut self, host: u8, object: u32, control: u32) -> Result<(), Code> {
-        require(object < self.next_object, Code::NoSuchName)?;
+    // A message is taken from the channel down to a control, or from the one up.
+    fn take_from(&mut self, host: u8, object: u32, control: Option<u32>) -> Result<(), Code> {
+        require(object < self.next_object && control != Some(0), Code::NoSuchName)?;
         let object = self.index(host, object);
         require(self.objects[object].host == host, Code::NoSuchName)?;
-        let channel = self.ports.channel(object, control).ok_or(Code::NoSuchName)?;
+        let channel = self.ports.channel(object, control.unwrap_or(0)).ok_or(Code::NoSuchName)?;
         require(!self.ports.is_empty(channel), Code::EmptyPort)?;
         self.take(channel);
         Ok(())

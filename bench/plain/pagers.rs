@@ -117,10 +117,10 @@ impl System {
     fn take_paged(&mut self, host: u8, object: usize, message: Message) {
         let number = self.objects[object].number;
         match message {
-            Message::Create { control } => self.send_down(object, control, Message::Ready { strategy: 3 }),
+            Message::Create { control } => self.send(object, control, Message::Ready { strategy: 3 }),
             Message::Request { control, page, .. } => {
                 let answer = self.stored_page(host, number, page);
-                self.send_down(object, control, answer);
+                self.send(object, control, answer);
             }
             Message::Return { page, bytes, .. } => self.store_page(host, number, page, bytes),
             Message::Terminate { .. } => self.slots[usize::from(host)].drop_object(number),
@@ -163,12 +163,12 @@ impl System {
         let number = self.objects[object].number;
         match message {
             Message::Init { control } => {
-                self.send_down(object, control, Message::Ready { strategy: 0 });
+                self.send(object, control, Message::Ready { strategy: 0 });
                 self.files_of[number as usize].known = Some((host, control));
             }
             Message::Request { control, page, .. } => {
                 let answer = self.page_of_file(number, page);
-                self.send_down(object, control, answer);
+                self.send(object, control, answer);
             }
             Message::Return { page, bytes, .. } => self.write_to_file(number, page, &bytes),
             Message::Terminate { control } => {
@@ -215,7 +215,7 @@ impl System {
         let page = match message {
             Message::Request { page, .. } | Message::Unlock { page, .. } => page,
             Message::Return { page, .. } | Message::Completed { page, .. } => page,
-            Message::Init { control } => return self.send_down(object, control, Message::Ready { strategy: 0 }),
+            Message::Init { control } => return self.send(object, control, Message::Ready { strategy: 0 }),
             _ => return self.leave_shared(host, number),
         };
         let pages = &mut self.directories[number as usize];
@@ -232,7 +232,7 @@ impl System {
         let mut replies = std::mem::take(&mut self.replies);
         directory.serve(&mut replies);
         for (host, control, message) in replies.drain(..) {
-            self.send_down(self.index(host, number), control, message);
+            self.send(self.index(host, number), control, message);
         }
         self.replies = replies;
     }
@@ -245,7 +245,7 @@ impl System {
             directory.serve(&mut replies);
         }
         for (host, control, message) in replies {
-            self.send_down(self.index(host, number), control, message);
+            self.send(self.index(host, number), control, message);
         }
     }
 
@@ -253,7 +253,7 @@ impl System {
     pub fn clean(&mut self, object: u32, page: u32, count: u32, flush: bool) {
         if let Some((host, control)) = self.files_of[object as usize].known {
             let message = Message::Lock { page, count, returns: 2, flush, lock: 8, reply: true };
-            self.send_down(self.index(host, object), control, message);
+            self.send(self.index(host, object), control, message);
         }
     }
 }

@@ -40,97 +40,26 @@ pub struct Range {
 
 #[derive(Clone, Copy)]
 pub enum Command {
-    Task {
-        task: u16,
-        host: u8,
-    },
-    Fork {
-        task: u16,
-        child: u16,
-    },
-    Exit {
-        task: u16,
-    },
-    Allocate {
-        task: u16,
-        range: Range,
-    },
-    Map {
-        task: u16,
-        range: Range,
-        object: u32,
-        offset: u32,
-    },
-    Deallocate {
-        task: u16,
-        range: Range,
-    },
-    Protect {
-        task: u16,
-        range: Range,
-        prot: u8,
-    },
-    Inherit {
-        task: u16,
-        range: Range,
-        inherit: u8,
-    },
-    Load {
-        task: u16,
-        address: u64,
-        size: u8,
-    },
-    Store {
-        task: u16,
-        address: u64,
-        size: u8,
-        value: u64,
-    },
-    Copy {
-        task: u16,
-        range: Range,
-        target: u16,
-        to: u32,
-    },
-    /// Of the channel up, where the control is 0.
-    Take {
-        host: u8,
-        object: u32,
-        control: u32,
-    },
-    /// Of a channel down to a control that never is.
-    TakeNone,
-    Settle {
-        count: u32,
-    },
-    Pageout {
-        host: u8,
-        count: u32,
-    },
-    Clean {
-        object: u32,
-        page: u32,
-        count: u32,
-        flush: bool,
-    },
-    Wire {
-        host: u8,
-        count: u32,
-    },
-    Unwire {
-        host: u8,
-        count: u32,
-    },
-    FailFiles {
-        count: u32,
-    },
-    FailPaging {
-        count: u32,
-    },
-    Say {
-        host: u8,
-        object: u32,
-    },
+    Task { task: u16, host: u8 },
+    Fork { task: u16, child: u16 },
+    Exit { task: u16 },
+    Allocate { task: u16, range: Range },
+    Map { task: u16, range: Range, object: u32, offset: u32 },
+    Deallocate { task: u16, range: Range },
+    Protect { task: u16, range: Range, prot: u8 },
+    Inherit { task: u16, range: Range, inherit: u8 },
+    Load { task: u16, address: u64, size: u8 },
+    Store { task: u16, address: u64, size: u8, value: u64 },
+    Copy { task: u16, range: Range, target: u16, to: u32 },
+    Take { host: u8, object: u32, control: Option<u32> },
+    Settle { count: u32 },
+    Pageout { host: u8, count: u32 },
+    Clean { object: u32, page: u32, count: u32, flush: bool },
+    Wire { host: u8, count: u32 },
+    Unwire { host: u8, count: u32 },
+    FailFiles { count: u32 },
+    FailPaging { count: u32 },
+    Say { host: u8, object: u32 },
 }
 
 pub struct Script {
@@ -428,13 +357,11 @@ impl<'a> Reader<'a> {
         };
         let host = self.host(host)?;
         let object = number_in(object, 0, MOST_OBJECTS - 1)? as u32;
-        match control.map(|control| number_in(control, 0, ADDRESS_END - 1)).transpose()? {
-            Some(0) => Ok(Command::TakeNone),
-            control => Ok(Command::Take { host, object, control: control.unwrap_or(0) as u32 }),
-        }
+        let control = control.map(|control| number_in(control, 0, ADDRESS_END - 1)).transpose()?;
+        Ok(Command::Take { host, object, control: control.map(|control| control as u32) })
     }
 
-    // A message that is said. Nothing of it is kept, since no wild object is built.
+    // Reads a message that is said. Nothing of it is kept, since no wild object is built.
     fn check_message(&self, mut it: Fields) -> Result<(), Fault> {
         match it.word() {
             b"ready" => {

@@ -132,11 +132,13 @@ impl System {
         self.ports.oldest().is_none()
     }
 
+    /// Sends to an object's pager.
     pub fn send_up(&mut self, object: usize, message: Message) {
-        self.send_down(object, 0, message);
+        self.send(object, 0, message);
     }
 
-    pub fn send_down(&mut self, object: usize, control: u32, message: Message) {
+    /// Sends to a control of an object, or to its pager where that is 0.
+    pub fn send(&mut self, object: usize, control: u32, message: Message) {
         if let Some(channel) = self.ports.channel(object, control) {
             self.out.sent(&self.ports.channels[channel as usize], &message, self.size);
             self.ports.send(channel, message);
