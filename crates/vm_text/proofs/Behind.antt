@@ -1,5 +1,5 @@
 -- Numbers put behind a line stand behind what stood in front of its word.
-use Rattle.std.proofs.Common.{List, [], ap, append_assoc, refl, subst, sym, ℕ, ◌++◌, ◌∙◌, ◌∷◌, ◌≡◌}
+use Rattle.std.proofs.Common.{List, [], ap, append_assoc, refl, ℕ, ◌++◌, ◌∙◌, ◌∷◌, ◌≡◌}
 use Rattle.vm_model.specs.Text.{field}
 use Rattle.vm_text.specs.Fields.{with_fields}
 

@@ -1,7 +1,5 @@
 -- Where no header line is one for which nothing is built, a script declares files and shared objects alone.
-use Rattle.std.proofs.Common.{◌≡◌, ℕ, inl, inr, ◌+◌, ◌-◌, ◌≤◌, nat_lt, nat_le, Bool, true, false, ◌&&◌, ◌||◌, cond, List, [], ◌∷◌, length, reverse, replicate, Option, Some, None, Result, Ok, Err, refl, ap, arith, slice_set, subst}
-use Rattle.std.proofs.lemmas.Bool.{ltb-true, ltb-false}
-use Rattle.std.proofs.lemmas.List.{length-set, length-replicate, length-reverse}
+use Rattle.std.proofs.Common.{◌≡◌, ℕ, inl, inr, ◌+◌, ◌-◌, nat_lt, Bool, true, false, ◌||◌, cond, List, [], ◌∷◌, length, replicate, Option, Some, None, Result, Ok, Err, refl, ap, slice_set, subst}
 use Rattle.std.proofs.lemmas.List.Elements.{All-nil, All-cons}
 use Rattle.std.specs.List.{All}
 use Rattle.vm_base.specs.declared.ids.ObjectKind.{ObjectKind}
@@ -16,7 +14,7 @@ use Rattle.vm_text.specs.declared.meaning.CommandWord.{CommandWord}
 use Rattle.vm_text.specs.Forms.{Heading, header_words, command_words, stands_already, header_form, hosts_line, frames_line, page_line, slots_line, new_name, object_line, command_form, host_in_word, page_size}
 use Rattle.vm_text.specs.Script.{Reading, nothing_read, Whole, whole_of, header_line, command_line, line_read, lines_read, script_of, whole_script}
 use Rattle.vm_text.specs.Unbuilt.{is_unbuilt_header, is_unbuilt, unbuilt_from, IsBuilt, IsSuppliedKind}
-use Rattle.vm_text.specs.Words.{◌>>=◌, lines_of, words_of, is_comment, word_in, one_word, two_words, number_of, number_between, within}
+use Rattle.vm_text.specs.Words.{◌>>=◌, lines_of, words_of, is_comment, word_in, one_word, two_words, number_between}
 
 -- these objects are such
 abbrev Supplied : List Declared → Type 0

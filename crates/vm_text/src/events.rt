@@ -1,85 +1,98 @@
 // The line of an event.
 #![tactic(auto, unfolding(vm_model::specs::Text::line_of))]
 
-ghost use Rattle.std.specs.Prelude.{◌≡◌, ◌++◌, codes, true, IfOk};
+ghost use Rattle.std.specs.Prelude.{◌≡◌, ◌++◌, codes, true, IfOk, OnOk};
 ghost use Rattle.vm_model.specs.Text.{line_of, channel_text as text_of_channel, message_text as text_of_message, device_text, way_text, newline};
 ghost use Rattle.vm_text.specs.Kinds.{is_of_region, is_of_entry, begins_access, is_of_access, is_of_page};
 
 use crate::Line;
-use crate::fields::{inherit_number, numbers_line, numbers_text, prot_number};
+use crate::fields::{inherit_number, prot_number};
 use crate::messages::{put_channel, put_message};
 use std::alloc::Global;
 use vm_base::{Code, HostId, Inherit, NoMemory, ObjectId, PageNo, Prot, RegionId, TaskId};
 use vm_model::{Channel, Device, Event, Message, Way};
+
+// Most lines of a history are shorter, line end and all.
+const USUAL_BYTES: usize = 64;
 
 /// The line that the event has in the text of a history; it fails for want of memory alone.
 #[tactic(auto)]
 pub fn write_event(alloc: Global, event: &Event) -> Result<Line, NoMemory>
     ensures { IfOk result (λ line. line ≡ line_of event.now) }
 {
+    let mut line = Line::with_room(alloc, USUAL_BYTES)?;
+    put_event(&mut line, event)?;
+    Ok(line)
+}
+
+/// Puts the line that the event has behind the text; it fails for want of memory alone.
+#[tactic(auto)]
+pub fn put_event(text: &mut Line, event: &Event) -> Result<(), NoMemory>
+    ensures { OnOk result (text.new ≡ text.old ++ line_of event.now) }
+{
     match event {
-        Event::Line { line: number } => line_begun(alloc, *number),
-        Event::Refused { code } => refused(alloc, *code),
-        Event::TaskMade { task, host } => task_made(alloc, *task, *host),
-        Event::TaskEnded { task } => task_ended(alloc, *task),
-        Event::Sent { channel, message } => sent(alloc, *channel, message),
-        Event::Taken { channel, message } => taken(alloc, *channel, message),
+        Event::Line { line: number } => line_begun(text, *number),
+        Event::Refused { code } => refused(text, *code),
+        Event::TaskMade { task, host } => task_made(text, *task, *host),
+        Event::TaskEnded { task } => task_ended(text, *task),
+        Event::Sent { channel, message } => sent(text, *channel, message),
+        Event::Taken { channel, message } => taken(text, *channel, message),
         Event::DeviceFailed {
             who,
             way,
             object,
             page,
-        } => device_failed(alloc, *who, *way, *object, *page),
-        Event::NoSlot { object, page } => no_slot(alloc, *object, *page),
-        Event::Wired { host, count } => wired(alloc, *host, *count),
+        } => device_failed(text, *who, *way, *object, *page),
+        Event::NoSlot { object, page } => no_slot(text, *object, *page),
+        Event::Wired { host, count } => wired(text, *host, *count),
         Event::RegionMade { .. } | Event::RegionCopied { .. } | Event::Shadowed { .. } =>
-            region_event(alloc, event),
+            region_event(text, event),
         Event::Entered { .. }
         | Event::Removed { .. }
         | Event::Protected { .. }
-        | Event::Inherited { .. } => entry_event(alloc, event),
+        | Event::Inherited { .. } => entry_event(text, event),
         Event::BegunLoad { .. } | Event::BegunStore { .. } | Event::BegunCopy { .. } => begun_event(
-            alloc, event,
+            text, event,
         ),
         Event::Loaded { .. }
         | Event::Stored { .. }
         | Event::CopiedPage { .. }
         | Event::CopyEnded { .. }
-        | Event::Failed { .. } => access_event(alloc, event),
+        | Event::Failed { .. } => access_event(text, event),
         Event::Dropped { .. } | Event::Zeroed { .. } | Event::Raised { .. } => page_event(
-            alloc, event,
+            text, event,
         ),
     }
 }
 
 // What happens to regions.
 #[tactic(auto)]
-fn region_event(alloc: Global, event: &Event) -> Result<Line, NoMemory>
+fn region_event(text: &mut Line, event: &Event) -> Result<(), NoMemory>
     requires { is_of_region event.now ≡ true }
-    ensures { IfOk result (λ line. line ≡ line_of event.now) }
+    ensures { OnOk result (text.new ≡ text.old ++ line_of event.now) }
 {
     match event {
         Event::RegionMade {
             region,
             object,
             pages,
-        } => region_made(alloc, *region, *object, *pages),
+        } => region_made(text, *region, *object, *pages),
         Event::RegionCopied {
             region,
             source,
             offset,
             pages,
-        } => region_copied(alloc, *region, *source, *offset, *pages),
-        Event::Shadowed { region, new, old } => shadowed(alloc, *region, *new, *old),
+        } => region_copied(text, *region, *source, *offset, *pages),
+        Event::Shadowed { region, new, old } => shadowed(text, *region, *new, *old),
         _ => unreachable!(),
     }
 }
 
 // What happens to the entries of a task.
 #[tactic(auto)]
-fn entry_event(alloc: Global, event: &Event) -> Result<Line, NoMemory>
+fn entry_event(text: &mut Line, event: &Event) -> Result<(), NoMemory>
     requires { is_of_entry event.now ≡ true }
-    ensures { IfOk result (λ line. line ≡ line_of event.now) }
+    ensures { OnOk result (text.new ≡ text.old ++ line_of event.now) }
 {
     match event {
         Event::Entered {
@@ -91,62 +104,62 @@ fn entry_event(alloc: Global, event: &Event) -> Result<Line, NoMemory>
             prot,
             inherit,
         } => entered(
-            alloc, *task, *address, *bytes, *region, *offset, *prot, *inherit,
+            text, *task, *address, *bytes, *region, *offset, *prot, *inherit,
         ),
         Event::Removed {
             task,
             address,
             bytes,
-        } => removed(alloc, *task, *address, *bytes),
+        } => removed(text, *task, *address, *bytes),
         Event::Protected {
             task,
             address,
             bytes,
             prot,
-        } => protected(alloc, *task, *address, *bytes, *prot),
+        } => protected(text, *task, *address, *bytes, *prot),
         Event::Inherited {
             task,
             address,
             bytes,
             inherit,
-        } => inherited(alloc, *task, *address, *bytes, *inherit),
+        } => inherited(text, *task, *address, *bytes, *inherit),
         _ => unreachable!(),
     }
 }
 
 // An access of a task begins.
 #[tactic(auto)]
-fn begun_event(alloc: Global, event: &Event) -> Result<Line, NoMemory>
+fn begun_event(text: &mut Line, event: &Event) -> Result<(), NoMemory>
     requires { begins_access event.now ≡ true }
-    ensures { IfOk result (λ line. line ≡ line_of event.now) }
+    ensures { OnOk result (text.new ≡ text.old ++ line_of event.now) }
 {
     match event {
         Event::BegunLoad {
             task,
             address,
             size,
-        } => begun_load(alloc, *task, *address, *size),
+        } => begun_load(text, *task, *address, *size),
         Event::BegunStore {
             task,
             address,
             size,
             value,
-        } => begun_store(alloc, *task, *address, *size, *value),
+        } => begun_store(text, *task, *address, *size, *value),
         Event::BegunCopy {
             task,
             address,
             bytes,
             to,
-        } => begun_copy(alloc, *task, *address, *bytes, *to),
+        } => begun_copy(text, *task, *address, *bytes, *to),
         _ => unreachable!(),
     }
 }
 
 // An access gets on, or ends.
 #[tactic(auto)]
-fn access_event(alloc: Global, event: &Event) -> Result<Line, NoMemory>
+fn access_event(text: &mut Line, event: &Event) -> Result<(), NoMemory>
     requires { is_of_access event.now ≡ true }
-    ensures { IfOk result (λ line. line ≡ line_of event.now) }
+    ensures { OnOk result (text.new ≡ text.old ++ line_of event.now) }
 {
     match event {
         Event::Loaded {
@@ -154,7 +167,7 @@ fn access_event(alloc: Global, event: &Event) -> Result<Line, NoMemory>
             object,
             page,
             value,
-        } => loaded(alloc, *task, *object, *page, *value),
+        } => loaded(text, *task, *object, *page, *value),
         Event::Stored {
             task,
             object,
@@ -162,90 +175,88 @@ fn access_event(alloc: Global, event: &Event) -> Result<Line, NoMemory>
             at,
             size,
             value,
-        } => stored(alloc, *task, *object, *page, *at, *size, *value),
+        } => stored(text, *task, *object, *page, *at, *size, *value),
         Event::CopiedPage {
             task,
             page,
             object,
             object_page,
             target,
-        } => copied_page(alloc, *task, *page, *object, *object_page, *target),
-        Event::CopyEnded { task } => copy_ended(alloc, *task),
-        Event::Failed { task, object, page } => failed(alloc, *task, *object, *page),
+        } => copied_page(text, *task, *page, *object, *object_page, *target),
+        Event::CopyEnded { task } => copy_ended(text, *task),
+        Event::Failed { task, object, page } => failed(text, *task, *object, *page),
         _ => unreachable!(),
     }
 }
 
 // What happens to the pages of a host.
 #[tactic(auto)]
-fn page_event(alloc: Global, event: &Event) -> Result<Line, NoMemory>
+fn page_event(text: &mut Line, event: &Event) -> Result<(), NoMemory>
     requires { is_of_page event.now ≡ true }
-    ensures { IfOk result (λ line. line ≡ line_of event.now) }
+    ensures { OnOk result (text.new ≡ text.old ++ line_of event.now) }
 {
     match event {
-        Event::Dropped { host, object, page } => dropped(alloc, *host, *object, *page),
-        Event::Zeroed { host, object, page } => zeroed(alloc, *host, *object, *page),
+        Event::Dropped { host, object, page } => dropped(text, *host, *object, *page),
+        Event::Zeroed { host, object, page } => zeroed(text, *host, *object, *page),
         Event::Raised {
             host,
             lower,
             lower_page,
             upper,
             upper_page,
-        } => raised(alloc, *host, *lower, *lower_page, *upper, *upper_page),
+        } => raised(text, *host, *lower, *lower_page, *upper, *upper_page),
         _ => unreachable!(),
     }
 }
 
-fn line_begun(alloc: Global, number: u32) -> Result<Line, NoMemory>
-    ensures { IfOk result (λ line. line ≡ line_of (Event.Line number)) }
+fn line_begun(text: &mut Line, number: u32) -> Result<(), NoMemory>
+    ensures { OnOk result (text.new ≡ text.old ++ line_of (Event.Line number)) }
 {
-    numbers_line(alloc, b"line", &[u64::from(number)])
+    text.put_line(b"line", &[u64::from(number)])
 }
 
-fn refused(alloc: Global, code: Code) -> Result<Line, NoMemory>
-    ensures { IfOk result (λ line. line ≡ line_of (Event.Refused code)) }
+fn refused(text: &mut Line, code: Code) -> Result<(), NoMemory>
+    ensures { OnOk result (text.new ≡ text.old ++ line_of (Event.Refused code)) }
 {
-    numbers_line(alloc, b"refused", &[u64::from(code.number())])
+    text.put_line(b"refused", &[u64::from(code.number())])
 }
 
-fn task_made(alloc: Global, task: TaskId, host: HostId) -> Result<Line, NoMemory>
-    ensures { IfOk result (λ line. line ≡ line_of (Event.TaskMade task host)) }
+fn task_made(text: &mut Line, task: TaskId, host: HostId) -> Result<(), NoMemory>
+    ensures { OnOk result (text.new ≡ text.old ++ line_of (Event.TaskMade task host)) }
 {
-    numbers_line(alloc, b"made", &[u64::from(task.0), u64::from(host.0)])
+    text.put_line(b"made", &[u64::from(task.0), u64::from(host.0)])
 }
 
-fn task_ended(alloc: Global, task: TaskId) -> Result<Line, NoMemory>
-    ensures { IfOk result (λ line. line ≡ line_of (Event.TaskEnded task)) }
+fn task_ended(text: &mut Line, task: TaskId) -> Result<(), NoMemory>
+    ensures { OnOk result (text.new ≡ text.old ++ line_of (Event.TaskEnded task)) }
 {
-    numbers_line(alloc, b"ended", &[u64::from(task.0)])
+    text.put_line(b"ended", &[u64::from(task.0)])
 }
 
 fn region_made(
-    alloc: Global,
+    text: &mut Line,
     region: RegionId,
     object: ObjectId,
     pages: u32,
-) -> Result<Line, NoMemory>
-    ensures { IfOk result (λ line. line ≡ line_of (Event.RegionMade region object pages)) }
+) -> Result<(), NoMemory>
+    ensures { OnOk result (text.new ≡ text.old ++ line_of (Event.RegionMade region object pages)) }
 {
-    numbers_line(
-        alloc,
+    text.put_line(
         b"region",
         &[u64::from(region.0), u64::from(object.0), u64::from(pages)],
     )
 }
 
 fn region_copied(
-    alloc: Global,
+    text: &mut Line,
     region: RegionId,
     source: RegionId,
     offset: u32,
     pages: u32,
-) -> Result<Line, NoMemory>
-    ensures { IfOk result (λ line. line ≡ line_of (Event.RegionCopied region source offset pages)) }
+) -> Result<(), NoMemory>
+    ensures { OnOk result (text.new ≡ text.old ++ line_of (Event.RegionCopied region source offset pages)) }
 {
-    numbers_line(
-        alloc,
+    text.put_line(
         b"cow",
         &[
             u64::from(region.0),
@@ -257,7 +268,7 @@ fn region_copied(
 }
 
 fn entered(
-    alloc: Global,
+    text: &mut Line,
     task: TaskId,
     address: u64,
     bytes: u64,
@@ -265,11 +276,10 @@ fn entered(
     offset: u32,
     prot: Prot,
     inherit: Inherit,
-) -> Result<Line, NoMemory>
-    ensures { IfOk result (λ line. line ≡ line_of (Event.Entered task address bytes region offset prot inherit)) }
+) -> Result<(), NoMemory>
+    ensures { OnOk result (text.new ≡ text.old ++ line_of (Event.Entered task address bytes region offset prot inherit)) }
 {
-    numbers_line(
-        alloc,
+    text.put_line(
         b"entered",
         &[
             u64::from(task.0),
@@ -283,97 +293,85 @@ fn entered(
     )
 }
 
-fn removed(alloc: Global, task: TaskId, address: u64, bytes: u64) -> Result<Line, NoMemory>
-    ensures { IfOk result (λ line. line ≡ line_of (Event.Removed task address bytes)) }
+fn removed(text: &mut Line, task: TaskId, address: u64, bytes: u64) -> Result<(), NoMemory>
+    ensures { OnOk result (text.new ≡ text.old ++ line_of (Event.Removed task address bytes)) }
 {
-    numbers_line(alloc, b"removed", &[u64::from(task.0), address, bytes])
+    text.put_line(b"removed", &[u64::from(task.0), address, bytes])
 }
 
 fn protected(
-    alloc: Global,
+    text: &mut Line,
     task: TaskId,
     address: u64,
     bytes: u64,
     prot: Prot,
-) -> Result<Line, NoMemory>
-    ensures { IfOk result (λ line. line ≡ line_of (Event.Protected task address bytes prot)) }
+) -> Result<(), NoMemory>
+    ensures { OnOk result (text.new ≡ text.old ++ line_of (Event.Protected task address bytes prot)) }
 {
-    numbers_line(
-        alloc,
+    text.put_line(
         b"protected",
         &[u64::from(task.0), address, bytes, prot_number(prot)],
     )
 }
 
 fn inherited(
-    alloc: Global,
+    text: &mut Line,
     task: TaskId,
     address: u64,
     bytes: u64,
     inherit: Inherit,
-) -> Result<Line, NoMemory>
-    ensures { IfOk result (λ line. line ≡ line_of (Event.Inherited task address bytes inherit)) }
+) -> Result<(), NoMemory>
+    ensures { OnOk result (text.new ≡ text.old ++ line_of (Event.Inherited task address bytes inherit)) }
 {
-    numbers_line(
-        alloc,
+    text.put_line(
         b"inherited",
         &[u64::from(task.0), address, bytes, inherit_number(inherit)],
     )
 }
 
-fn begun_load(alloc: Global, task: TaskId, address: u64, size: u32) -> Result<Line, NoMemory>
-    ensures { IfOk result (λ line. line ≡ line_of (Event.BegunLoad task address size)) }
+fn begun_load(text: &mut Line, task: TaskId, address: u64, size: u32) -> Result<(), NoMemory>
+    ensures { OnOk result (text.new ≡ text.old ++ line_of (Event.BegunLoad task address size)) }
 {
-    let mut line = numbers_text(alloc, b"begun", &[u64::from(task.0)])?;
-    line.put_word(b" load")?;
-    line.put_fields(&[address, u64::from(size)])?;
-    line.end()?;
-    Ok(line)
+    text.put_text(b"begun", &[u64::from(task.0)])?;
+    text.put_line(b" load", &[address, u64::from(size)])
 }
 
 fn begun_store(
-    alloc: Global,
+    text: &mut Line,
     task: TaskId,
     address: u64,
     size: u32,
     value: u64,
-) -> Result<Line, NoMemory>
-    ensures { IfOk result (λ line. line ≡ line_of (Event.BegunStore task address size value)) }
+) -> Result<(), NoMemory>
+    ensures { OnOk result (text.new ≡ text.old ++ line_of (Event.BegunStore task address size value)) }
 {
-    let mut line = numbers_text(alloc, b"begun", &[u64::from(task.0)])?;
-    line.put_word(b" store")?;
-    line.put_fields(&[address, u64::from(size), value])?;
-    line.end()?;
-    Ok(line)
+    text.put_text(b"begun", &[u64::from(task.0)])?;
+    text.put_line(b" store", &[address, u64::from(size), value])
 }
 
 fn begun_copy(
-    alloc: Global,
+    text: &mut Line,
     task: TaskId,
     address: u64,
     bytes: u64,
     to: u64,
-) -> Result<Line, NoMemory>
-    ensures { IfOk result (λ line. line ≡ line_of (Event.BegunCopy task address bytes to)) }
+) -> Result<(), NoMemory>
+    ensures { OnOk result (text.new ≡ text.old ++ line_of (Event.BegunCopy task address bytes to)) }
 {
-    let mut line = numbers_text(alloc, b"begun", &[u64::from(task.0)])?;
-    line.put_word(b" copy")?;
-    line.put_fields(&[address, bytes, to])?;
-    line.end()?;
-    Ok(line)
+    text.put_text(b"begun", &[u64::from(task.0)])?;
+    text.put_line(b" copy", &[address, bytes, to])
 }
 
 fn loaded(
-    alloc: Global,
+    text: &mut Line,
     task: TaskId,
     object: ObjectId,
     page: PageNo,
     value: u64,
-) -> Result<Line, NoMemory>
-    ensures { IfOk result (λ line. line ≡ line_of (Event.Loaded task object page value)) }
+) -> Result<(), NoMemory>
+    ensures { OnOk result (text.new ≡ text.old ++ line_of (Event.Loaded task object page value)) }
 {
-    numbers_line(
-        alloc,
+    text.put_line(
         b"loaded",
         &[
             u64::from(task.0),
@@ -385,18 +383,17 @@ fn loaded(
 }
 
 fn stored(
-    alloc: Global,
+    text: &mut Line,
     task: TaskId,
     object: ObjectId,
     page: PageNo,
     at: u32,
     size: u32,
     value: u64,
-) -> Result<Line, NoMemory>
-    ensures { IfOk result (λ line. line ≡ line_of (Event.Stored task object page at size value)) }
+) -> Result<(), NoMemory>
+    ensures { OnOk result (text.new ≡ text.old ++ line_of (Event.Stored task object page at size value)) }
 {
-    let mut line = numbers_text(
-        alloc,
+    text.put_text(
         b"stored",
         &[
             u64::from(task.0),
@@ -405,24 +402,22 @@ fn stored(
             u64::from(at),
         ],
     )?;
-    line.put_word(b" ")?;
-    line.put_little_endian(size, value)?;
-    line.end()?;
-    Ok(line)
+    text.put_word(b" ")?;
+    text.put_little_endian(size, value)?;
+    text.end()
 }
 
 fn copied_page(
-    alloc: Global,
+    text: &mut Line,
     task: TaskId,
     page: PageNo,
     object: ObjectId,
     object_page: PageNo,
     target: ObjectId,
-) -> Result<Line, NoMemory>
-    ensures { IfOk result (λ line. line ≡ line_of (Event.CopiedPage task page object object_page target)) }
+) -> Result<(), NoMemory>
+    ensures { OnOk result (text.new ≡ text.old ++ line_of (Event.CopiedPage task page object object_page target)) }
 {
-    numbers_line(
-        alloc,
+    text.put_line(
         b"copied",
         &[
             u64::from(task.0),
@@ -434,83 +429,78 @@ fn copied_page(
     )
 }
 
-fn copy_ended(alloc: Global, task: TaskId) -> Result<Line, NoMemory>
-    ensures { IfOk result (λ line. line ≡ line_of (Event.CopyEnded task)) }
+fn copy_ended(text: &mut Line, task: TaskId) -> Result<(), NoMemory>
+    ensures { OnOk result (text.new ≡ text.old ++ line_of (Event.CopyEnded task)) }
 {
-    numbers_line(alloc, b"copyend", &[u64::from(task.0)])
+    text.put_line(b"copyend", &[u64::from(task.0)])
 }
 
-fn failed(alloc: Global, task: TaskId, object: ObjectId, page: PageNo) -> Result<Line, NoMemory>
-    ensures { IfOk result (λ line. line ≡ line_of (Event.Failed task object page)) }
+fn failed(text: &mut Line, task: TaskId, object: ObjectId, page: PageNo) -> Result<(), NoMemory>
+    ensures { OnOk result (text.new ≡ text.old ++ line_of (Event.Failed task object page)) }
 {
-    numbers_line(
-        alloc,
+    text.put_line(
         b"failed",
         &[u64::from(task.0), u64::from(object.0), u64::from(page.0)],
     )
 }
 
-fn sent(alloc: Global, channel: Channel, message: &Message) -> Result<Line, NoMemory>
-    ensures { IfOk result (λ line. line ≡ line_of (Event.Sent channel message.now)) }
+fn sent(text: &mut Line, channel: Channel, message: &Message) -> Result<(), NoMemory>
+    ensures { OnOk result (text.new ≡ text.old ++ line_of (Event.Sent channel message.now)) }
 {
-    message_line(alloc, b"sent ", channel, message)
+    message_line(text, b"sent ", channel, message)
 }
 
-fn taken(alloc: Global, channel: Channel, message: &Message) -> Result<Line, NoMemory>
-    ensures { IfOk result (λ line. line ≡ line_of (Event.Taken channel message.now)) }
+fn taken(text: &mut Line, channel: Channel, message: &Message) -> Result<(), NoMemory>
+    ensures { OnOk result (text.new ≡ text.old ++ line_of (Event.Taken channel message.now)) }
 {
-    message_line(alloc, b"taken ", channel, message)
+    message_line(text, b"taken ", channel, message)
 }
 
 #[tactic(auto)]
 fn message_line(
-    alloc: Global,
+    text: &mut Line,
     word: &[u8],
     channel: Channel,
     message: &Message,
-) -> Result<Line, NoMemory>
-    ensures { IfOk result (λ line. line ≡ word.now ++ text_of_channel channel ++ codes " " ++ text_of_message message.now ++ newline) }
+) -> Result<(), NoMemory>
+    ensures { OnOk result (text.new ≡ text.old ++ (word.now ++ text_of_channel channel ++ codes " " ++ text_of_message message.now ++ newline)) }
 {
-    let mut line = Line::begun(alloc, word)?;
-    put_channel(&mut line, channel)?;
-    line.put_word(b" ")?;
-    put_message(&mut line, message)?;
-    line.end()?;
-    Ok(line)
+    text.put_word(word)?;
+    put_channel(text, channel)?;
+    text.put_word(b" ")?;
+    put_message(text, message)?;
+    text.end()
 }
 
-fn dropped(alloc: Global, host: HostId, object: ObjectId, page: PageNo) -> Result<Line, NoMemory>
-    ensures { IfOk result (λ line. line ≡ line_of (Event.Dropped host object page)) }
+fn dropped(text: &mut Line, host: HostId, object: ObjectId, page: PageNo) -> Result<(), NoMemory>
+    ensures { OnOk result (text.new ≡ text.old ++ line_of (Event.Dropped host object page)) }
 {
-    numbers_line(
-        alloc,
+    text.put_line(
         b"dropped",
         &[u64::from(host.0), u64::from(object.0), u64::from(page.0)],
     )
 }
 
-fn zeroed(alloc: Global, host: HostId, object: ObjectId, page: PageNo) -> Result<Line, NoMemory>
-    ensures { IfOk result (λ line. line ≡ line_of (Event.Zeroed host object page)) }
+fn zeroed(text: &mut Line, host: HostId, object: ObjectId, page: PageNo) -> Result<(), NoMemory>
+    ensures { OnOk result (text.new ≡ text.old ++ line_of (Event.Zeroed host object page)) }
 {
-    numbers_line(
-        alloc,
+    text.put_line(
         b"zeroed",
         &[u64::from(host.0), u64::from(object.0), u64::from(page.0)],
     )
 }
 
 fn raised(
-    alloc: Global,
+    text: &mut Line,
     host: HostId,
     lower: ObjectId,
     lower_page: PageNo,
     upper: ObjectId,
     upper_page: PageNo,
-) -> Result<Line, NoMemory>
-    ensures { IfOk result (λ line. line ≡ line_of (Event.Raised host lower lower_page upper upper_page)) }
+) -> Result<(), NoMemory>
+    ensures { OnOk result (text.new ≡ text.old ++ line_of (Event.Raised host lower lower_page upper upper_page)) }
 {
-    numbers_line(
-        alloc,
+    text.put_line(
         b"raised",
         &[
             u64::from(host.0),
@@ -522,31 +512,27 @@ fn raised(
     )
 }
 
-fn shadowed(alloc: Global, region: RegionId, new: ObjectId, old: ObjectId) -> Result<Line, NoMemory>
-    ensures { IfOk result (λ line. line ≡ line_of (Event.Shadowed region new old)) }
+fn shadowed(text: &mut Line, region: RegionId, new: ObjectId, old: ObjectId) -> Result<(), NoMemory>
+    ensures { OnOk result (text.new ≡ text.old ++ line_of (Event.Shadowed region new old)) }
 {
-    numbers_line(
-        alloc,
+    text.put_line(
         b"shadowed",
         &[u64::from(region.0), u64::from(new.0), u64::from(old.0)],
     )
 }
 
 fn device_failed(
-    alloc: Global,
+    text: &mut Line,
     who: Device,
     way: Way,
     object: ObjectId,
     page: PageNo,
-) -> Result<Line, NoMemory>
-    ensures { IfOk result (λ line. line ≡ line_of (Event.DeviceFailed who way object page)) }
+) -> Result<(), NoMemory>
+    ensures { OnOk result (text.new ≡ text.old ++ line_of (Event.DeviceFailed who way object page)) }
 {
-    let mut line = Line::begun(alloc, b"device")?;
-    line.put_word(device_word(who))?;
-    line.put_word(way_word(way))?;
-    line.put_fields(&[u64::from(object.0), u64::from(page.0)])?;
-    line.end()?;
-    Ok(line)
+    text.put_word(b"device")?;
+    text.put_word(device_word(who))?;
+    text.put_line(way_word(way), &[u64::from(object.0), u64::from(page.0)])
 }
 
 fn device_word(who: Device) -> &'static [u8]
@@ -567,14 +553,14 @@ fn way_word(way: Way) -> &'static [u8]
     }
 }
 
-fn no_slot(alloc: Global, object: ObjectId, page: PageNo) -> Result<Line, NoMemory>
-    ensures { IfOk result (λ line. line ≡ line_of (Event.NoSlot object page)) }
+fn no_slot(text: &mut Line, object: ObjectId, page: PageNo) -> Result<(), NoMemory>
+    ensures { OnOk result (text.new ≡ text.old ++ line_of (Event.NoSlot object page)) }
 {
-    numbers_line(alloc, b"noslot", &[u64::from(object.0), u64::from(page.0)])
+    text.put_line(b"noslot", &[u64::from(object.0), u64::from(page.0)])
 }
 
-fn wired(alloc: Global, host: HostId, count: u32) -> Result<Line, NoMemory>
-    ensures { IfOk result (λ line. line ≡ line_of (Event.Wired host count)) }
+fn wired(text: &mut Line, host: HostId, count: u32) -> Result<(), NoMemory>
+    ensures { OnOk result (text.new ≡ text.old ++ line_of (Event.Wired host count)) }
 {
-    numbers_line(alloc, b"wired", &[u64::from(host.0), u64::from(count)])
+    text.put_line(b"wired", &[u64::from(host.0), u64::from(count)])
 }

@@ -10,13 +10,10 @@ use std::alloc::Global;
 use std::marker::Model;
 use vm_base::{Inherit, NoMemory, Prot};
 
-// Most lines of a history are shorter, line end and all.
-const USUAL_BYTES: usize = 64;
-
 // Zeros at the end of a page are skipped by so many.
 const BLOCK_BYTES: usize = 64;
 
-/// A line of text, which contracts see as its bytes.
+/// Text that lines are put into, which contracts see as its bytes.
 #[derive(Drop)]
 pub struct Line {
     bytes: Vec<u8>,
@@ -38,14 +35,14 @@ impl Line {
         &self.bytes
     }
 
-    /// A line that begins with a word, and room for what most lines have behind it. It fails for want of
-    /// memory alone, and so does each call that puts something.
-    pub(crate) fn begun(alloc: Global, word: &[u8]) -> Result<Line, NoMemory>
-        ensures { IfOk result (λ line. line ≡ word.now) }
+    /// No text yet, and room for so many bytes. It fails for want of memory alone, and so does each call
+    /// that puts something.
+    pub fn with_room(alloc: Global, bytes: usize) -> Result<Line, NoMemory>
+        ensures { IfOk result (λ line. line ≡ []) }
     {
-        let mut bytes = Vec::with_capacity(alloc, USUAL_BYTES)?;
-        bytes.extend_from_slice(word)?;
-        Ok(Line { bytes })
+        Ok(Line {
+            bytes: Vec::with_capacity(alloc, bytes)?,
+        })
     }
 
     fn put_byte(&mut self, byte: u8) -> Result<(), NoMemory>
@@ -86,7 +83,7 @@ impl Line {
 
     /// Each number as a field, the first in front.
     #[tactic(auto, using(crate::proofs::Spelling::with_fields_more))]
-    pub(crate) fn put_fields(&mut self, numbers: &[u64]) -> Result<(), NoMemory>
+    fn put_fields(&mut self, numbers: &[u64]) -> Result<(), NoMemory>
         ensures { OnOk result (self.new ≡ with_fields self.old numbers.now) }
     {
         for number in numbers {
@@ -149,30 +146,20 @@ impl Line {
         Ok(())
     }
 
+    /// The same with the line end behind it.
+    pub(crate) fn put_line(&mut self, word: &[u8], numbers: &[u64]) -> Result<(), NoMemory>
+        ensures { OnOk result (self.new ≡ self.old ++ (with_fields word.now numbers.now ++ newline)) }
+    {
+        self.put_text(word, numbers)?;
+        self.end()
+    }
+
     /// The line end, one line feed.
     pub(crate) fn end(&mut self) -> Result<(), NoMemory>
         ensures { OnOk result (self.new ≡ self.old ++ newline) }
     {
         self.put_byte(b'\n')
     }
-}
-
-/// A word, and a field for each number.
-pub(crate) fn numbers_text(alloc: Global, word: &[u8], numbers: &[u64]) -> Result<Line, NoMemory>
-    ensures { IfOk result (λ text. text ≡ with_fields word.now numbers.now) }
-{
-    let mut text = Line::begun(alloc, word)?;
-    text.put_fields(numbers)?;
-    Ok(text)
-}
-
-/// The same with the line end behind it.
-pub(crate) fn numbers_line(alloc: Global, word: &[u8], numbers: &[u64]) -> Result<Line, NoMemory>
-    ensures { IfOk result (λ line. line ≡ with_fields word.now numbers.now ++ newline) }
-{
-    let mut line = numbers_text(alloc, word, numbers)?;
-    line.end()?;
-    Ok(line)
 }
 
 /// 1 for yes, 0 for no.

@@ -20,7 +20,7 @@ mod unbuilt;
 mod words;
 
 pub use error::ScriptError;
-pub use events::write_event;
+pub use events::{put_event, write_event};
 pub use fields::Line;
 pub use numbers::{count_in, number_of};
 pub use reader::read_script;

@@ -36,10 +36,10 @@ beyond_of start old new front piece whole n is one two =
     (length front + n, omega arith, rw (← is, take-append-add front piece n) (Appends-trans start old new front (take n piece) one two))
 
 -- one event's line more
-pub grown_more : (h : List Event) (i : ℕ) (e : Event) (front begun piece : List ℕ) → oldest_items (i + 1) h ≡ e ∷ oldest_items i h → front ++ begun ≡ text (oldest_items i h) → piece ≡ line_of e
-    → front ++ (begun ++ piece) ≡ text (oldest_items (i + 1) h)
-grown_more h i e front begun piece step is line =
-    sym (append_assoc front begun piece) ∙ (ap (λ z. z ++ piece) is ∙ (ap (λ z. text (oldest_items i h) ++ z) line ∙ sym (ap text step)))
+pub grown_more : (h : List Event) (i : ℕ) (e : Event) (front begun : List ℕ) → oldest_items (i + 1) h ≡ e ∷ oldest_items i h → front ++ begun ≡ text (oldest_items i h)
+    → front ++ (begun ++ line_of e) ≡ text (oldest_items (i + 1) h)
+grown_more h i e front begun step is =
+    sym (append_assoc front begun (line_of e)) ∙ (ap (λ z. z ++ line_of e) is ∙ sym (ap text step))
 
 keeps_more : (start old new : Option (List ℕ)) (bytes : List ℕ) → Appends start old bytes → Keeps old new → Appends start new bytes
 keeps_more None old new bytes one two = tt

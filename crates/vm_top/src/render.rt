@@ -14,23 +14,22 @@ use std::alloc::Global;
 use vm_base::{NoMemory, WriteStop};
 use vm_model::{History, ScriptFault};
 use vm_outside::Sink;
-use vm_text::write_event;
+use vm_text::{Line, put_event};
 
 // About as many bytes as an event's line has, for the room that a step's text takes at once.
 const USUAL_BYTES: usize = 40;
 
 // The text of the events from an index on.
-fn step_text(alloc: Global, history: &History, from: u32) -> Result<Vec<u8>, NoMemory>
+fn step_text(alloc: Global, history: &History, from: u32) -> Result<Line, NoMemory>
     requires { from ≤ length history.now.items }
-    ensures { IfOk result (λ bytes. text (oldest_items from history.now.items) ++ bytes.items ≡ text history.now.items) }
+    ensures { IfOk result (λ lines. text (oldest_items from history.now.items) ++ lines ≡ text history.now.items) }
 {
     let events = (history.len() - from) as usize;
-    let mut bytes = Vec::with_capacity(alloc, USUAL_BYTES * events)?;
+    let mut lines = Line::with_room(alloc, USUAL_BYTES * events)?;
     for i in from..history.len() {
-        let line = write_event(alloc, history.at(i))?;
-        bytes.extend_from_slice(line.as_slice())?;
+        put_event(&mut lines, history.at(i))?;
     }
-    Ok(bytes)
+    Ok(lines)
 }
 
 /// Writes the events from an index on, in one piece. Where the text up to there has been written,
@@ -55,10 +54,10 @@ pub fn write_step<K: Sink>(
         → Appends start (K.written out.old) (text (oldest_items from history.now.items))
         → IsErrOf result WriteStop.NoMemory → Appends start (K.written out.new) (text (oldest_items from history.now.items)) }
 {
-    let Ok(bytes) = step_text(alloc, history, from) else {
+    let Ok(lines) = step_text(alloc, history, from) else {
         return Err(WriteStop::NoMemory);
     };
-    out.write(&bytes)
+    out.write(lines.as_slice())
 }
 
 fn number_into(bytes: &mut Vec<u8>, number: u32) -> Result<(), NoMemory>

@@ -1,4 +1,4 @@
-use Rattle.std.proofs.Common.{◌∙◌, arith}
+use Rattle.std.proofs.Common.{arith}
 use Rattle.vm_model.specs.Text.{text}
 use Rattle.vm_top.specs.Writing.{oldest_items}
 use Rattle.vm_top.proofs.Writings.{oldest_step, grown_more}
@@ -10,5 +10,5 @@ loop-i-preserved c =
     let step = oldest_step h c.loop-i.i c.at.result.now c.at.ensures in
     record {
       inside = omega arith;
-      goes_on = rw c.in_ok-extend_from_slice.ensures.items (grown_more h c.loop-i.i c.at.result.now (text (oldest_items c.args.from h)) c.loop-i.bytes.items c.as_slice.result.now step c.loop-i.invariant.goes_on (c.as_slice.ensures ∙ c.in_ok-line.ensures));
+      goes_on = rw c.in_ok-put_event.ensures (grown_more h c.loop-i.i c.at.result.now (text (oldest_items c.args.from h)) c.loop-i.lines step c.loop-i.invariant.goes_on);
     }

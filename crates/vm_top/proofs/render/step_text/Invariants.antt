@@ -6,5 +6,5 @@ use Rattle.vm_top.proofs.render.step_text.Given as goal
 abbrev pub invariant-loop-i : goal.invariant-loop-i
 invariant-loop-i l = record {
   inside : l.i ≤ length l.history.items;
-  goes_on : text (oldest_items l.from l.history.items) ++ l.bytes.items ≡ text (oldest_items l.i l.history.items);
+  goes_on : text (oldest_items l.from l.history.items) ++ l.lines ≡ text (oldest_items l.i l.history.items);
 }
