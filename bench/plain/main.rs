@@ -92,12 +92,10 @@ fn run(script: &Script, shows: bool) -> Status {
         Ok(true) => Status::Done,
         Ok(false) => Status::EventLimit,
     };
-    if !shows {
-        return tell(&system.out.summary(), status);
-    }
-    match system.out.flush() {
-        Ok(()) => status,
-        Err(_) => Status::OutputFault,
+    if shows {
+        status
+    } else {
+        tell(&system.out.summary(), status)
     }
 }
 
@@ -108,7 +106,7 @@ fn run_all(script: &Script, system: &mut System) -> io::Result<bool> {
             return Ok(false);
         }
         system.step(*line, command);
-        system.out.pass_on()?;
+        system.out.end_step()?;
         let Command::Settle { count } = command else { continue };
         for _ in 0..*count {
             if system.is_quiet() {
@@ -118,7 +116,7 @@ fn run_all(script: &Script, system: &mut System) -> io::Result<bool> {
                 return Ok(false);
             }
             system.take_oldest();
-            system.out.pass_on()?;
+            system.out.end_step()?;
         }
     }
     Ok(true)

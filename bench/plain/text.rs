@@ -4,9 +4,6 @@ use std::io::{self, Write};
 
 use crate::ports::{Channel, Message};
 
-// The text is passed on when it is longer.
-const PIECE: usize = 65_536;
-
 const HEX: [[u8; 2]; 256] = {
     let digits = b"0123456789abcdef";
     let mut pairs = [[0; 2]; 256];
@@ -52,20 +49,14 @@ pub struct Out {
 
 impl Out {
     pub fn new(shows: bool) -> Out {
-        let text = Vec::with_capacity(if shows { PIECE + PIECE / 4 } else { 0 });
-        Out { text, shows, events: 0, counts: Counts::default() }
+        Out { text: Vec::new(), shows, events: 0, counts: Counts::default() }
     }
 
-    /// Writes the text, where there is a piece of it.
-    pub fn pass_on(&mut self) -> io::Result<()> {
-        if self.text.len() < PIECE {
-            Ok(())
-        } else {
-            self.flush()
+    /// Writes a step's text, in one piece as the program does.
+    pub fn end_step(&mut self) -> io::Result<()> {
+        if self.text.is_empty() {
+            return Ok(());
         }
-    }
-
-    pub fn flush(&mut self) -> io::Result<()> {
         let mut sink = io::stdout().lock();
         sink.write_all(&self.text)?;
         self.text.clear();
