@@ -1,0 +1,6 @@
+pub mod Lines
+pub mod Numbers
+pub mod Reading
+pub mod Spelt
+pub mod Taken
+pub mod Words
