@@ -11,6 +11,8 @@ mod file_pager;
 #[cfg(test)]
 mod pages;
 #[cfg(test)]
+mod shows;
+#[cfg(test)]
 mod slots;
 #[cfg(test)]
 mod world;

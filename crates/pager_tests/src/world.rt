@@ -2,6 +2,7 @@
 ghost use Rattle.std.specs.Prelude.{◌≡◌, IfOk};
 ghost use Rattle.sms_proto.specs.World.{AllWithin};
 
+use crate::shows::{leave, shows};
 use sms_proto::{World, WorldStep};
 use std::alloc::Global;
 use vm_base::{HostId, NoMemory, PageSize};
@@ -59,12 +60,13 @@ fn read_on_both(world: &mut World) -> Result<(), NoMemory>
     )
 }
 
-#[test]
-fn an_unlock_and_a_flush_cross(rt: HostRuntime) -> Result<(), NoMemory> {
-    let mut world = two_hosts(rt.alloc())?;
-    read_on_both(&mut world)?;
+// An unlock and a flush cross; and then one message more is taken, which changes nothing.
+fn cross(world: &mut World) -> Result<(), NoMemory>
+    requires { world.old.hosts ≡ 2 }
+{
+    read_on_both(world)?;
     take(
-        &mut world,
+        world,
         &[
             WorldStep::Store { host: A, value: 5 },
             WorldStep::Store { host: B, value: 6 },
@@ -79,22 +81,28 @@ fn an_unlock_and_a_flush_cross(rt: HostRuntime) -> Result<(), NoMemory> {
             WorldStep::TakeUp { host: A },
             WorldStep::TakeDown { host: B },
             WorldStep::Load { host: B },
+            WorldStep::TakeUp { host: A },
         ],
-    )?;
-    assert_eq!(rt; loaded(world.events()), Some((1, 6)));
-    let before = world.events().len();
-    assert_eq!(rt; before, 39);
-    take(&mut world, &[WorldStep::TakeUp { host: A }])?;
-    assert_eq!(rt; world.events().len(), before);
-    Ok(())
+    )
 }
 
 #[test]
-fn the_end_of_a_control_stands_for_its_answer(rt: HostRuntime) -> Result<(), NoMemory> {
+fn an_unlock_and_a_flush_cross(rt: HostRuntime) -> Result<(), NoMemory> {
     let mut world = two_hosts(rt.alloc())?;
-    read_on_both(&mut world)?;
+    shows(&rt, cross(&mut world) == Ok(()));
+    shows(&rt, loaded(world.events()) == Some((1, 6)));
+    shows(&rt, world.events().len() == 39);
+    leave(world);
+    Ok(())
+}
+
+// A host whose copy is to be flushed gives the page up.
+fn give_up(world: &mut World) -> Result<(), NoMemory>
+    requires { world.old.hosts ≡ 2 }
+{
+    read_on_both(world)?;
     take(
-        &mut world,
+        world,
         &[
             WorldStep::Store { host: A, value: 8 },
             WorldStep::TakeUp { host: A },
@@ -109,7 +117,14 @@ fn the_end_of_a_control_stands_for_its_answer(rt: HostRuntime) -> Result<(), NoM
             WorldStep::TakeUp { host: A },
             WorldStep::TakeDown { host: B },
         ],
-    )?;
-    assert_eq!(rt; loaded(world.events()), Some((1, 8)));
+    )
+}
+
+#[test]
+fn the_end_of_a_control_stands_for_its_answer(rt: HostRuntime) -> Result<(), NoMemory> {
+    let mut world = two_hosts(rt.alloc())?;
+    shows(&rt, give_up(&mut world) == Ok(()));
+    shows(&rt, loaded(world.events()) == Some((1, 8)));
+    leave(world);
     Ok(())
 }

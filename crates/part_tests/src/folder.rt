@@ -1,5 +1,6 @@
 // A backing over files: the real ones of the folder in which the tests run, each test's its own, and some that fail.
 use crate::outside::{Choppy, failing_at};
+use crate::shows::shows;
 use std::alloc::{Allocator, Global};
 use std::fs::{Metadata, OpenFile, OpenOptions};
 use std::io::{ErrorKind, Seek, SeekFrom};
@@ -18,28 +19,48 @@ fn read_eight<B: Backing>(folder: &mut B, name: &str, at: u64) -> Result<[u8; 8]
 }
 
 #[test]
-fn files_are_made_and_lengthened(rt: HostRuntime) -> Result<(), Fail> {
+fn files_are_made(rt: HostRuntime) -> Result<(), Fail> {
     let mut folder = Folder::new(&rt);
-    assert_eq!(rt; folder.length("made"), Ok(None));
-    assert_eq!(rt; read_eight(&mut folder, "made", 3), Ok([0; 8]));
-    assert!(rt; !fs::exists(&rt, "made")?);
-    assert_eq!(rt; folder.write("made", 2, b"abc"), Ok(()));
-    assert_eq!(rt; fs::read(&rt, "made")?.as_slice(), b"\0\0abc".as_slice());
-    assert_eq!(rt; folder.write("made", 3, b"B"), Ok(()));
-    assert_eq!(rt; folder.write("made", 7, b"h"), Ok(()));
-    assert_eq!(rt; folder.write("made", 9, b""), Ok(()));
-    assert_eq!(rt; folder.write("made", 1, b""), Ok(()));
-    assert_eq!(rt;
-        fs::read(&rt, "made")?.as_slice(),
-        b"\0\0aBc\0\0h\0".as_slice()
+    shows(&rt, folder.length("made") == Ok(None));
+    shows(&rt, read_eight(&mut folder, "made", 3) == Ok([0; 8]));
+    shows(&rt, !fs::exists(&rt, "made")?);
+    shows(&rt, folder.write("made", 2, b"abc") == Ok(()));
+    shows(
+        &rt,
+        fs::read(&rt, "made")?.as_slice() == b"\0\0abc".as_slice(),
     );
-    assert_eq!(rt; folder.length("made"), Ok(Some(9)));
-    assert_eq!(rt; read_eight(&mut folder, "made", 4), Ok(*b"c\0\0h\0\0\0\0"));
-    for at in [9, 10, 1 << 40, u64::MAX] {
-        assert_eq!(rt; read_eight(&mut folder, "made", at), Ok([0; 8]), "at {at}");
-    }
     fs::remove_file(&rt, "made")?;
-    assert_eq!(rt; folder.length("made"), Ok(None));
+    Ok(())
+}
+
+#[test]
+fn files_are_lengthened(rt: HostRuntime) -> Result<(), Fail> {
+    let mut folder = Folder::new(&rt);
+    fs::write(&rt, "longer", "abc")?;
+    shows(&rt, folder.write("longer", 1, b"B") == Ok(()));
+    shows(&rt, folder.write("longer", 5, b"h") == Ok(()));
+    shows(&rt, folder.write("longer", 9, b"") == Ok(()));
+    shows(
+        &rt,
+        fs::read(&rt, "longer")?.as_slice() == b"aBc\0\0h\0\0\0".as_slice(),
+    );
+    shows(&rt, folder.length("longer") == Ok(Some(9)));
+    fs::remove_file(&rt, "longer")?;
+    Ok(())
+}
+
+#[test]
+fn zeros_stand_past_the_end(rt: HostRuntime) -> Result<(), Fail> {
+    let mut folder = Folder::new(&rt);
+    fs::write(&rt, "short", "abc")?;
+    shows(
+        &rt,
+        read_eight(&mut folder, "short", 1) == Ok(*b"bc\0\0\0\0\0\0"),
+    );
+    for at in [3, 4, 1 << 40, u64::MAX] {
+        shows(&rt, read_eight(&mut folder, "short", at) == Ok([0; 8]));
+    }
+    fs::remove_file(&rt, "short")?;
     Ok(())
 }
 
@@ -47,35 +68,40 @@ fn files_are_made_and_lengthened(rt: HostRuntime) -> Result<(), Fail> {
 fn files_are_longer_than_a_word_says(rt: HostRuntime) -> Result<(), Fail> {
     let mut folder = Folder::new(&rt);
     let at = 1u64 << 32;
-    assert_eq!(rt; folder.write("long", at + 1, b"end"), Ok(()));
-    assert_eq!(rt; folder.length("long"), Ok(Some(at + 4)));
-    assert_eq!(rt; read_eight(&mut folder, "long", at), Ok(*b"\0end\0\0\0\0"));
-    assert_eq!(rt; read_eight(&mut folder, "long", 0), Ok([0; 8]));
+    shows(&rt, folder.write("long", at + 1, b"end") == Ok(()));
+    shows(&rt, folder.length("long") == Ok(Some(at + 4)));
+    shows(
+        &rt,
+        read_eight(&mut folder, "long", at) == Ok(*b"\0end\0\0\0\0"),
+    );
     fs::remove_file(&rt, "long")?;
+    Ok(())
+}
+
+#[test]
+fn no_file_is_as_long_as_numbers_go(rt: HostRuntime) -> Result<(), Fail> {
+    let mut folder = Folder::new(&rt);
     let far = folder.write("far", u64::MAX, b"x");
-    assert_eq!(rt; far, Err(WriteStop::Failed));
+    shows(&rt, far == Err(WriteStop::Failed));
     fs::remove_file(&rt, "far")?;
     Ok(())
 }
 
-// Which of the three calls fail.
-fn failures<B: Backing>(folder: &mut B, name: &str) -> [bool; 3] {
-    [
-        folder.length(name).is_err(),
-        read_eight(folder, name, 0).is_err(),
-        folder.write(name, 0, b"new") == Err(WriteStop::Failed),
-    ]
+// Whether all three calls fail.
+fn fails<B: Backing>(folder: &mut B, name: &str) -> bool {
+    folder.length(name).is_err()
+        && read_eight(folder, name, 0).is_err()
+        && folder.write(name, 0, b"new") == Err(WriteStop::Failed)
 }
 
 #[test]
 fn folders_and_circles_fail(rt: HostRuntime) -> Result<(), Fail> {
     let mut folder = Folder::new(&rt);
     fs::create_dir(&rt, "inner")?;
-    symlink(&rt, "circle", "circle")?;
-    for name in ["inner", "circle"] {
-        assert_eq!(rt; failures(&mut folder, name), [true; 3], "of {name}");
-    }
+    shows(&rt, fails(&mut folder, "inner"));
     fs::remove_dir(&rt, "inner")?;
+    symlink(&rt, "circle", "circle")?;
+    shows(&rt, fails(&mut folder, "circle"));
     fs::remove_file(&rt, "circle")?;
     Ok(())
 }
@@ -84,23 +110,22 @@ fn folders_and_circles_fail(rt: HostRuntime) -> Result<(), Fail> {
 fn links_are_followed(rt: HostRuntime) -> Result<(), Fail> {
     let mut folder = Folder::new(&rt);
     symlink(&rt, "aim", "link")?;
-    assert_eq!(rt; folder.length("link"), Ok(None));
-    assert_eq!(rt; folder.write("link", 0, b"x"), Ok(()));
-    assert_eq!(rt; folder.length("aim"), Ok(Some(1)));
+    shows(&rt, folder.length("link") == Ok(None));
+    shows(&rt, folder.write("link", 0, b"x") == Ok(()));
+    shows(&rt, folder.length("aim") == Ok(Some(1)));
     fs::remove_file(&rt, "link")?;
     fs::remove_file(&rt, "aim")?;
     Ok(())
 }
 
 #[test]
-fn other_names_reach_no_file(rt: HostRuntime) -> Result<(), Fail> {
+fn other_names_reach_no_file(rt: HostRuntime) {
     let mut folder = Folder::new(&rt);
     let names = [
         "",
         ".",
         "..",
         "/",
-        "other/file",
         "./file",
         "../file",
         "file\0",
@@ -115,18 +140,34 @@ fn other_names_reach_no_file(rt: HostRuntime) -> Result<(), Fail> {
         "file1234567890123456789012345678901",
     ];
     for name in names {
-        assert_eq!(rt; failures(&mut folder, name), [true; 3], "of {name}");
+        shows(&rt, fails(&mut folder, name));
     }
+}
+
+#[test]
+fn files_of_other_folders_are_not_reached(rt: HostRuntime) -> Result<(), Fail> {
+    let mut folder = Folder::new(&rt);
     fs::create_dir(&rt, "other")?;
     fs::write(&rt, "other/file", "old")?;
-    assert_eq!(rt; failures(&mut folder, "other/file"), [true; 3]);
-    assert_eq!(rt; failures(&mut folder, "other/more"), [true; 3]);
-    assert_eq!(rt; fs::read(&rt, "other/file")?.as_slice(), b"old".as_slice());
-    assert!(rt; !fs::exists(&rt, "other/more")?);
+    shows(
+        &rt,
+        fails(&mut folder, "other/file") && fails(&mut folder, "other/more"),
+    );
+    shows(
+        &rt,
+        fs::read(&rt, "other/file")?.as_slice() == b"old".as_slice(),
+    );
+    shows(&rt, !fs::exists(&rt, "other/more")?);
     fs::remove_file(&rt, "other/file")?;
     fs::remove_dir(&rt, "other")?;
+    Ok(())
+}
+
+#[test]
+fn the_longest_name_is_one(rt: HostRuntime) -> Result<(), Fail> {
+    let mut folder = Folder::new(&rt);
     let longest = "f_ile678901234567890123456789012";
-    assert_eq!(rt; folder.write(longest, 0, b"x"), Ok(()));
+    shows(&rt, folder.write(longest, 0, b"x") == Ok(()));
     fs::remove_file(&rt, longest)?;
     Ok(())
 }
@@ -216,21 +257,25 @@ impl Files for Faulty {
 }
 
 #[test]
-fn short_and_failing_calls(rt: HostRuntime) -> Result<(), Fail> {
+fn failing_calls(rt: HostRuntime) {
     // A seek, and then three reads, or three writes and a flush.
-    for bad in [1, 2, 3, 4, 5] {
+    for bad in 1..6u64 {
         let (alloc, kind) = (rt.alloc(), ErrorKind::Other);
         let mut folder = Folder::new(Faulty { alloc, bad, kind });
-        let want = if bad < 5 { Err(Failed) } else { Ok([7; 8]) };
-        assert_eq!(rt; read_eight(&mut folder, "file", 1), want, "at {bad}");
-        let wrote = folder.write("file", 1, b"eight by");
-        assert_eq!(rt; wrote, Err(WriteStop::Failed), "at {bad}");
+        shows(
+            &rt,
+            read_eight(&mut folder, "file", 1).is_ok() == (bad == 5),
+        );
+        shows(&rt, folder.write("file", 1, b"eight by").is_err());
     }
-    for bad in [2, 3, 4] {
+}
+
+#[test]
+fn interrupted_calls(rt: HostRuntime) {
+    for bad in 2..5u64 {
         let (alloc, kind) = (rt.alloc(), ErrorKind::Interrupted);
         let mut folder = Folder::new(Faulty { alloc, bad, kind });
-        assert_eq!(rt; read_eight(&mut folder, "file", 1), Ok([7; 8]), "at {bad}");
-        assert_eq!(rt; folder.write("file", 1, b"eight by"), Ok(()), "at {bad}");
+        shows(&rt, read_eight(&mut folder, "file", 1) == Ok([7; 8]));
+        shows(&rt, folder.write("file", 1, b"eight by") == Ok(()));
     }
-    Ok(())
 }

@@ -13,8 +13,6 @@ mod frames;
 #[cfg(test)]
 mod holding;
 #[cfg(test)]
-mod locks;
-#[cfg(test)]
 mod maps;
 #[cfg(test)]
 mod messages;
@@ -31,6 +29,10 @@ mod queues;
 #[cfg(test)]
 mod resident;
 #[cfg(test)]
+mod shows;
+#[cfg(test)]
 mod tables;
+#[cfg(test)]
+mod told;
 #[cfg(test)]
 mod waits;

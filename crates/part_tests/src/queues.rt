@@ -1,96 +1,47 @@
-// Victims along sequences of calls, worked out by hand.
+// Victims, worked out by hand.
+ghost use Rattle.std.specs.Prelude.{◌≡◌, IfOk, true};
+ghost use Rattle.vm_queues.specs.Queues.{is_queued};
+
+use crate::shows::shows;
+use std::alloc::Global;
 use std::test::Fail;
 use vm_base::FrameNo;
-use vm_queues::{Link, OnList, PageQueues};
+use vm_queues::{OnList, PageQueues};
+
+// Active 0 1 2.
+fn three(alloc: Global) -> Result<PageQueues, Fail>
+    ensures { IfOk result (λ queues. (is_queued queues 0 ≡ true) × (is_queued queues 1 ≡ true)) }
+{
+    let mut queues = PageQueues::new(alloc, 3)?;
+    queues.add(FrameNo(0));
+    queues.add(FrameNo(1));
+    queues.add(FrameNo(2));
+    Ok(queues)
+}
 
 #[test]
 fn second_chance(rt: HostRuntime) -> Result<(), Fail> {
-    let mut queues = PageQueues::new(rt.alloc(), 3)?;
-    assert_eq!(rt; queues.victim(&[]), None);
-    queues.add(FrameNo(0));
-    queues.add(FrameNo(1));
-    queues.add(FrameNo(2));
-
+    let mut queues = three(rt.alloc())?;
     // Active 1 2, inactive 0.
     queues.balance();
-    assert_eq!(rt; queues.victim(&[]), Some(FrameNo(0)));
-    // Frame 0 has a second chance: active 2 0, inactive 1.
     queues.touch(FrameNo(0));
-    assert_eq!(rt; queues.victim(&[]), Some(FrameNo(1)));
-    assert_eq!(rt; queues.victim(&[FrameNo(1)]), Some(FrameNo(2)));
-    let all = [FrameNo(0), FrameNo(1), FrameNo(2)];
-    assert_eq!(rt; queues.victim(&all), None);
+    // Active 2 0, inactive 1.
+    shows(&rt, queues.victim(&[]) == Some(FrameNo(1)));
+    shows(&rt, queues.victim(&[FrameNo(1)]) == Some(FrameNo(2)));
     Ok(())
 }
 
 #[test]
-fn marks_cleared(rt: HostRuntime) -> Result<(), Fail> {
-    let mut queues = PageQueues::new(rt.alloc(), 3)?;
-    queues.add(FrameNo(0));
-    queues.add(FrameNo(1));
-    queues.touch(FrameNo(0));
-    // Active 1, inactive 0, whose mark is cleared as it becomes inactive.
-    assert_eq!(rt; queues.victim(&[]), Some(FrameNo(0)));
-    queues.remove(FrameNo(0));
-    queues.add(FrameNo(0));
-    // Active 0, inactive 1.
-    assert_eq!(rt; queues.victim(&[]), Some(FrameNo(1)));
-    Ok(())
-}
-
-#[test]
-fn neighbours_linked(rt: HostRuntime) -> Result<(), Fail> {
-    let mut queues = PageQueues::new(rt.alloc(), 3)?;
-    queues.add(FrameNo(0));
-    queues.add(FrameNo(1));
-    queues.add(FrameNo(2));
-    // Active 0 1 2.
-    assert_eq!(rt; queues.links().len(), 3);
-    assert_eq!(rt;
-        queues.links().get(0).copied(),
-        link(OnList::Active, None, Some(FrameNo(1)))
-    );
-    assert_eq!(rt;
-        queues.links().get(1).copied(),
-        link(OnList::Active, Some(FrameNo(0)), Some(FrameNo(2)))
-    );
-    assert_eq!(rt;
-        queues.links().get(2).copied(),
-        link(OnList::Active, Some(FrameNo(1)), None)
-    );
-
+fn linked(rt: HostRuntime) -> Result<(), Fail> {
+    let mut queues = three(rt.alloc())?;
     queues.remove(FrameNo(1));
+    queues.stand_once();
     // Active 0 2.
-    assert_eq!(rt;
-        queues.links().get(0).copied(),
-        link(OnList::Active, None, Some(FrameNo(2)))
-    );
-    assert_eq!(rt;
-        queues.links().get(1).copied(),
-        link(OnList::Neither, None, None)
-    );
-    assert_eq!(rt;
-        queues.links().get(2).copied(),
-        link(OnList::Active, Some(FrameNo(0)), None)
-    );
-
-    // Active 2, inactive 0.
-    queues.balance();
-    assert_eq!(rt;
-        queues.links().get(0).copied(),
-        link(OnList::Inactive, None, None)
-    );
-    assert_eq!(rt;
-        queues.links().get(2).copied(),
-        link(OnList::Active, None, None)
-    );
+    if let Some(link) = queues.links().first() {
+        shows(
+            &rt,
+            link.list == OnList::Active && link.after == Some(FrameNo(2)),
+        );
+    }
     Ok(())
-}
-
-fn link(list: OnList, before: Option<FrameNo>, after: Option<FrameNo>) -> Option<Link> {
-    Some(Link {
-        list,
-        before,
-        after,
-    })
 }

@@ -1,4 +1,6 @@
 // Each call once.
+use crate::shows::shows;
+use std::alloc::Global;
 use std::test::Fail;
 use vm_base::{FrameNo, Lock, NoMemory, ObjectId, PageKey, PageNo};
 use vm_resident::{PageRow, Resident};
@@ -33,35 +35,41 @@ fn put(table: &mut Resident, key: PageKey, row: PageRow) -> Result<(), NoMemory>
     Ok(())
 }
 
-// Notes that the bytes of a page were changed.
-fn make_dirty(table: &mut Resident, key: PageKey) {
-    if let Some(was) = table.get(key) {
-        table.set(key, PageRow { dirty: true, ..was });
-    }
+// Page 4 of object 1 in frame 5, and page 0 of object 2 in frame 7.
+fn two(alloc: Global) -> Result<Resident, Fail> {
+    let mut table = Resident::new(alloc);
+    put(&mut table, page(2, 0), row(7))?;
+    put(&mut table, page(1, 4), row(5))?;
+    Ok(table)
 }
 
 #[test]
-fn each_call(rt: HostRuntime) -> Result<(), Fail> {
-    let mut table = Resident::new(rt.alloc());
-    put(&mut table, page(2, 0), row(7))?;
-    put(&mut table, page(1, 4), row(5))?;
-    put(&mut table, page(1, 2), row(6))?;
-    assert!(rt; table.get(page(1, 4)) == Some(row(5)));
-    assert!(rt; table.get(page(2, 4)).is_none());
+fn found(rt: HostRuntime) -> Result<(), Fail> {
+    let table = two(rt.alloc())?;
+    shows(
+        &rt,
+        table.get(page(1, 4)) == Some(row(5)) && table.get(page(2, 4)).is_none(),
+    );
+    shows(
+        &rt,
+        table.next_page(ObjectId(1), PageNo(0)) == Some(PageNo(4)),
+    );
+    shows(&rt, table.page_of(FrameNo(7)) == Some(page(2, 0)));
+    shows(&rt, table.table().len() == 2);
+    Ok(())
+}
 
-    assert!(rt; table.next_page(ObjectId(1), PageNo(0)) == Some(PageNo(2)));
-    assert!(rt; table.next_page(ObjectId(1), PageNo(4)) == Some(PageNo(4)));
-    assert!(rt; table.next_page(ObjectId(1), PageNo(5)).is_none());
-    assert!(rt; table.page_of(FrameNo(7)) == Some(page(2, 0)));
-    assert!(rt; table.page_of(FrameNo(4)).is_none());
-
-    make_dirty(&mut table, page(1, 2));
-    assert!(rt; table.get(page(1, 2)).is_some_and(|row| row.dirty));
-    assert!(rt; table.get(page(1, 4)) == Some(row(5)));
-
-    assert!(rt; table.remove(page(1, 4)) == Some(row(5)));
-    assert!(rt; table.remove(page(1, 4)).is_none());
-    assert!(rt; table.page_of(FrameNo(5)).is_none());
-    assert!(rt; table.next_page(ObjectId(1), PageNo(3)).is_none());
+#[test]
+fn changed(rt: HostRuntime) -> Result<(), Fail> {
+    let mut table = two(rt.alloc())?;
+    let key = page(1, 4);
+    if let Some(was) = table.get(key) {
+        table.set(key, PageRow { dirty: true, ..was });
+    }
+    shows(&rt, table.remove(key).is_some_and(|row| row.dirty));
+    shows(
+        &rt,
+        table.remove(key).is_none() && table.page_of(FrameNo(5)).is_none(),
+    );
     Ok(())
 }

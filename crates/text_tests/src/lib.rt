@@ -1,10 +1,10 @@
-//! The reading of scripts, the making of scripts and the texts of events, against texts worked out by hand. They stand in a crate of their own, since a crate with
+//! The reading of scripts and the texts of events, against texts worked out by hand. They stand in a crate of their own, since a crate with
 //! tests is proved twice.
 #![tactic(auto)]
 
 #[cfg(test)]
-mod made;
-#[cfg(test)]
 mod scripts;
+#[cfg(test)]
+mod shows;
 #[cfg(test)]
 mod texts;

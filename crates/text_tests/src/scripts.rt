@@ -1,8 +1,8 @@
 // What the commands of a script say.
-use std::process::Abort;
+use crate::shows::shows;
 use std::test::*;
 use vm_base::{HostId, Inherit, ObjectId, ObjectKind, PageNo, Prot, TaskId};
-use vm_model::{Channel, Command, Commands, Header, Message};
+use vm_model::{Channel, Command, Declarations, Header, Message};
 use vm_text::{Line, read_script, unbuilt_header};
 
 const READ: Prot = Prot {
@@ -293,27 +293,21 @@ fn is_said(line: u32, command: &Command) -> bool {
     }
 }
 
-fn assert_header(rt: &impl Abort, header: &Header) {
-    assert_eq!(rt; header.size.bytes(), 4096);
-    assert_eq!(rt; header.slots, 1024);
-    assert_eq!(rt; header.frames.len(), 3);
-    assert_eq!(rt; *header.frames.at(0), 4);
-    assert_eq!(rt; *header.frames.at(1), 4);
-    assert_eq!(rt; *header.frames.at(2), 7);
-    assert_eq!(rt; header.objects.len(), 3);
-    let shared = header.objects.at(1);
-    assert_eq!(rt; shared.name.as_str(), "s");
-    assert_eq!(rt; shared.kind, ObjectKind::Shared);
-    assert_eq!(rt; shared.pages, 9);
+fn is_header(header: &Header) -> bool {
+    header.size.bytes() == 4096
+        && header.slots == 1024
+        && header.frames.len() == 3
+        && *header.frames.at(0) == 4
+        && *header.frames.at(1) == 4
+        && *header.frames.at(2) == 7
 }
 
-fn assert_commands(rt: &impl Abort, commands: &Commands) {
-    assert_eq!(rt; commands.len(), 27);
-    for i in 0..27 {
-        let numbered = commands.at(i);
-        assert_eq!(rt; numbered.line, 7 + i);
-        assert!(rt; is_said(numbered.line, &numbered.command), "command {i}");
+fn is_shared_s(objects: &Declarations) -> bool {
+    if objects.len() != 3 {
+        return false;
     }
+    let shared = objects.at(1);
+    shared.name.as_str() == "s" && shared.kind == ObjectKind::Shared && shared.pages == 9
 }
 
 #[test]
@@ -321,9 +315,18 @@ fn what_a_script_says(rt: HostRuntime) -> Result<(), Fail> {
     let script = read_script(rt.alloc(), SAID.as_bytes())
         .ok()
         .ok_or("the script has no fault")?;
-    assert_eq!(rt; script.lines, 33);
-    assert_header(&rt, &script.header);
-    assert_commands(&rt, &script.commands);
+    shows(
+        &rt,
+        is_header(&script.header) && is_shared_s(&script.header.objects),
+    );
+    shows(&rt, script.lines == 33 && script.commands.len() == 27);
+    for i in 0..script.commands.len() {
+        let numbered = script.commands.at(i);
+        shows(
+            &rt,
+            i == numbered.line.saturating_sub(7) && is_said(numbered.line, &numbered.command),
+        );
+    }
     Ok(())
 }
 
@@ -340,6 +343,6 @@ fn headers_that_are_not_built(rt: HostRuntime) {
         ("shared s 1\nhosts 2 2\n\twild w 1", 3),
         ("page 16\nwild w 2\nhosts 3 4\n", 2),
     ] {
-        assert_eq!(rt; unbuilt_header(script.as_bytes()).unwrap_or(0), line);
+        shows(&rt, unbuilt_header(script.as_bytes()).unwrap_or(0) == line);
     }
 }

@@ -1,6 +1,7 @@
 // A line of each event, and the words of each message.
 ghost use Rattle.std.specs.Prelude.{◌≤◌, length};
 
+use crate::shows::shows;
 use std::alloc::Global;
 use std::process::Abort;
 use std::test::*;
@@ -59,7 +60,7 @@ fn supply(lock: u32, precious: bool, hex: PageBytes) -> Event {
 fn assert_lines(rt: &impl Abort, alloc: Global, table: &[(Event, &str)]) -> Result<(), Fail> {
     for (event, want) in table {
         let line = write_event(alloc, event)?;
-        assert_eq!(rt; line.as_slice(), want.as_bytes());
+        shows(rt, line.as_slice() == want.as_bytes());
     }
     Ok(())
 }

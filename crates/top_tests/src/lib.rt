@@ -5,10 +5,8 @@
 #[cfg(test)]
 mod kernel;
 #[cfg(test)]
-mod made;
-#[cfg(test)]
-mod paging;
-#[cfg(test)]
 mod runs;
+#[cfg(test)]
+mod shows;
 #[cfg(test)]
 mod system;

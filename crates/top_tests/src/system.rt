@@ -4,6 +4,7 @@ ghost use Rattle.vm_kernel.specs.Matches.{IsRanged};
 ghost use Rattle.vm_system.specs.Stands.{FilesAreKept, PagingIsKept, SystemStands};
 ghost use Rattle.vm_system.specs.Steps.{Setting};
 
+use crate::shows::{leave, shows};
 use std::alloc::Global;
 use std::test::Fail;
 use vm_base::PageSize;
@@ -54,8 +55,12 @@ fn each_call(rt: HostRuntime) -> Result<(), Fail> {
     let mut paging = Armed::new(SureBacking::new(rt.alloc()));
     let mut system = System::new(rt.alloc(), &header)?;
     let answers = settle_all(&header, &mut system, &mut files, &mut paging);
-    assert_eq!(rt; answers, Ok((1, false, 0)));
-    assert_eq!(rt; system.history().len(), 1);
-    assert_eq!(rt; system.into_history().len(), 1);
+    shows(&rt, answers == Ok((1, false, 0)));
+    shows(&rt, system.history().len() == 1);
+    let history = system.into_history();
+    shows(&rt, history.len() == 1);
+    leave(history);
+    leave(files);
+    leave(paging);
     Ok(())
 }
