@@ -1,5 +1,5 @@
 -- Each event of a history that the commands made has its cause.
-use Rattle.std.proofs.Common.{◌≡◌, List, [], ◌∷◌, ◌++◌, Option, Some, None, MatchOption, sym, subst}
+use Rattle.std.proofs.Common.{◌≡◌, List, [], ◌∷◌, ◌++◌, Option, Some, None, MatchOption, sym, subst, inl, inr, ◌⊎◌}
 use Rattle.std.specs.Prelude.{IfNone}
 use Rattle.vm_base.specs.declared.code.Code.{Code}
 use Rattle.vm_model.specs.declared.command.Command.{Command}
@@ -9,7 +9,7 @@ use Rattle.vm_model.specs.declared.event.Event.{Event}
 use Rattle.vm_model.specs.declared.event.Event.TheVariants as event
 use Rattle.vm_model.specs.declared.script.Header.{Header}
 use Rattle.vm_model.specs.Moments.{EachEvent}
-use Rattle.vm_legal.specs.Follows.{Follows, FollowsCut, FollowsSoFar, IsDone, IsDoneSoFar, IsGroup, IsRun, head}
+use Rattle.vm_legal.specs.Follows.{Follows, FollowsAnyCut, FollowsBy, FollowsCut, FollowsCutBy, FollowsSoFar, FollowsSoFarBy, IsBegun, IsDone, IsGroup, IsRun, SoFarBy, head}
 use Rattle.vm_legal.specs.Licences.{AllLicensed, HasCause}
 use Rattle.vm_legal.specs.Outside.{Outside}
 use Rattle.vm_legal.specs.Refusal.{refusal}
@@ -41,24 +41,50 @@ cut header outside [] history is = subst (λ (h : List Event). EachEvent (HasCau
 cut header outside (numbered ∷ before) history (past, group, is, made, follows) = with_group header outside past numbered group history is made (whole header outside before past follows)
 
 -- what follows its commands so far also follows them where its last step may be cut
+pub cut_by : (header : Header) (all done : Command → List Event → List Event → Type 0) (commands : List Numbered) (history : List Event) → FollowsSoFarBy all done header commands history → FollowsCutBy all done header commands history
+cut_by header all done [] history is = is
+cut_by header all done (numbered ∷ before) history (past, group, is, made, whole, follows) = (past, group, is, made, follows)
+
 pub cut_of : (header : Header) (outside : Outside) (commands : List Numbered) (history : List Event) → FollowsSoFar header outside commands history → FollowsCut header outside commands history
-cut_of header outside [] history is = is
-cut_of header outside (numbered ∷ before) history (past, group, is, made, done, follows) = (past, group, is, made, follows)
+cut_of header outside commands history follows = cut_by header (AllLicensed header outside) (IsDone header) commands history follows
 
 pub so_far : (header : Header) (outside : Outside) (commands : List Numbered) (history : List Event) → FollowsSoFar header outside commands history → EachEvent (HasCause header outside) history
 so_far header outside commands history follows = cut header outside commands history (cut_of header outside commands history follows)
 
 -- and what follows them whole does so as far as it goes
 
-done_so_far : (header : Header) (doing : Command) (group past : List Event) → IsDone header doing group past → IsDoneSoFar header doing group past
-done_so_far header (command.Settle count) group past done = tt
-done_so_far header other group past done = done
+done_so_far : (done : Command → List Event → List Event → Type 0) (doing : Command) (group past : List Event) → done doing group past → SoFarBy done doing group past
+done_so_far done (command.Settle count) group past is = tt
+done_so_far done other group past is = is
 
-whole_so_far : (header : Header) (refused : Option Code) (doing : Command) (group past : List Event) → IfNone refused (IsDone header doing group past) → IfNone refused (IsDoneSoFar header doing group past)
-whole_so_far header None doing group past done = done_so_far header doing group past done
-whole_so_far header (Some code) doing group past done = tt
+whole_so_far : (done : Command → List Event → List Event → Type 0) (refused : Option Code) (doing : Command) (group past : List Event) → IfNone refused (done doing group past) → IfNone refused (SoFarBy done doing group past)
+whole_so_far done None doing group past is = done_so_far done doing group past is
+whole_so_far done (Some code) doing group past is = tt
+
+pub open_by : (header : Header) (all done : Command → List Event → List Event → Type 0) (commands : List Numbered) (history : List Event) → FollowsBy all done header commands history → FollowsSoFarBy all done header commands history
+open_by header all done [] history is = is
+open_by header all done (numbered ∷ before) history (past, group, is, made, whole, follows) =
+    (past, group, is, made, whole_so_far done (refusal header past numbered.command) numbered.command group (event.Line numbered.line ∷ past) whole, follows)
 
 pub open_of : (header : Header) (outside : Outside) (commands : List Numbered) (history : List Event) → Follows header outside commands history → FollowsSoFar header outside commands history
-open_of header outside [] history is = is
-open_of header outside (numbered ∷ before) history (past, group, is, made, done, follows) =
-    (past, group, is, made, whole_so_far header (refusal header past numbered.command) numbered.command group (event.Line numbered.line ∷ past) done, follows)
+open_of header outside commands history follows = open_by header (AllLicensed header outside) (IsDone header) commands history follows
+
+-- wherever the history ends
+
+begun_caused : (header : Header) (outside : Outside) (past : List Event) (numbered : Numbered) (group : List Event) (refused : Option Code) (first : Option (List Event))
+    → MatchOption refused
+    (MatchOption first ⊥ (λ events. IsRun header outside past numbered events group ⊎ (IsBegun events group × AllLicensed header outside numbered.command group (event.Line numbered.line ∷ past))))
+    (λ code. (group ≡ []) ⊎ (group ≡ event.Refused code ∷ []))
+    → EachEvent (HasCause header outside) past → EachEvent (HasCause header outside) (group ++ event.Line numbered.line ∷ past)
+begun_caused header outside past numbered group None None is caused = absurd is
+begun_caused header outside past numbered group None (Some events) (inl run) caused = group_caused header outside past numbered group None (Some events) run caused
+begun_caused header outside past numbered group None (Some events) (inr begun) caused = stretch header outside numbered.command group (event.Line numbered.line ∷ past) begun.1 ((numbered.command, tt), caused)
+begun_caused header outside past numbered group (Some code) first (inl none) caused =
+    subst (λ (g : List Event). EachEvent (HasCause header outside) (g ++ event.Line numbered.line ∷ past)) (sym none) ((numbered.command, tt), caused)
+begun_caused header outside past numbered group (Some code) first (inr is) caused = group_caused header outside past numbered group (Some code) first is caused
+
+pub any_cut_caused : (header : Header) (outside : Outside) (commands : List Numbered) (history : List Event) → FollowsAnyCut header outside commands history → EachEvent (HasCause header outside) history
+any_cut_caused header outside [] history is = subst (λ (h : List Event). EachEvent (HasCause header outside) h) (sym is) tt
+any_cut_caused header outside (numbered ∷ before) history (past, group, is, made, follows) =
+    subst (λ (h : List Event). EachEvent (HasCause header outside) h) (sym is)
+    (begun_caused header outside past numbered group (refusal header past numbered.command) (head header past numbered.command) made (whole header outside before past follows))

@@ -12,4 +12,5 @@ pub mod Paying
 pub mod Served
 pub mod SoFar
 pub mod Stretched
+pub mod Turns
 pub mod Unshared

@@ -4,8 +4,9 @@ use Rattle.vm_legal.proofs.Inside.{absence_more, before_more, error_more, since_
 use Rattle.vm_model.specs.declared.event.Event.{Event}
 use Rattle.vm_model.specs.declared.event.Event.TheVariants as event
 use Rattle.vm_model.specs.declared.script.Header.{Header}
-use Rattle.vm_legal.specs.Debts.{EndsWaiters, IsPaid, WaitsAt, HasLocked}
+use Rattle.vm_legal.specs.Debts.{IsPaid, HasLocked}
 use Rattle.vm_legal.specs.Frames.{frames_free}
+use Rattle.vm_legal.specs.InTurn.{EndsAll, EndsWaiters, WaitsAt}
 use Rattle.vm_legal.specs.Licences.{LockRequest, gives_back, lock_taken, owed, zeroes}
 use Rattle.vm_legal.specs.Pagers.{LacksSlot}
 use Rattle.vm_legal.specs.Steps.{answers, completes, drops_page, fails_access, fails_task, lacks_slot, readies, returns_page}
@@ -18,6 +19,9 @@ waiters_more header host object page events past inner was = λ task stops frees
     let same = before_more events past inner in
     since_more (fails_task task object page) events past inner
     (was task (subst (λ (z : List Event). WaitsAt header host task object page z) same stops) (subst (λ (z : List Event). frames_free header host z ≡ 0 → ⊥) same frees))
+
+pub ends_more : (header : Header) (events past : List Event) → AllInner events → EndsAll header past → EndsAll header (events ++ past)
+ends_more header events past inner ends host object page is = waiters_more header host object page events past inner (ends host object page (sym (error_more header.size events past inner) ∙ is))
 
 lock_inner : (e : Event) (past : List Event) → IsInner e → lock_taken (e ∷ past) ≡ lock_taken past
 lock_inner (event.Line line) past inner = absurd inner
@@ -54,9 +58,7 @@ paid_more header events past inner paid none =
       init = λ host object control size paged is. since_more (readies object) events past inner (paid.init host object control size paged (sym same ∙ is));
       create = λ host object control size paged is. since_more (readies object) events past inner (paid.create host object control size paged (sym same ∙ is));
       request = λ host object control page access paged is. since_more (answers object page) events past inner (paid.request host object control page access paged (sym same ∙ is));
-      error = λ host object page is.
-          let was = paid.error host object page (sym (error_more header.size events past inner) ∙ is) in
-          (since_more (fails_access object page) events past inner was.0, waiters_more header host object page events past inner was.1);
+      error = λ host object page is. since_more (fails_access object page) events past inner (paid.error host object page (sym (error_more header.size events past inner) ∙ is));
       absence = λ host object page declared is. since_more (zeroes object page) events past inner (paid.absence host object page declared (sym (absence_more header.size events past inner) ∙ is));
       lock = λ request is. locked_more header request events past inner (paid.lock request (sym (lock_more events past inner) ∙ is));
       slot = λ host object control page dirty keep bytes temporary is lacks.

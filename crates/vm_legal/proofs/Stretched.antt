@@ -5,7 +5,7 @@ use Rattle.vm_model.specs.declared.event.Event.{Event}
 use Rattle.vm_model.specs.declared.event.Event.TheVariants as event
 use Rattle.vm_model.specs.declared.script.Header.{Header}
 use Rattle.vm_model.specs.Moments.{BeforeSteps, EachEvent, EachMoment}
-use Rattle.vm_legal.specs.Licences.{AllLicensed, Licensed}
+use Rattle.vm_legal.specs.InTurn.{AllInTurn, LicensedInTurn}
 use Rattle.vm_legal.specs.Outside.{Outside}
 use Rattle.vm_legal.specs.Stretches.{AllInner, EachIn, EachOf, IsInner, MomentsIn}
 
@@ -21,16 +21,16 @@ pub of_both : (P : Event → Type 0) (later front : List Event) → EachOf P lat
 of_both P [] front all before = before
 of_both P (e ∷ later) front all before = (all.0, of_both P later front all.1 before)
 
-pub licensed_both : (header : Header) (outside : Outside) (doing : Command) (later front past : List Event) → AllLicensed header outside doing later (front ++ past) → AllLicensed header outside doing front past → AllLicensed header outside doing (later ++ front) past
+pub licensed_both : (header : Header) (outside : Outside) (doing : Command) (later front past : List Event) → AllInTurn header outside doing later (front ++ past) → AllInTurn header outside doing front past → AllInTurn header outside doing (later ++ front) past
 licensed_both header outside doing [] front past all before = before
-licensed_both header outside doing (e ∷ later) front past all before = (subst (λ (z : List Event). Licensed header outside doing e z) (sym (append_assoc later front past)) all.0, licensed_both header outside doing later front past all.1 before)
+licensed_both header outside doing (e ∷ later) front past all before = (subst (λ (z : List Event). LicensedInTurn header outside doing e z) (sym (append_assoc later front past)) all.0, licensed_both header outside doing later front past all.1 before)
 
 pub inner_both : (later front : List Event) → AllInner later → AllInner front → AllInner (later ++ front)
 inner_both [] front all before = before
 inner_both (e ∷ later) front all before = (all.0, inner_both later front all.1 before)
 
 -- the oldest event of a stretch has its cause
-pub licensed_front : (header : Header) (outside : Outside) (doing : Command) (more : List Event) (e : Event) (past : List Event) → AllLicensed header outside doing (more ++ e ∷ []) past → Licensed header outside doing e past
+pub licensed_front : (header : Header) (outside : Outside) (doing : Command) (more : List Event) (e : Event) (past : List Event) → AllInTurn header outside doing (more ++ e ∷ []) past → LicensedInTurn header outside doing e past
 licensed_front header outside doing [] e past all = all.0
 licensed_front header outside doing (later ∷ more) e past all = licensed_front header outside doing more e past all.1
 

@@ -1,5 +1,5 @@
 -- The accesses that wait: where they lead, how far their walks get, and what they want.
-use Rattle.std.specs.Prelude.{ℕ, zero, suc, ◌≡◌, Bool, true, false, List, [], ◌∷◌, length, if◌then◌else◌, ◌==◌, ◌&&◌, ◌||◌, Some}
+use Rattle.std.specs.Prelude.{ℕ, zero, suc, ◌/◌, ◌<◌, ◌≡◌, Bool, true, false, List, [], ◌∷◌, length, if◌then◌else◌, ◌==◌, ◌&&◌, ◌||◌, Some}
 use Rattle.vm_base.specs.declared.entry.Entry.{Entry}
 use Rattle.vm_base.specs.Entries.{entry_at, page_at}
 use Rattle.vm_model.specs.declared.event.Event.{Event}
@@ -20,10 +20,17 @@ pub record At (header : Header) (task address : ℕ) (past : List Event) : Type 
   pub lives : host_of task past ≡ Some host
   pub found : entry_at address (entries_of header.size task past) ≡ Some entry
 
--- a task waits with an access, and where that leads
+-- a slow copy has a page left to copy
+abbrev pub HasPageLeft : ℕ → Access → ℕ → Type 0
+HasPageLeft size (Copying address bytes to) next = next < bytes / size
+HasPageLeft size (Loading address bytes) next = Unit {0}
+HasPageLeft size (Storing address bytes value) next = Unit {0}
+
+-- a task waits with an access that has a page left, and where that leads
 pub record Waits (header : Header) (task : ℕ) (access : Access) (past : List Event) : Type 0 where
   pub waits : waiting task past ≡ Some access
   pub at : At header task (address_of header.size (next_page task past) access) past
+  pub left : HasPageLeft header.size access (next_page task past)
 
 -- when a task's last access began: how many events stood in front of that
 abbrev pub begun_at : ℕ → List Event → ℕ

@@ -5,24 +5,11 @@ use Rattle.vm_model.specs.declared.message.Message.TheVariants as message
 use Rattle.vm_model.specs.declared.script.Header.{Header}
 use Rattle.vm_model.specs.Local.{Local}
 use Rattle.vm_model.specs.Named.{named}
-use Rattle.vm_model.specs.Waiting.{Access, is_store}
-use Rattle.vm_legal.specs.Accesses.{Comes, HasPlace, Waits, page_of}
-use Rattle.vm_legal.specs.Frames.{frames_free}
 use Rattle.vm_legal.specs.Licences.{LockRequest, gives_back, is_paged, lock_taken, owed, up, zeroes}
 use Rattle.vm_legal.specs.Outside.{is_wild}
 use Rattle.vm_legal.specs.Pagers.{LacksSlot}
-use Rattle.vm_legal.specs.Prompt.{Awaits}
-use Rattle.vm_legal.specs.Steps.{answers, absence_taken, before_step, completes, drops_page, error_taken, fails_access, fails_task, lacks_slot, readies, returns_page, since, taken_letter}
+use Rattle.vm_legal.specs.Steps.{answers, absence_taken, before_step, completes, drops_page, error_taken, fails_access, lacks_slot, readies, returns_page, since, taken_letter}
 use Rattle.vm_legal.specs.Walks.{page_on}
-
--- a task of the host waits with an access whose walk stops at the place, and which awaits nothing at another place of its page
-pub record WaitsAt (header : Header) (host task object page : ℕ) (past : List Event) : Type 0 where
-  pub access : Access
-  pub waits : Waits header task access past
-  pub on_host : waits.at.host ≡ host
-  pub comes : Comes header host waits.at.entry.region.0 (page_of header task access past waits.at.entry) object page past
-  pub only : (other other_page : ℕ) → HasPlace header waits.at.entry.region.0 (page_of header task access past waits.at.entry) other other_page past
-      → Awaits header host (is_store access) other other_page past → (other ≡ object) × (other_page ≡ page)
 
 -- what the host had of a page when the step took a lock_request
 abbrev pub was_on : Header → LockRequest → ℕ → List Event → Local
@@ -34,11 +21,6 @@ pub record HasObeyed (header : Header) (request : LockRequest) (page : ℕ) (pas
       → since (returns_page request.host request.object page (not request.flush)) past ≡ true
   pub dropped : gives_back request.returns (was_on header request page past).dirty (was_on header request page past).precious ≡ false
       → request.flush ≡ true → since (drops_page request.host request.object page) past ≡ true
-
--- an error has ended each access that waited for its page when the step began; on a host without a free frame some may have waited for a frame
-abbrev pub EndsWaiters : Header → ℕ → ℕ → ℕ → List Event → Type 0
-EndsWaiters header host object page past =
-    (task : ℕ) → WaitsAt header host task object page (before_step past) → (frames_free header host (before_step past) ≡ 0 → ⊥) → since (fails_task task object page) past ≡ true
 
 -- each page of its range that was here when a lock_request was taken has been given back, or has gone, as its kind says, and the reply was sent
 pub record HasLocked (header : Header) (request : LockRequest) (past : List Event) : Type 0 where
@@ -54,8 +36,8 @@ pub record IsPaid (header : Header) (past : List Event) : Type 0 where
   -- a request is answered; the server of shared memory may do so later
   pub request : (host object control page access : ℕ) → is_paged header object ≡ true
       → taken_letter past ≡ Some (record { channel = up host object; message = message.Request control (record { 0 = page }) access }) → since (answers object page) past ≡ true
-  -- an error ends some access, and each that waited for its page
-  pub error : (host object page : ℕ) → error_taken header.size past ≡ Some (record { host = host; object = object; page = page }) → (since (fails_access object page) past ≡ true) × EndsWaiters header host object page past
+  -- an error ends some access
+  pub error : (host object page : ℕ) → error_taken header.size past ≡ Some (record { host = host; object = object; page = page }) → since (fails_access object page) past ≡ true
   -- a lock_request is obeyed
   pub lock : (request : LockRequest) → lock_taken past ≡ Some request → HasLocked header request past
   -- where a pager has no page of a declared object, zeros come

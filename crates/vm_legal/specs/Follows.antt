@@ -24,7 +24,6 @@ use Rattle.vm_model.specs.Regions.{next_region, next_object}
 use Rattle.vm_model.specs.Server.{first}
 use Rattle.vm_model.specs.Named.{named}
 use Rattle.vm_model.specs.Tasks.{host_of, entries_of}
-use Rattle.vm_legal.specs.Accesses.{FindsPage}
 use Rattle.vm_legal.specs.Frames.{frames_wired}
 use Rattle.vm_legal.specs.Licences.{AllLicensed, IsOwed}
 use Rattle.vm_legal.specs.Outside.{Outside}
@@ -159,19 +158,26 @@ IsConsequence (event.Shadowed region new old) past = Unit {0}
 IsConsequence (event.DeviceFailed who way object page) past = Unit {0}
 IsConsequence (event.NoSlot object page) past = Unit {0}
 
--- behind its line a group is the head of its command and what follows from it; each event has its cause
-pub record IsRun (header : Header) (outside : Outside) (past : List Event) (numbered : Numbered) (first group : List Event) : Type 0 where
+-- behind its line a group is the head of its command and what follows from it; its events are such as `all` wants them
+pub record IsRunBy (all : Command → List Event → List Event → Type 0) (header : Header) (past : List Event) (numbered : Numbered) (first group : List Event) : Type 0 where
   pub more : List Event
   pub is : group ≡ more ++ reverse first
   pub follows : EachIn IsConsequence more (reverse first ++ event.Line numbered.line ∷ past)
-  pub licensed : AllLicensed header outside numbered.command group (event.Line numbered.line ∷ past)
+  pub licensed : all numbered.command group (event.Line numbered.line ∷ past)
 
 -- what stands behind the line of a command: its refusal alone, or what it makes
-abbrev pub IsGroup : Header → Outside → List Event → Numbered → List Event → Type 0
-IsGroup header outside past numbered group =
+abbrev pub IsGroupBy : (all : Command → List Event → List Event → Type 0) → Header → List Event → Numbered → List Event → Type 0
+IsGroupBy all header past numbered group =
     MatchOption (refusal header past numbered.command)
-    (MatchOption (head header past numbered.command) ⊥ (λ first. IsRun header outside past numbered first group))
+    (MatchOption (head header past numbered.command) ⊥ (λ first. IsRunBy all header past numbered first group))
     (λ code. group ≡ event.Refused code ∷ [])
+
+-- each event of a group has its cause
+abbrev pub IsRun : Header → Outside → List Event → Numbered → List Event → List Event → Type 0
+IsRun header outside past numbered first group = IsRunBy (AllLicensed header outside) header past numbered first group
+
+abbrev pub IsGroup : Header → Outside → List Event → Numbered → List Event → Type 0
+IsGroup header outside past numbered group = IsGroupBy (AllLicensed header outside) header past numbered group
 
 -- the reclaims of a pageout stand first in its group: behind them as many pages have gone as it wants, or nothing more can be reclaimed
 pub record HasPagedOut (header : Header) (host count : ℕ) (group past : List Event) : Type 0 where
@@ -181,27 +187,12 @@ pub record HasPagedOut (header : Header) (host count : ℕ) (group past : List E
   pub reclaims : EachOf (IsReclaim host) front
   pub enough : (departures host (front ++ past) ≡ count) ⊎ IsExhausted header host past (front ++ past)
 
--- the event ends the access of a task that did what it was to do
-abbrev pub IsEnd : ℕ → Event → Type 0
-IsEnd t (event.Loaded task object page value) = task.0 ≡ t
-IsEnd t (event.Stored task object page at bytes value) = task.0 ≡ t
-IsEnd t other = ⊥
-
--- on top of some events the next one ends the access of a task
-pub record EndsNext (task : ℕ) (before after : List Event) : Type 0 where
-  pub later : List Event
-  pub end : Event
-  pub is : after ≡ later ++ end ∷ before
-  pub ends : IsEnd task end
-
--- what else a command owes when its group ends, behind its line: an access that finds its page when it begins ends next; a pageout has
--- reclaimed its pages; and a settle has taken so many messages, or none is left
+-- what else a command owes when its group ends, behind its line: a pageout has reclaimed its pages; and a settle has taken so many messages, or none is left
 abbrev pub IsDone : Header → Command → List Event → List Event → Type 0
-IsDone header (command.Load task address size) group past = FindsPage header task.0 (event.BegunLoad task address size ∷ past) → EndsNext task.0 (event.BegunLoad task address size ∷ []) group
-IsDone header (command.Store task address size value) group past =
-    FindsPage header task.0 (event.BegunStore task address size value ∷ past) → EndsNext task.0 (event.BegunStore task address size value ∷ []) group
 IsDone header (command.Pageout host count) group past = HasPagedOut header host.0 count group past
 IsDone header (command.Settle count) group past = (takings (group ++ past) ≡ count) ⊎ (undelivered (group ++ past) ≡ [])
+IsDone header (command.Load task address size) group past = Unit {0}
+IsDone header (command.Store task address size value) group past = Unit {0}
 IsDone header (command.Task task host) group past = Unit {0}
 IsDone header (command.Fork task child) group past = Unit {0}
 IsDone header (command.Exit task) group past = Unit {0}
@@ -220,43 +211,79 @@ IsDone header (command.FailPaging count) group past = Unit {0}
 IsDone header (command.Say host object m) group past = Unit {0}
 
 -- the group goes as far as its command does, unless that is refused
+abbrev pub IsWholeBy : (done : Command → List Event → List Event → Type 0) → Header → List Event → Numbered → List Event → Type 0
+IsWholeBy done header past numbered group = IfNone (refusal header past numbered.command) (done numbered.command group (event.Line numbered.line ∷ past))
+
 abbrev pub IsWholeGroup : Header → List Event → Numbered → List Event → Type 0
-IsWholeGroup header past numbered group = IfNone (refusal header past numbered.command) (IsDone header numbered.command group (event.Line numbered.line ∷ past))
+IsWholeGroup header past numbered group = IsWholeBy (IsDone header) header past numbered group
 
 -- the groups are those of the commands
-abbrev pub Follows : Header → Outside → List Numbered → List Event → Type 0
-Follows header outside [] history = history ≡ []
-Follows header outside (numbered ∷ before) history =
+abbrev pub FollowsBy : (all done : Command → List Event → List Event → Type 0) → Header → List Numbered → List Event → Type 0
+FollowsBy all done header [] history = history ≡ []
+FollowsBy all done header (numbered ∷ before) history =
     (past : List Event) × (group : List Event)
     × (history ≡ group ++ event.Line numbered.line ∷ past)
-    × IsGroup header outside past numbered group
-    × IsWholeGroup header past numbered group
-    × Follows header outside before past
+    × IsGroupBy all header past numbered group
+    × IsWholeBy done header past numbered group
+    × FollowsBy all done header before past
 
--- the last command is done, but that a settle may have more to take
+abbrev pub Follows : Header → Outside → List Numbered → List Event → Type 0
+Follows header outside commands history = FollowsBy (AllLicensed header outside) (IsDone header) header commands history
+
+-- a command is done, but that a settle may have more to take
+abbrev pub SoFarBy : (done : Command → List Event → List Event → Type 0) → Command → List Event → List Event → Type 0
+SoFarBy done (command.Settle count) group past = Unit {0}
+SoFarBy done other group past = done other group past
+
 abbrev pub IsDoneSoFar : Header → Command → List Event → List Event → Type 0
-IsDoneSoFar header (command.Settle count) group past = Unit {0}
-IsDoneSoFar header other group past = IsDone header other group past
+IsDoneSoFar header doing group past = SoFarBy (IsDone header) doing group past
 
 abbrev pub IsWholeSoFar : Header → List Event → Numbered → List Event → Type 0
-IsWholeSoFar header past numbered group =
-    IfNone (refusal header past numbered.command) (IsDoneSoFar header numbered.command group (event.Line numbered.line ∷ past))
+IsWholeSoFar header past numbered group = IsWholeBy (SoFarBy (IsDone header)) header past numbered group
 
 -- the same, but that a settle that is last may have more to take
-abbrev pub FollowsSoFar : Header → Outside → List Numbered → List Event → Type 0
-FollowsSoFar header outside [] history = history ≡ []
-FollowsSoFar header outside (numbered ∷ before) history =
+abbrev pub FollowsSoFarBy : (all done : Command → List Event → List Event → Type 0) → Header → List Numbered → List Event → Type 0
+FollowsSoFarBy all done header [] history = history ≡ []
+FollowsSoFarBy all done header (numbered ∷ before) history =
     (past : List Event) × (group : List Event)
     × (history ≡ group ++ event.Line numbered.line ∷ past)
-    × IsGroup header outside past numbered group
-    × IsWholeSoFar header past numbered group
-    × Follows header outside before past
+    × IsGroupBy all header past numbered group
+    × IsWholeBy (SoFarBy done) header past numbered group
+    × FollowsBy all done header before past
+
+abbrev pub FollowsSoFar : Header → Outside → List Numbered → List Event → Type 0
+FollowsSoFar header outside commands history = FollowsSoFarBy (AllLicensed header outside) (IsDone header) header commands history
 
 -- the same, but that the last step may be cut: whatever the last command is, it may have more to do
-abbrev pub FollowsCut : Header → Outside → List Numbered → List Event → Type 0
-FollowsCut header outside [] history = history ≡ []
-FollowsCut header outside (numbered ∷ before) history =
+abbrev pub FollowsCutBy : (all done : Command → List Event → List Event → Type 0) → Header → List Numbered → List Event → Type 0
+FollowsCutBy all done header [] history = history ≡ []
+FollowsCutBy all done header (numbered ∷ before) history =
     (past : List Event) × (group : List Event)
     × (history ≡ group ++ event.Line numbered.line ∷ past)
-    × IsGroup header outside past numbered group
+    × IsGroupBy all header past numbered group
+    × FollowsBy all done header before past
+
+abbrev pub FollowsCut : Header → Outside → List Numbered → List Event → Type 0
+FollowsCut header outside commands history = FollowsCutBy (AllLicensed header outside) (IsDone header) header commands history
+
+-- a head that was begun: the group is its first events
+pub record IsBegun (first group : List Event) : Type 0 where
+  pub rest : List Event
+  pub is : reverse first ≡ rest ++ group
+
+-- what stands behind the line of the last command, wherever the history ends: inside its head too, and in front of its refusal
+abbrev pub IsCutGroup : Header → Outside → List Event → Numbered → List Event → Type 0
+IsCutGroup header outside past numbered group =
+    MatchOption (refusal header past numbered.command)
+    (MatchOption (head header past numbered.command) ⊥
+    (λ first. IsRun header outside past numbered first group ⊎ (IsBegun first group × AllLicensed header outside numbered.command group (event.Line numbered.line ∷ past))))
+    (λ code. (group ≡ []) ⊎ (group ≡ event.Refused code ∷ []))
+
+-- the same, but that the history may end behind any event
+abbrev pub FollowsAnyCut : Header → Outside → List Numbered → List Event → Type 0
+FollowsAnyCut header outside [] history = history ≡ []
+FollowsAnyCut header outside (numbered ∷ before) history =
+    (past : List Event) × (group : List Event)
+    × (history ≡ group ++ event.Line numbered.line ∷ past)
+    × IsCutGroup header outside past numbered group
     × Follows header outside before past

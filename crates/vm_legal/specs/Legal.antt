@@ -12,6 +12,7 @@ use Rattle.vm_legal.specs.Bytes.{OwnBytes, FlatBytes}
 use Rattle.vm_legal.specs.Debts.{IsPaid}
 use Rattle.vm_legal.specs.Follows.{Follows, FollowsSoFar}
 use Rattle.vm_legal.specs.Frames.{FramesSuffice}
+use Rattle.vm_legal.specs.InTurn.{AllRecalled, EndsAll, FollowsInTurn, FollowsSoFarInTurn}
 use Rattle.vm_legal.specs.Outside.{Outside, is_shared}
 use Rattle.vm_legal.specs.Prompt.{AllServed, Prompt}
 use Rattle.vm_legal.specs.Walks.{page_on}
@@ -64,3 +65,32 @@ pub record LegalSoFar (script : Script) (outside : Outside) (history : List Even
   pub follows : FollowsSoFar script.header outside run history
   pub holds : Holds script.header outside history
   pub rests : IsAtRest script.header history
+
+-- the history is the one that the rules give for these commands: legal, with each event in its turn, and nobody passed over
+pub record CanonicalFor (header : Header) (outside : Outside) (commands : List Numbered) (history : List Event) : Type 0 where
+  -- each command has its group, in order, and each event its cause and its turn
+  pub follows : FollowsInTurn header outside commands history
+  pub holds : Holds header outside history
+  pub rests : IsAtRest header history
+  -- whenever a step has ended, an error that it took has ended each access that waited for its page
+  pub ended : BeforeSteps (EndsAll header) history
+  pub last : EndsAll header history
+  -- and of each page of shared memory all hosts that stand in the way of the first in line are awaited
+  pub recalled : BeforeSteps (AllRecalled header) history
+  pub recalls : AllRecalled header history
+
+abbrev pub Canonical : Script → Outside → List Event → Type 0
+Canonical script outside history = CanonicalFor script.header outside script.commands.items history
+
+-- it is so for the commands that were run, and some may be left; the last one may be a settle that has more to take
+pub record CanonicalSoFar (script : Script) (outside : Outside) (history : List Event) : Type 0 where
+  pub later : List Numbered
+  pub run : List Numbered
+  pub order : script.commands.items ≡ later ++ run
+  pub follows : FollowsSoFarInTurn script.header outside run history
+  pub holds : Holds script.header outside history
+  pub rests : IsAtRest script.header history
+  pub ended : BeforeSteps (EndsAll script.header) history
+  pub last : EndsAll script.header history
+  pub recalled : BeforeSteps (AllRecalled script.header) history
+  pub recalls : AllRecalled script.header history

@@ -5,6 +5,7 @@ pub mod Flat
 pub mod Follows
 pub mod Frames
 pub mod Homes
+pub mod InTurn
 pub mod Legal
 pub mod Licences
 pub mod Living

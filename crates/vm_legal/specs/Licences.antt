@@ -29,12 +29,12 @@ use Rattle.vm_model.specs.Server.{first}
 use Rattle.vm_model.specs.Tasks.{host_of, entries_of, has_entry}
 use Rattle.vm_model.specs.Words.{Supplying, Locking, in_range}
 use Rattle.vm_model.specs.Waiting.{Access, Loading, Storing, Copying, Target, waiting, next_page, copy_target, is_store}
-use Rattle.vm_legal.specs.Accesses.{At, Waits, Comes, HasPlace, begun_at, is_ready, names, page_of}
+use Rattle.vm_legal.specs.Accesses.{At, Waits, Comes, HasPlace, is_ready, names, page_of}
 use Rattle.vm_legal.specs.Living.{lives_on, tasks}
 use Rattle.vm_legal.specs.Outside.{Outside, is_file, is_said, is_wild, kind_of, start_page, zeros}
 use Rattle.vm_legal.specs.Pagers.{LacksSlot, is_lost, known_control, last_return, newer, slot_at}
 use Rattle.vm_legal.specs.Reclaims.{Reclaims}
-use Rattle.vm_legal.specs.Steps.{Letter, absence_taken, answers, completes, error_taken, fails_reading, fails_task, gives_page, just_begun, readies, since, taken_letter, takings}
+use Rattle.vm_legal.specs.Steps.{Letter, absence_taken, answers, completes, error_taken, fails_reading, gives_page, just_begun, readies, since, taken_letter, takings}
 use Rattle.vm_legal.specs.Undelivered.{oldest_channel}
 use Rattle.vm_legal.specs.Used.{in_use, is_filled}
 use Rattle.vm_legal.specs.Walks.{IsTop, Reach, Sinks, Walks, page_on, sight}
@@ -129,19 +129,11 @@ pub record Fails (header : Header) (task object page : ℕ) (past : List Event) 
   pub waits : Waits header task access past
   pub error : error_taken header.size past ≡ Some (record { host = waits.at.host; object = object; page = page })
   pub place : HasPlace header waits.at.entry.region.0 (page_of header task access past waits.at.entry) object page past
-  -- those that the error has ended before began earlier
-  pub order : (other : ℕ) → since (fails_task other object page) past ≡ true → begun_at other past < begun_at task past
 
 -- 3 for a store on its top place, and 1 for everything else
 abbrev pub desired_access : Access → ℕ → ℕ
 desired_access access zero = if is_store access then 3 else 1
 desired_access access (suc steps) = 1
-
--- a slow copy has a page left to copy
-abbrev pub HasPageLeft : ℕ → Access → ℕ → Type 0
-HasPageLeft size (Copying address bytes to) next = next < bytes / size
-HasPageLeft size (Loading address bytes) next = Unit {0}
-HasPageLeft size (Storing address bytes value) next = Unit {0}
 
 -- the walk of a waiting access stops at a page that its pager, which is ready, may have, and nobody asked
 pub record Asks (header : Header) (host control object page wanted : ℕ) (past : List Event) : Type 0 where
@@ -157,7 +149,6 @@ pub record Asks (header : Header) (host control object page wanted : ℕ) (past 
   pub away : (page_on header host object page past).here ≡ false
   pub unasked : (page_on header host object page past).asked ≡ false
   pub known : is_known_absent header (record { object = object; page = page }) (page_on header host object page past) ≡ false
-  pub left : HasPageLeft header.size access (next_page task past)
 
 -- no task of the host has an entry on the region
 abbrev pub IsUnmapped : Header → ℕ → ℕ → List Event → Type 0
@@ -418,8 +409,8 @@ pub record Shadows (header : Header) (region new old : ℕ) (past : List Event) 
 pub data DropCause (header : Header) (doing : Command) (host object page : ℕ) (seen : Local) (past : List Event) : Type 0 where
   -- it is clean, and is reclaimed
   Reclaimed : seen.dirty ≡ false → seen.precious ≡ false → Reclaims header doing host object page past → DropCause header doing host object page seen past
-  -- no region leads to its temporary object, whose pages go by rising number
-  Unreached : named header ≤ object → (Reach header host object past → ⊥) → ((q : ℕ) → q < page → (page_on header host object q past).here ≡ false) → DropCause header doing host object page seen past
+  -- no region leads to its temporary object
+  Unreached : named header ≤ object → (Reach header host object past → ⊥) → DropCause header doing host object page seen past
   -- its pager flushes it, and doesn't want it back
   Flushed : (returns : ℕ) → IsLocked host object page returns true past → gives_back returns seen.dirty seen.precious ≡ false → DropCause header doing host object page seen past
   -- it is clean, and its object ends on the host
@@ -471,7 +462,7 @@ HasSlot header device.Files host object page past = Unit {0}
 -- a backing fails right behind the request, or the return, for which it was called
 abbrev pub DeviceFails : Header → Device → Way → ℕ → ℕ → List Event → Type 0
 DeviceFails header who way.Read object page past = IsBackingOf header who object × ((host : ℕ) × TakesRequest host object page past × HasSlot header who host object page past)
-DeviceFails header who way.Write object page past = IsBackingOf header who object × ((host : ℕ) × TakesReturn host object page past × HasSlot header who host object page past)
+DeviceFails header who way.Write object page past = IsBackingOf header who object × ((host : ℕ) × TakesReturn host object page past)
 
 -- there was no slot for a page whose return the step just took
 pub record NoSlotFor (header : Header) (object page : ℕ) (past : List Event) : Type 0 where
