@@ -47,7 +47,7 @@ zeros_below : Bottoms header 0 0 0 begun
 zeros_below = record {
   task = 0;
   access = Loading 64 1;
-  waits = record { waits = refl; at = record { host = 0; entry = entry 0; lives = refl; found = refl } };
+  waits = record { waits = refl; at = record { host = 0; entry = entry 0; lives = refl; found = refl }; left = tt };
   on_host = refl;
   temporary = omega arith;
   unmarked = λ is. refl;
@@ -75,7 +75,7 @@ past_caused = (
     record {
       address = 64;
       bytes = 1;
-      waits = record { waits = refl; at = record { host = 0; entry = entry 0; lives = refl; found = refl } };
+      waits = record { waits = refl; at = record { host = 0; entry = entry 0; lives = refl; found = refl }; left = tt };
       comes = record { top = 0; top_page = 0; steps = 0; is_top = record { object = refl; page = refl }; walks = (refl, refl) };
       here = refl;
     },
@@ -144,7 +144,7 @@ zeros_stored : Bottoms header 1 1 0 storing
 zeros_stored = record {
   task = 1;
   access = Storing 64 1 9;
-  waits = record { waits = refl; at = record { host = 1; entry = entry 1; lives = refl; found = refl } };
+  waits = record { waits = refl; at = record { host = 1; entry = entry 1; lives = refl; found = refl }; left = tt };
   on_host = refl;
   temporary = omega arith;
   unmarked = λ is. refl;
@@ -160,7 +160,7 @@ stored_abroad = (
       settling,
       record {
         address = 64;
-        waits = record { waits = refl; at = record { host = 1; entry = entry 1; lives = refl; found = refl } };
+        waits = record { waits = refl; at = record { host = 1; entry = entry 1; lives = refl; found = refl }; left = tt };
         is_top = record { object = refl; page = refl };
         unmarked = refl;
         here = refl;

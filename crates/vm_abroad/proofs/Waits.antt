@@ -11,13 +11,14 @@ use Rattle.vm_model.specs.Local.{is_known_absent, is_on}
 use Rattle.vm_model.specs.Named.{named}
 use Rattle.vm_model.specs.Regions.{Region, backing_of, region_of}
 use Rattle.vm_model.specs.Rows.{found_row}
-use Rattle.vm_model.specs.Tasks.{entries_of, has_entry}
+use Rattle.vm_model.specs.Tasks.{entries_of, has_entry, host_of}
 use Rattle.vm_model.specs.Waiting.{Access, address_of, is_store, next_page}
-use Rattle.vm_legal.specs.Accesses.{Comes, Copies, Elsewhere, HasPlace, Nowhere, Raises, Waits, WaitsUnlocked, WantsFrame, names, page_of}
+use Rattle.vm_legal.specs.Accesses.{Comes, Copies, Elsewhere, HasPageLeft, HasPlace, Nowhere, Raises, Waits, WaitsUnlocked, WantsFrame, names, page_of}
 use Rattle.vm_legal.specs.Frames.{frames_free}
 use Rattle.vm_legal.specs.Homes.{is_open, is_used}
 use Rattle.vm_legal.specs.Licences.{IsUnheld}
-use Rattle.vm_legal.specs.Prompt.{AReady, AnAnswer, AnUnlock, Awaits, HostIsFull, IsExhausted, IsSource, IsSwept, NoneInVain, WaitsForPager}
+use Rattle.vm_legal.specs.Living.{lives_on}
+use Rattle.vm_legal.specs.Prompt.{AReady, AnAnswer, AnUnlock, Awaits, EachLeads, HostIsFull, IsExhausted, IsSource, IsSwept, NoneInVain, WaitsForPager}
 use Rattle.vm_legal.specs.Walks.{Below, IsTop, Reach, Sight, Sinks, Walks, page_on, sight}
 use Rattle.vm_abroad.specs.Same.{SameFacts}
 use Rattle.vm_abroad.specs.Sound.{IsMade, IsRegionOf, Knows, Sound}
@@ -28,6 +29,10 @@ use Rattle.vm_abroad.proofs.Sounds.{use_of, used_of}
 
 lives_at : (h task : ℕ) (past : List Event) (x : Option ℕ) (host : ℕ) → x ≡ Some host → host ≡ h → is_on h x ≡ true
 lives_at h task past x host lives on = ap (is_on h) lives ∙ (let e : (host == h) ≡ true = grind (arith, nat_tests) in e)
+
+-- the host on which it lives is the one
+on_there : (h : ℕ) (x : Option ℕ) (host : ℕ) → is_on h x ≡ true → x ≡ Some host → host ≡ h
+on_there h x host on is = let at : is_on h (Some host) ≡ true = ap (is_on h) (sym is) ∙ on in grind (arith, nat_tests)
 
 module _ (header : Header) (h : ℕ) (old new : List Event) (sound : Sound header old) (knows : Knows header h old) (same : SameFacts header h old new) where
   -- places
@@ -90,6 +95,7 @@ module _ (header : Header) (h : ℕ) (old new : List Event) (sound : Sound heade
           lives = it.host ∙ w.at.lives;
           found = ap (λ z. entry_at (address_of header.size z access) (entries_of header.size task new)) it.next ∙ (ap (entry_at (address_of header.size (next_page task old) access)) it.entries ∙ w.at.found);
         };
+        left = subst (λ (z : ℕ). HasPageLeft header.size access z) (sym it.next) w.left;
       }
 
   abbrev waits_was : (task : ℕ) (access : Access) (w : Waits header task access new) → w.at.host ≡ h → Waits header task access old
@@ -103,7 +109,14 @@ module _ (header : Header) (h : ℕ) (old new : List Event) (sound : Sound heade
           lives = sym it.host ∙ w.at.lives;
           found = ap (entry_at (address_of header.size (next_page task old) access)) (sym it.entries) ∙ (ap (λ z. entry_at (address_of header.size z access) (entries_of header.size task new)) (sym it.next) ∙ w.at.found);
         };
+        left = subst (λ (z : ℕ). HasPageLeft header.size access z) it.next w.left;
       }
+
+  pub leads_now : EachLeads header h old → EachLeads header h new
+  leads_now leads task access waits lives =
+      let here : lives_on h task old ≡ true = sym (same.lives task) ∙ lives in
+      let w : Waits header task access old = leads task access (sym (same.task task here).waiting ∙ waits) here in
+      waits_now task access w (on_there h (host_of task old) w.at.host here w.at.lives)
 
   own_region : (task : ℕ) (access : Access) (w : Waits header task access old) → w.at.host ≡ h → IsRegionOf header h w.at.entry.region.0 old
   own_region task access w on =

@@ -18,7 +18,7 @@ ghost use Rattle.vm_legal.specs.Frames.{frames_after, frames_held, frames_wired,
 ghost use Rattle.vm_legal.specs.Homes.{EntersNext, is_home};
 ghost use Rattle.vm_legal.specs.Licences.{HasCause};
 ghost use Rattle.vm_legal.specs.Outside.{Outside};
-ghost use Rattle.vm_legal.specs.Prompt.{HostIsFull, IsSwept, NoneInVain};
+ghost use Rattle.vm_legal.specs.Prompt.{EachLeads, HostIsFull, IsSwept, NoneInVain};
 ghost use Rattle.vm_legal.specs.Stretches.{EachIn};
 ghost use Rattle.vm_abroad.specs.Own.{own_change, own_effect, own_last, own_live, own_out, own_ready, own_wired};
 ghost use Rattle.vm_abroad.specs.Run as run;
@@ -33,10 +33,11 @@ pub fn others_are_nothing()
     ensures { (header : Header) (outside : Outside) (h : ℕ) (events past : List Event) → Sound header past → Knows header h past → EachIn (IsAbroad header outside h) events past → SameForHost header h past (events ++ past) }
 {}
 
-/// Whoever waits on a host waits as before, and for the same; its frames are as short as before, and
-/// nothing more is left behind.
-#[tactic(auto, using(crate::proofs::Waits::swept_now))]
+/// Whoever waits on a host waits as before, with an entry that leads to its page, and for the same; its
+/// frames are as short as before, and nothing more is left behind.
+#[tactic(auto, using(crate::proofs::Waits::leads_now, crate::proofs::Waits::swept_now))]
 pub fn who_waits_waits_as_before()
+    ensures leads { (header : Header) (h : ℕ) (old new : List Event) → Sound header old → Knows header h old → SameFacts header h old new → EachLeads header h old → EachLeads header h new }
     ensures full { (header : Header) (h : ℕ) (old new : List Event) → Sound header old → Knows header h old → SameFacts header h old new → HostIsFull header h old → HostIsFull header h new }
     ensures vain { (header : Header) (h : ℕ) (old new : List Event) → Sound header old → Knows header h old → SameFacts header h old new → NoneInVain header h old → NoneInVain header h new }
     ensures swept { (header : Header) (h : ℕ) (old new : List Event) → Sound header old → Knows header h old → SameFacts header h old new → IsShut old → IsSwept header h old → IsSwept header h new }
@@ -63,7 +64,7 @@ pub fn events_have_one_home()
 
 /// A temporary region is used on one host, and what is declared stays as it was: of each history that
 /// commands made.
-#[tactic(auto, using(crate::proofs::Sounds::sound_of, crate::proofs::Heads::entered, crate::proofs::Heads::none_open))]
+#[tactic(auto, using(crate::proofs::Sounds::sound_of))]
 pub fn regions_are_used_on_one_host()
     ensures sound { (header : Header) (outside : Outside) (history : List Event) → EachEvent (HasCause header outside) history → EachEvent EntersNext history → Sound header history }
     ensures entered { (header : Header) (outside : Outside) (commands : List Numbered) (history : List Event) → FollowsSoFar header outside commands history → EachEvent EntersNext history }

@@ -173,7 +173,7 @@ caused_10 : EachEvent (HasCause header outside) past_10
 caused_10 = ((settling, (refl, (refl, omega arith))), caused_9)
 
 caused_11 : EachEvent (HasCause header outside) past_11
-caused_11 = ((settling, record { task = 0; access = Loading 64 2; waits = record { waits = refl; at = record { host = 0; entry = mapped; lives = refl; found = refl } }; on_host = refl; unmarked = λ store. refl; comes = record { top = 0; top_page = 0; steps = 0; is_top = record { object = refl; page = refl }; walks = (refl, refl) }; number = refl; live = refl; ready = refl; away = refl; unasked = refl; known = refl; left = tt }), caused_10)
+caused_11 = ((settling, record { task = 0; access = Loading 64 2; waits = record { waits = refl; at = record { host = 0; entry = mapped; lives = refl; found = refl }; left = tt }; on_host = refl; unmarked = λ store. refl; comes = record { top = 0; top_page = 0; steps = 0; is_top = record { object = refl; page = refl }; walks = (refl, refl) }; number = refl; live = refl; ready = refl; away = refl; unasked = refl; known = refl }), caused_10)
 
 caused_12 : EachEvent (HasCause header outside) past_12
 caused_12 = ((settling, (refl, (refl, omega arith))), caused_11)
@@ -185,7 +185,7 @@ caused_14 : EachEvent (HasCause header outside) past_14
 caused_14 = ((settling, (refl, (refl, omega arith))), caused_13)
 
 caused_15 : EachEvent (HasCause header outside) past_15
-caused_15 = ((settling, record { address = 64; bytes = 2; waits = record { waits = refl; at = record { host = 0; entry = mapped; lives = refl; found = refl } }; comes = record { top = 0; top_page = 0; steps = 0; is_top = record { object = refl; page = refl }; walks = (refl, refl) }; here = refl }), caused_14)
+caused_15 = ((settling, record { address = 64; bytes = 2; waits = record { waits = refl; at = record { host = 0; entry = mapped; lives = refl; found = refl }; left = tt }; comes = record { top = 0; top_page = 0; steps = 0; is_top = record { object = refl; page = refl }; walks = (refl, refl) }; here = refl }), caused_14)
 
 caused_16 : EachEvent (HasCause header outside) past_16
 caused_16 = ((settling, tt), caused_15)
@@ -194,7 +194,7 @@ caused_17 : EachEvent (HasCause header outside) past_17
 caused_17 = ((settling, refl), caused_16)
 
 caused_18 : EachEvent (HasCause header outside) past_18
-caused_18 = ((settling, record { address = 64; waits = record { waits = refl; at = record { host = 0; entry = mapped; lives = refl; found = refl } }; is_top = record { object = refl; page = refl }; unmarked = refl; here = refl; place = refl }), caused_17)
+caused_18 = ((settling, record { address = 64; waits = record { waits = refl; at = record { host = 0; entry = mapped; lives = refl; found = refl }; left = tt }; is_top = record { object = refl; page = refl }; unmarked = refl; here = refl; place = refl }), caused_17)
 
 caused_19 : EachEvent (HasCause header outside) past_19
 caused_19 = ((settling, tt), caused_18)
@@ -212,10 +212,10 @@ caused_23 : EachEvent (HasCause header outside) past_23
 caused_23 = ((settling, refl), caused_22)
 
 caused_24 : EachEvent (HasCause header outside) past_24
-caused_24 = ((settling, inr (record { task = 0; access = Storing 0 1 7; waits = record { waits = refl; at = record { host = 0; entry = own; lives = refl; found = refl } }; on_host = refl; temporary = omega arith; unmarked = λ store. refl; is_top = record { object = refl; page = refl }; steps = 0; sinks = (record { away = refl; unasked = refl; without = refl }, refl) })), caused_23)
+caused_24 = ((settling, inr (record { task = 0; access = Storing 0 1 7; waits = record { waits = refl; at = record { host = 0; entry = own; lives = refl; found = refl }; left = tt }; on_host = refl; temporary = omega arith; unmarked = λ store. refl; is_top = record { object = refl; page = refl }; steps = 0; sinks = (record { away = refl; unasked = refl; without = refl }, refl) })), caused_23)
 
 caused_25 : EachEvent (HasCause header outside) past_25
-caused_25 = ((settling, record { address = 0; waits = record { waits = refl; at = record { host = 0; entry = own; lives = refl; found = refl } }; is_top = record { object = refl; page = refl }; unmarked = refl; here = refl; place = refl }), caused_24)
+caused_25 = ((settling, record { address = 0; waits = record { waits = refl; at = record { host = 0; entry = own; lives = refl; found = refl }; left = tt }; is_top = record { object = refl; page = refl }; unmarked = refl; here = refl; place = refl }), caused_24)
 
 caused_26 : EachEvent (HasCause header outside) past_26
 caused_26 = ((settling, tt), caused_25)
@@ -257,7 +257,7 @@ caused_38 : EachEvent (HasCause header outside) past_38
 caused_38 = ((settling, refl), caused_37)
 
 caused_39 : EachEvent (HasCause header outside) past_39
-caused_39 = ((settling, record { task = 0; access = Loading 0 1; waits = record { waits = refl; at = record { host = 0; entry = own; lives = refl; found = refl } }; on_host = refl; unmarked = λ store. refl; comes = record { top = 1; top_page = 0; steps = 0; is_top = record { object = refl; page = refl }; walks = (refl, refl) }; number = refl; live = refl; ready = refl; away = refl; unasked = refl; known = refl; left = tt }), caused_38)
+caused_39 = ((settling, record { task = 0; access = Loading 0 1; waits = record { waits = refl; at = record { host = 0; entry = own; lives = refl; found = refl }; left = tt }; on_host = refl; unmarked = λ store. refl; comes = record { top = 1; top_page = 0; steps = 0; is_top = record { object = refl; page = refl }; walks = (refl, refl) }; number = refl; live = refl; ready = refl; away = refl; unasked = refl; known = refl }), caused_38)
 
 caused_40 : EachEvent (HasCause header outside) past_40
 caused_40 = ((settling, tt), caused_39)
@@ -272,7 +272,7 @@ caused_43 : EachEvent (HasCause header outside) past_43
 caused_43 = ((settling, (refl, (refl, omega arith))), caused_42)
 
 caused_44 : EachEvent (HasCause header outside) past_44
-caused_44 = ((settling, record { access = Loading 0 1; waits = record { waits = refl; at = record { host = 0; entry = own; lives = refl; found = refl } }; error = refl; place = record { top = 1; top_page = 0; steps = 0; is_top = record { object = refl; page = refl }; leads = (refl, refl) }; order = λ other ended. absurd (let bad : false ≡ true = ended in cc) }), caused_43)
+caused_44 = ((settling, record { access = Loading 0 1; waits = record { waits = refl; at = record { host = 0; entry = own; lives = refl; found = refl }; left = tt }; error = refl; place = record { top = 1; top_page = 0; steps = 0; is_top = record { object = refl; page = refl }; leads = (refl, refl) } }), caused_43)
 
 caused_45 : EachEvent (HasCause header outside) past_45
 caused_45 = ((settling, tt), caused_44)
@@ -281,7 +281,7 @@ caused_46 : EachEvent (HasCause header outside) past_46
 caused_46 = ((settling, refl), caused_45)
 
 caused_47 : EachEvent (HasCause header outside) past_47
-caused_47 = ((settling, record { task = 0; access = Loading 64 2; waits = record { waits = refl; at = record { host = 0; entry = mapped; lives = refl; found = refl } }; on_host = refl; unmarked = λ store. refl; comes = record { top = 0; top_page = 0; steps = 0; is_top = record { object = refl; page = refl }; walks = (refl, refl) }; number = refl; live = refl; ready = refl; away = refl; unasked = refl; known = refl; left = tt }), caused_46)
+caused_47 = ((settling, record { task = 0; access = Loading 64 2; waits = record { waits = refl; at = record { host = 0; entry = mapped; lives = refl; found = refl }; left = tt }; on_host = refl; unmarked = λ store. refl; comes = record { top = 0; top_page = 0; steps = 0; is_top = record { object = refl; page = refl }; walks = (refl, refl) }; number = refl; live = refl; ready = refl; away = refl; unasked = refl; known = refl }), caused_46)
 
 caused_48 : EachEvent (HasCause header outside) past_48
 caused_48 = ((settling, tt), caused_47)
@@ -296,19 +296,19 @@ caused_51 : EachEvent (HasCause header outside) past_51
 caused_51 = ((settling, (refl, (refl, omega arith))), caused_50)
 
 caused_52 : EachEvent (HasCause header outside) past_52
-caused_52 = ((settling, record { address = 64; bytes = 2; waits = record { waits = refl; at = record { host = 0; entry = mapped; lives = refl; found = refl } }; comes = record { top = 0; top_page = 0; steps = 0; is_top = record { object = refl; page = refl }; walks = (refl, refl) }; here = refl }), caused_51)
+caused_52 = ((settling, record { address = 64; bytes = 2; waits = record { waits = refl; at = record { host = 0; entry = mapped; lives = refl; found = refl }; left = tt }; comes = record { top = 0; top_page = 0; steps = 0; is_top = record { object = refl; page = refl }; walks = (refl, refl) }; here = refl }), caused_51)
 
 own_15 : OwnBytes header (event.Loaded (record { 0 = 0 }) (record { 0 = 0 }) (record { 0 = 0 }) 1284) past_14
-own_15 = record { address = 64; bytes = 2; waits = record { waits = refl; at = record { host = 0; entry = mapped; lives = refl; found = refl } }; readable = record { here = refl; unlocked = inl refl }; number = refl }
+own_15 = record { address = 64; bytes = 2; waits = record { waits = refl; at = record { host = 0; entry = mapped; lives = refl; found = refl }; left = tt }; readable = record { here = refl; unlocked = inl refl }; number = refl }
 
 own_18 : OwnBytes header (event.Stored (record { 0 = 0 }) (record { 0 = 0 }) (record { 0 = 0 }) 0 1 9) past_17
-own_18 = record { address = 64; waits = record { waits = refl; at = record { host = 0; entry = mapped; lives = refl; found = refl } }; writable = record { here = refl; unlocked = refl }; place = refl }
+own_18 = record { address = 64; waits = record { waits = refl; at = record { host = 0; entry = mapped; lives = refl; found = refl }; left = tt }; writable = record { here = refl; unlocked = refl }; place = refl }
 
 own_25 : OwnBytes header (event.Stored (record { 0 = 0 }) (record { 0 = 1 }) (record { 0 = 0 }) 0 1 7) past_24
-own_25 = record { address = 0; waits = record { waits = refl; at = record { host = 0; entry = own; lives = refl; found = refl } }; writable = record { here = refl; unlocked = refl }; place = refl }
+own_25 = record { address = 0; waits = record { waits = refl; at = record { host = 0; entry = own; lives = refl; found = refl }; left = tt }; writable = record { here = refl; unlocked = refl }; place = refl }
 
 own_52 : OwnBytes header (event.Loaded (record { 0 = 0 }) (record { 0 = 0 }) (record { 0 = 0 }) 1289) past_51
-own_52 = record { address = 64; bytes = 2; waits = record { waits = refl; at = record { host = 0; entry = mapped; lives = refl; found = refl } }; readable = record { here = refl; unlocked = inl refl }; number = refl }
+own_52 = record { address = 64; bytes = 2; waits = record { waits = refl; at = record { host = 0; entry = mapped; lives = refl; found = refl }; left = tt }; readable = record { here = refl; unlocked = inl refl }; number = refl }
 
 own_bytes : EachEvent (OwnBytes header) past_52
 own_bytes = (own_52, (tt, (tt, (tt, (tt, (tt, (tt, (tt, (tt, (tt, (tt, (tt, (tt, (tt, (tt, (tt, (tt, (tt, (tt, (tt, (tt, (tt, (tt, (tt, (tt, (tt, (tt, (own_25, (tt, (tt, (tt, (tt, (tt, (tt, (own_18, (tt, (tt, (own_15, (tt, (tt, (tt, (tt, (tt, (tt, (tt, (tt, (tt, (tt, (tt, (tt, (tt, (tt, (tt, tt)))))))))))))))))))))))))))))))))))))))))))))))))))))

@@ -13,6 +13,7 @@ pub mod File
 pub mod FileRun
 pub mod FileStart
 pub mod Filling
+pub mod Forgets
 pub mod Good
 pub mod Held
 pub mod Holds
@@ -37,6 +38,7 @@ pub mod Stored
 pub mod Sustained
 pub mod Takings
 pub mod Ties
+pub mod Told
 pub mod Traffic
 pub mod Translation
 pub mod Uses

@@ -181,7 +181,7 @@ caused_10 : EachEvent (HasCause header outside) past_10
 caused_10 = ((settling, (refl, (refl, omega arith))), caused_9)
 
 caused_11 : EachEvent (HasCause header outside) past_11
-caused_11 = ((settling, record { task = 0; access = Loading 64 2; waits = record { waits = refl; at = record { host = 0; entry = mapped; lives = refl; found = refl } }; on_host = refl; unmarked = λ store. refl; comes = record { top = 0; top_page = 0; steps = 0; is_top = record { object = refl; page = refl }; walks = (refl, refl) }; number = refl; live = refl; ready = refl; away = refl; unasked = refl; known = refl; left = tt }), caused_10)
+caused_11 = ((settling, record { task = 0; access = Loading 64 2; waits = record { waits = refl; at = record { host = 0; entry = mapped; lives = refl; found = refl }; left = tt }; on_host = refl; unmarked = λ store. refl; comes = record { top = 0; top_page = 0; steps = 0; is_top = record { object = refl; page = refl }; walks = (refl, refl) }; number = refl; live = refl; ready = refl; away = refl; unasked = refl; known = refl }), caused_10)
 
 caused_12 : EachEvent (HasCause header outside) past_12
 caused_12 = ((settling, (refl, (refl, omega arith))), caused_11)
@@ -193,7 +193,7 @@ caused_14 : EachEvent (HasCause header outside) past_14
 caused_14 = ((settling, (refl, (refl, omega arith))), caused_13)
 
 caused_15 : EachEvent (HasCause header outside) past_15
-caused_15 = ((settling, record { address = 64; bytes = 2; waits = record { waits = refl; at = record { host = 0; entry = mapped; lives = refl; found = refl } }; comes = record { top = 0; top_page = 0; steps = 0; is_top = record { object = refl; page = refl }; walks = (refl, refl) }; here = refl }), caused_14)
+caused_15 = ((settling, record { address = 64; bytes = 2; waits = record { waits = refl; at = record { host = 0; entry = mapped; lives = refl; found = refl }; left = tt }; comes = record { top = 0; top_page = 0; steps = 0; is_top = record { object = refl; page = refl }; walks = (refl, refl) }; here = refl }), caused_14)
 
 caused_16 : EachEvent (HasCause header outside) past_16
 caused_16 = ((settling, tt), caused_15)
@@ -205,7 +205,7 @@ caused_18 : EachEvent (HasCause header outside) past_18
 caused_18 = ((settling, (refl, refl)), caused_17)
 
 caused_19 : EachEvent (HasCause header outside) past_19
-caused_19 = ((settling, record { address = 64; bytes = 16; to = 128; waits = record { waits = refl; at = record { host = 0; entry = mapped; lives = refl; found = refl } }; next = refl; declared = omega arith; supplied = refl; is_top = record { object = refl; page = refl }; here = refl; region = 1; filled = refl; inside = omega arith; away = refl; unasked = refl }), caused_18)
+caused_19 = ((settling, record { address = 64; bytes = 16; to = 128; waits = record { waits = refl; at = record { host = 0; entry = mapped; lives = refl; found = refl }; left = omega arith }; next = refl; declared = omega arith; supplied = refl; is_top = record { object = refl; page = refl }; here = refl; region = 1; filled = refl; inside = omega arith; away = refl; unasked = refl }), caused_18)
 
 caused_20 : EachEvent (HasCause header outside) past_20
 caused_20 = ((settling, record { address = 64; bytes = 16; to = 128; waits = refl; all = refl }), caused_19)
@@ -220,7 +220,7 @@ caused_23 : EachEvent (HasCause header outside) past_23
 caused_23 = ((settling, refl), caused_22)
 
 caused_24 : EachEvent (HasCause header outside) past_24
-caused_24 = ((settling, record { address = 64; waits = record { waits = refl; at = record { host = 0; entry = mapped; lives = refl; found = refl } }; is_top = record { object = refl; page = refl }; unmarked = refl; here = refl; place = refl }), caused_23)
+caused_24 = ((settling, record { address = 64; waits = record { waits = refl; at = record { host = 0; entry = mapped; lives = refl; found = refl }; left = tt }; is_top = record { object = refl; page = refl }; unmarked = refl; here = refl; place = refl }), caused_23)
 
 caused_25 : EachEvent (HasCause header outside) past_25
 caused_25 = ((settling, tt), caused_24)
@@ -229,7 +229,7 @@ caused_26 : EachEvent (HasCause header outside) past_26
 caused_26 = ((settling, refl), caused_25)
 
 caused_27 : EachEvent (HasCause header outside) past_27
-caused_27 = ((settling, record { address = 128; bytes = 2; waits = record { waits = refl; at = record { host = 0; entry = copy; lives = refl; found = refl } }; comes = record { top = 1; top_page = 0; steps = 0; is_top = record { object = refl; page = refl }; walks = (refl, refl) }; here = refl }), caused_26)
+caused_27 = ((settling, record { address = 128; bytes = 2; waits = record { waits = refl; at = record { host = 0; entry = copy; lives = refl; found = refl }; left = tt }; comes = record { top = 1; top_page = 0; steps = 0; is_top = record { object = refl; page = refl }; walks = (refl, refl) }; here = refl }), caused_26)
 
 caused_28 : EachEvent (HasCause header outside) past_28
 caused_28 = ((settling, tt), caused_27)
@@ -238,7 +238,7 @@ caused_29 : EachEvent (HasCause header outside) past_29
 caused_29 = ((settling, refl), caused_28)
 
 caused_30 : EachEvent (HasCause header outside) past_30
-caused_30 = ((settling, record { address = 64; bytes = 2; waits = record { waits = refl; at = record { host = 0; entry = mapped; lives = refl; found = refl } }; comes = record { top = 0; top_page = 0; steps = 0; is_top = record { object = refl; page = refl }; walks = (refl, refl) }; here = refl }), caused_29)
+caused_30 = ((settling, record { address = 64; bytes = 2; waits = record { waits = refl; at = record { host = 0; entry = mapped; lives = refl; found = refl }; left = tt }; comes = record { top = 0; top_page = 0; steps = 0; is_top = record { object = refl; page = refl }; walks = (refl, refl) }; here = refl }), caused_29)
 
 caused_31 : EachEvent (HasCause header outside) past_31
 caused_31 = ((settling, tt), caused_30)
@@ -271,7 +271,7 @@ caused_40 : EachEvent (HasCause header outside) past_40
 caused_40 = ((settling, refl), caused_39)
 
 caused_41 : EachEvent (HasCause header outside) past_41
-caused_41 = ((settling, record { task = 0; access = Loading 64 2; waits = record { waits = refl; at = record { host = 0; entry = mapped; lives = refl; found = refl } }; on_host = refl; unmarked = λ store. refl; comes = record { top = 0; top_page = 0; steps = 0; is_top = record { object = refl; page = refl }; walks = (refl, refl) }; number = refl; live = refl; ready = refl; away = refl; unasked = refl; known = refl; left = tt }), caused_40)
+caused_41 = ((settling, record { task = 0; access = Loading 64 2; waits = record { waits = refl; at = record { host = 0; entry = mapped; lives = refl; found = refl }; left = tt }; on_host = refl; unmarked = λ store. refl; comes = record { top = 0; top_page = 0; steps = 0; is_top = record { object = refl; page = refl }; walks = (refl, refl) }; number = refl; live = refl; ready = refl; away = refl; unasked = refl; known = refl }), caused_40)
 
 caused_42 : EachEvent (HasCause header outside) past_42
 caused_42 = ((settling, tt), caused_41)
@@ -286,7 +286,7 @@ caused_45 : EachEvent (HasCause header outside) past_45
 caused_45 = ((settling, (refl, (refl, omega arith))), caused_44)
 
 caused_46 : EachEvent (HasCause header outside) past_46
-caused_46 = ((settling, record { address = 64; bytes = 2; waits = record { waits = refl; at = record { host = 0; entry = mapped; lives = refl; found = refl } }; comes = record { top = 0; top_page = 0; steps = 0; is_top = record { object = refl; page = refl }; walks = (refl, refl) }; here = refl }), caused_45)
+caused_46 = ((settling, record { address = 64; bytes = 2; waits = record { waits = refl; at = record { host = 0; entry = mapped; lives = refl; found = refl }; left = tt }; comes = record { top = 0; top_page = 0; steps = 0; is_top = record { object = refl; page = refl }; walks = (refl, refl) }; here = refl }), caused_45)
 
 caused_47 : EachEvent (HasCause header outside) past_47
 caused_47 = ((settling, tt), caused_46)
@@ -307,7 +307,7 @@ caused_52 : EachEvent (HasCause header outside) past_52
 caused_52 = ((settling, record { live = refl; returns = 2; flush = true; lock = 8; taken = refl; once = refl; done = λ page from below. flushed page past_51 (λ here. absurd (let bad : false ≡ true = here in cc)) below }), caused_51)
 
 own_15 : OwnBytes header (event.Loaded (record { 0 = 0 }) (record { 0 = 0 }) (record { 0 = 0 }) 1284) past_14
-own_15 = record { address = 64; bytes = 2; waits = record { waits = refl; at = record { host = 0; entry = mapped; lives = refl; found = refl } }; readable = record { here = refl; unlocked = inl refl }; number = refl }
+own_15 = record { address = 64; bytes = 2; waits = record { waits = refl; at = record { host = 0; entry = mapped; lives = refl; found = refl }; left = tt }; readable = record { here = refl; unlocked = inl refl }; number = refl }
 
 number_is : (a b : ℕ) → (a == b) ≡ true → a ≡ b
 number_is a b is = grind (arith, nat_tests)
@@ -316,16 +316,16 @@ own_19 : OwnBytes header (event.CopiedPage (record { 0 = 0 }) (record { 0 = 0 })
 own_19 = λ host lives. subst (λ (h : ℕ). CanRead (page_on header h 0 0 past_18)) (number_is 0 host lives) (record { here = refl; unlocked = inl refl })
 
 own_24 : OwnBytes header (event.Stored (record { 0 = 0 }) (record { 0 = 0 }) (record { 0 = 0 }) 0 1 9) past_23
-own_24 = record { address = 64; waits = record { waits = refl; at = record { host = 0; entry = mapped; lives = refl; found = refl } }; writable = record { here = refl; unlocked = refl }; place = refl }
+own_24 = record { address = 64; waits = record { waits = refl; at = record { host = 0; entry = mapped; lives = refl; found = refl }; left = tt }; writable = record { here = refl; unlocked = refl }; place = refl }
 
 own_27 : OwnBytes header (event.Loaded (record { 0 = 0 }) (record { 0 = 1 }) (record { 0 = 0 }) 1284) past_26
-own_27 = record { address = 128; bytes = 2; waits = record { waits = refl; at = record { host = 0; entry = copy; lives = refl; found = refl } }; readable = record { here = refl; unlocked = inl refl }; number = refl }
+own_27 = record { address = 128; bytes = 2; waits = record { waits = refl; at = record { host = 0; entry = copy; lives = refl; found = refl }; left = tt }; readable = record { here = refl; unlocked = inl refl }; number = refl }
 
 own_30 : OwnBytes header (event.Loaded (record { 0 = 0 }) (record { 0 = 0 }) (record { 0 = 0 }) 1289) past_29
-own_30 = record { address = 64; bytes = 2; waits = record { waits = refl; at = record { host = 0; entry = mapped; lives = refl; found = refl } }; readable = record { here = refl; unlocked = inl refl }; number = refl }
+own_30 = record { address = 64; bytes = 2; waits = record { waits = refl; at = record { host = 0; entry = mapped; lives = refl; found = refl }; left = tt }; readable = record { here = refl; unlocked = inl refl }; number = refl }
 
 own_46 : OwnBytes header (event.Loaded (record { 0 = 0 }) (record { 0 = 0 }) (record { 0 = 0 }) 1289) past_45
-own_46 = record { address = 64; bytes = 2; waits = record { waits = refl; at = record { host = 0; entry = mapped; lives = refl; found = refl } }; readable = record { here = refl; unlocked = inl refl }; number = refl }
+own_46 = record { address = 64; bytes = 2; waits = record { waits = refl; at = record { host = 0; entry = mapped; lives = refl; found = refl }; left = tt }; readable = record { here = refl; unlocked = inl refl }; number = refl }
 
 own_bytes : EachEvent (OwnBytes header) past_52
 own_bytes = (tt, (tt, (tt, (tt, (tt, (tt, (own_46, (tt, (tt, (tt, (tt, (tt, (tt, (tt, (tt, (tt, (tt, (tt, (tt, (tt, (tt, (tt, (own_30, (tt, (tt, (own_27, (tt, (tt, (own_24, (tt, (tt, (tt, (tt, (own_19, (tt, (tt, (tt, (own_15, (tt, (tt, (tt, (tt, (tt, (tt, (tt, (tt, (tt, (tt, (tt, (tt, (tt, (tt, (tt, tt)))))))))))))))))))))))))))))))))))))))))))))))))))))

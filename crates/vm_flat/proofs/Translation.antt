@@ -91,7 +91,7 @@ up header outside doing host o other past caused ours c = tt
 
 leaves : (header : Header) (outside : Outside) (doing : Command) (host o p : ℕ) (past : List Event) (page : Local) → L.DropCause header doing host o p page past → S.Leaves header outside host o p page.dirty past
 leaves header outside doing host o p past page (L.Reclaimed clean plain why) = S.Clean clean
-leaves header outside doing host o p past page (L.Unreached above gone least) = S.Unreached above (λ reach. gone (reached header outside host o past reach))
+leaves header outside doing host o p past page (L.Unreached above gone) = S.Unreached above (λ reach. gone (reached header outside host o past reach))
 leaves header outside doing host o p past page (L.Flushed returns locked spared) = S.Flushed returns page.precious locked spared
 leaves header outside doing host o p past page (L.Ended clean plain below unheld) = S.Clean clean
 

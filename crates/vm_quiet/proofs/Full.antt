@@ -1,14 +1,16 @@
 -- The worked history meets the premises, and its load waits.
-use Rattle.std.proofs.Common.{inr, ℕ, ◌≡◌, List, [], true, refl, subst, arith, None}
+use Rattle.std.proofs.Common.{inr, ℕ, ◌≡◌, List, [], Bool, true, false, refl, subst, arith, Option, Some, None}
+use Rattle.std.proofs.lemmas.Bool.Decides.{nat_tests}
+use Rattle.std.specs.Prelude.{◌==◌, if◌then◌else◌}
 use Rattle.vm_base.specs.declared.ids.Inherit.TheVariants.{Copy}
 use Rattle.vm_model.specs.declared.command.Command.TheVariants as command
 use Rattle.vm_model.specs.declared.event.Event.{Event}
 use Rattle.vm_model.specs.Moments.{BeforeSteps, EachEvent}
-use Rattle.vm_model.specs.Waiting.{Loading}
+use Rattle.vm_model.specs.Waiting.{Access, Loading}
 use Rattle.vm_legal.specs.Accesses.{Waits}
 use Rattle.vm_legal.specs.Debts.{IsPaid}
 use Rattle.vm_legal.specs.Licences.{HasCause, owed}
-use Rattle.vm_legal.specs.Prompt.{NoneInVain, Prompt}
+use Rattle.vm_legal.specs.Prompt.{EachLeads, NoneInVain, Prompt}
 use Rattle.vm_legal.specs.Steps.{absence_taken, error_taken, taken_letter}
 use Rattle.vm_legal.specs.Undelivered.{undelivered}
 use Rattle.vm_quiet.specs.Full.{header, history, outside, region}
@@ -57,22 +59,37 @@ full_causes = (
   ),
 )
 
+pub full_waits : Waits header 0 (Loading 0 1) history
+full_waits =
+    record {
+      waits = refl;
+      at = record { host = 0; entry = record { address = 0; bytes = 16; region = region; offset = 0; prot = record { read = true; write = true }; inherit = Copy }; lives = refl; found = refl };
+      left = tt;
+    }
+
+-- the load is the only access that waits
+full_leads : EachLeads header 0 history
+full_leads t access is lives = by (0 == t) refl is
+  where
+    number_is : (a b : ℕ) → (a == b) ≡ true → a ≡ b
+    number_is a b is = grind (arith, nat_tests)
+
+    by : (b : Bool) → (0 == t) ≡ b → (if b then Some (Loading 0 1) else (if b then None else None)) ≡ Some access → Waits header t access history
+    by true first e =
+        let same : Loading 0 1 ≡ access = cc in
+        subst (λ (k : ℕ). Waits header k access history) (number_is 0 t first) (subst (λ (a : Access). Waits header 0 a history) same full_waits)
+    by false other e = absurd (let bad : ◌≡◌ {A = Option Access} None (Some access) = e in cc)
+
 full_none : NoneInVain header 0 history
 full_none t access waits on = inr (record { none = refl; why = inr (record { held = λ o p is. never is; one = λ o p q r is also no_wait none_waits. never is }) })
 
 pub full_prompt : Prompt header history
 full_prompt h below =
     record {
+      leads = let first : 0 ≡ h = omega (arith, below) in subst (λ (k : ℕ). EachLeads header k history) first full_leads;
       waits = let first : 0 ≡ h = omega (arith, below) in subst (λ (k : ℕ). NoneInVain header k history) first full_none;
       swept = record { pages = λ o p ours unreached. refl; controls = λ o ours unreached. refl; declared_pages = λ o p ours unheld. refl; declared_controls = λ o ours unheld. refl };
     }
 
 pub full_delivered : undelivered history ≡ []
 full_delivered = refl
-
-pub full_waits : Waits header 0 (Loading 0 1) history
-full_waits =
-    record {
-      waits = refl;
-      at = record { host = 0; entry = record { address = 0; bytes = 16; region = region; offset = 0; prot = record { read = true; write = true }; inherit = Copy }; lives = refl; found = refl };
-    }

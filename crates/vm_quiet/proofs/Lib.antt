@@ -8,3 +8,4 @@ pub mod Awaited
 pub mod Carried
 pub mod Quiet
 pub mod Full
+pub mod Unended

@@ -1,7 +1,7 @@
 -- A history in which nothing is on its way leaves waiting only those who wait for frames.
-use Rattle.std.proofs.Common.{inl, inr, ℕ, ◌≡◌, ◌∙◌, List, [], length, Bool, true, false, refl, sym, ap, arith, Option, Some, None, if◌then◌else◌}
+use Rattle.std.proofs.Common.{inl, inr, ℕ, ◌≡◌, ◌∙◌, List, [], length, Bool, true, false, refl, sym, ap, subst, arith, Option, Some, None, if◌then◌else◌}
 use Rattle.std.proofs.lemmas.Bool.Decides.{nat_tests}
-use Rattle.std.specs.Prelude.{◌&&◌, ◌||◌, not, nat_lt, ◌+◌, ◌-◌, ◌<◌, ◌≤◌, ◌⊎◌}
+use Rattle.std.specs.Prelude.{◌==◌, ◌&&◌, ◌||◌, not, nat_lt, ◌+◌, ◌-◌, ◌<◌, ◌≤◌, ◌⊎◌}
 use Rattle.vm_base.specs.declared.ids.ObjectKind.{ObjectKind}
 use Rattle.vm_base.specs.declared.ids.ObjectKind.TheVariants.{Temp, File, Shared, Wild}
 use Rattle.vm_legal.proofs.LockNames.{unnamed}
@@ -11,12 +11,13 @@ use Rattle.vm_model.specs.declared.script.Declared.{Declared}
 use Rattle.vm_model.specs.declared.script.Header.{Header}
 use Rattle.vm_model.specs.Named.{declared, named}
 use Rattle.vm_model.specs.Controls.{live_control}
-use Rattle.vm_model.specs.Local.{Local}
+use Rattle.vm_model.specs.Local.{Local, is_on}
 use Rattle.vm_model.specs.Waiting.{Access, is_store}
 use Rattle.vm_legal.specs.Accesses.{Waits, WaitsUnlocked, is_ready, names}
 use Rattle.vm_model.specs.Moments.{BeforeSteps, EachEvent}
 use Rattle.vm_legal.specs.Debts.{IsPaid}
 use Rattle.vm_legal.specs.Licences.{HasCause, is_paged}
+use Rattle.vm_legal.specs.Living.{lives_on}
 use Rattle.vm_legal.specs.Undelivered.{undelivered}
 use Rattle.vm_legal.specs.Frames.{frames_held, frames_of, frames_wired, returns_out}
 use Rattle.vm_legal.specs.Outside.{Outside, is_file, is_file_kept, is_file_kind, is_shared, is_shared_kind, is_wild, is_wild_kind, kind_in, kind_of}
@@ -151,10 +152,22 @@ one_short header outside history host task access q below waits on = by ((q.prom
     by (inl w) = absurd (no_pager header outside history host (is_store access) w.object w.page q w.what)
     by (inr full) = full_short header outside history host q base (count_of header outside host history q.causes) full
 
+-- who lives on a host waits there
+leads_there : (header : Header) (host task : ℕ) (access : Access) (history : List Event) → (waits : Waits header task access history) → lives_on host task history ≡ true → waits.at.host ≡ host
+leads_there header host task access history waits lives = same waits.at.host (subst (λ (found : Option ℕ). is_on host found ≡ true) waits.at.lives lives)
+  where
+    same : (own : ℕ) → (own == host) ≡ true → own ≡ host
+    same own is = grind (arith, nat_tests)
+
 pub supplied : (header : Header) (outside : Outside) (history : List Event) → AllSupplied header → EachEvent (HasCause header outside) history → BeforeSteps (IsPaid header) history → IsPaid header history → SharedAreAnswered header history → Prompt header history → undelivered history ≡ [] → NobodyWaitsInVain header history
 supplied header outside history all causes steps paid shared prompt delivered =
     let q : IsQuiet header outside history = record { supplied = all; causes = causes; steps = steps; paid = paid; shared = shared; prompt = prompt; delivered = delivered } in
-    record { short = λ host task access below waits on. one_short header outside history host task access q below waits on }
+    record {
+      short = λ host task access below waiting lives. (
+          let waits : Waits header task access history = (prompt host below).leads task access waiting lives in
+          one_short header outside history host task access q below waits (leads_there header host task access history waits lives)
+          );
+    }
 
 -- where each declared object is a file, none is shared
 

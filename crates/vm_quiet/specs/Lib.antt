@@ -3,3 +3,4 @@ pub mod Full
 pub mod Letters
 pub mod Places
 pub mod Quiet
+pub mod Unended

@@ -1,11 +1,11 @@
 -- Whoever waits, waits for frames alone.
-use Rattle.std.specs.Prelude.{ℕ, ◌-◌, ◌<◌, ◌≡◌, ◌||◌, true, false, List, length}
+use Rattle.std.specs.Prelude.{ℕ, ◌-◌, ◌<◌, ◌≡◌, ◌||◌, true, false, List, length, Some}
 use Rattle.vm_model.specs.declared.event.Event.{Event}
 use Rattle.vm_model.specs.declared.script.Header.{Header}
-use Rattle.vm_model.specs.Waiting.{Access}
+use Rattle.vm_model.specs.Waiting.{Access, waiting}
 use Rattle.vm_model.specs.Named.{named}
-use Rattle.vm_legal.specs.Accesses.{Waits}
 use Rattle.vm_legal.specs.Frames.{frames_free, frames_of, frames_wired}
+use Rattle.vm_legal.specs.Living.{lives_on}
 use Rattle.vm_legal.specs.Outside.{is_file, is_shared}
 use Rattle.vm_legal.specs.Walks.{page_on}
 
@@ -25,4 +25,4 @@ pub record IsShortOfFrames (header : Header) (host : ℕ) (past : List Event) : 
 
 -- whoever waits on one of the hosts waits since it is short of frames
 pub record NobodyWaitsInVain (header : Header) (history : List Event) : Type 0 where
-  pub short : (host task : ℕ) (access : Access) → host < length header.frames.items → (waits : Waits header task access history) → waits.at.host ≡ host → IsShortOfFrames header host history
+  pub short : (host task : ℕ) (access : Access) → host < length header.frames.items → waiting task history ≡ Some access → lives_on host task history ≡ true → IsShortOfFrames header host history

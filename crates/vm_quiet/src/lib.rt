@@ -13,7 +13,7 @@ ghost use Rattle.vm_model.specs.declared.script.Header.{Header};
 ghost use Rattle.vm_model.specs.Channels.{queue};
 ghost use Rattle.vm_model.specs.Moments.{BeforeSteps, EachEvent};
 ghost use Rattle.vm_model.specs.Server.{first};
-ghost use Rattle.vm_model.specs.Waiting.{Loading};
+ghost use Rattle.vm_model.specs.Waiting.{Copying, Loading, waiting};
 ghost use Rattle.vm_legal.specs.Accesses.{Waits};
 ghost use Rattle.vm_legal.specs.Debts.{IsPaid};
 ghost use Rattle.vm_legal.specs.Licences.{HasCause};
@@ -26,6 +26,7 @@ ghost use Rattle.vm_quiet.specs.Full as full;
 ghost use Rattle.vm_quiet.specs.Letters.{messages_on};
 ghost use Rattle.vm_quiet.specs.Places.{AllPaged, FramesAreCounted};
 ghost use Rattle.vm_quiet.specs.Quiet.{AllSupplied, NobodyWaitsInVain, SharedAreAnswered};
+ghost use Rattle.vm_quiet.specs.Unended as unended;
 
 /// The queue of a channel is the channel's undelivered messages, in the order in which they were
 /// sent: whether one asks the channel or all letters together, the next message is the same.
@@ -82,4 +83,14 @@ pub fn full_run()
     ensures prompt { Prompt full.header full.history }
     ensures delivered { undelivered full.history ≡ [] }
     ensures waits { Waits full.header 0 (Loading 0 1) full.history }
+{}
+
+/// A slow copy that has copied all its pages may not go on waiting: where one never ends, somebody waits in
+/// vain, though nothing is undelivered, and each event that did happen has its cause.
+#[tactic(auto, using(crate::proofs::Unended::unended_causes, crate::proofs::Unended::unended_waits, crate::proofs::Unended::unended_delivered, crate::proofs::Unended::unended_unprompted))]
+pub fn a_finished_copy_may_not_wait()
+    ensures causes { EachEvent (HasCause unended.header unended.outside) unended.history }
+    ensures waits { waiting 0 unended.history ≡ Some (Copying 0 16 32) }
+    ensures delivered { undelivered unended.history ≡ [] }
+    ensures unprompted { Prompt unended.header unended.history → ⊥ }
 {}

@@ -1,5 +1,5 @@
 -- Where each step has paid, what is asked of the server of shared memory is on its way, or stands in its line behind something that is.
-use Rattle.std.proofs.Common.{inl, inr, ℕ, ◌≡◌, ◌∙◌, List, [], ◌∷◌, Bool, true, false, refl, sym, ap, arith, Some}
+use Rattle.std.proofs.Common.{inl, inr, ℕ, ◌≡◌, ◌∙◌, List, [], ◌∷◌, Bool, true, false, refl, sym, ap, subst, arith, Some}
 use Rattle.std.proofs.lemmas.Bool.Decides.{nat_tests}
 use Rattle.std.proofs.lemmas.List.Folds.{Any-from_list_any}
 use Rattle.std.specs.List.{list_any}
@@ -165,25 +165,32 @@ unlocking_on header h o p history part here is = (s.control, live_some s (live_c
     by (inr (inr some)) = inr (inr (sent_down header h o p history part word.locks (is_lock p) (lock_is p) live some))
 
 awaited_on : (header : Header) (h o p : ℕ) (history : List Event) → IsPart header h o p history → 0 < (side h (page_part header.size o p history)).awaits
-    → (control : ℕ) × (IsUndelivered (is_recall p) (down_port h o control) history ⊎ IsUndelivered (is_reply control p) (up_port h o) history)
+    → IsUndelivered (is_recall p) (down_port h o (side h (page_part header.size o p history)).awaited_control) history ⊎ IsUndelivered (is_reply (side h (page_part header.size o p history)).awaited_control p) (up_port h o) history
 awaited_on header h o p history part some = by (part.at.awaited some)
   where
     s : Side
     s = side h (page_part header.size o p history)
 
+    -- the lock is on its way to the live control, for which the host is awaited
+    recalled : list_any word.recalls s.down ≡ true → IsUndelivered (is_recall p) (down_port h o s.awaited_control) history
+    recalled down =
+        let reached = part.at.reached down in
+        subst (λ (k : ℕ). IsUndelivered (is_recall p) (down_port h o k) history) (sym reached.1) (sent_down header h o p history part word.recalls (is_recall p) (recall_is p) reached.0 down)
+
     by : (list_any word.recalls s.down ≡ true) ⊎ ((0 < s.step) ⊎ ((list_any (word.does_as s.awaited_control) s.up ≡ true) ⊎ (list_any (word.ends_as s.awaited_control) s.up ≡ true)))
-        → (control : ℕ) × (IsUndelivered (is_recall p) (down_port h o control) history ⊎ IsUndelivered (is_reply control p) (up_port h o) history)
-    by (inl down) = (s.control, inl (sent_down header h o p history part word.recalls (is_recall p) (recall_is p) (part.at.reached down).0 down))
+        → IsUndelivered (is_recall p) (down_port h o s.awaited_control) history ⊎ IsUndelivered (is_reply s.awaited_control p) (up_port h o) history
+    by (inl down) = inl (recalled down)
     by (inr (inl step)) = absurd (omega (arith, step, part.done))
-    by (inr (inr (inl up))) = (s.awaited_control, inr (sent_up header h o p history part (word.does_as s.awaited_control) (is_reply s.awaited_control p) (does_is s.awaited_control p) up))
-    by (inr (inr (inr up))) = (s.awaited_control, inr (sent_up header h o p history part (word.ends_as s.awaited_control) (is_reply s.awaited_control p) (ends_is s.awaited_control p) up))
+    by (inr (inr (inl up))) = inr (sent_up header h o p history part (word.does_as s.awaited_control) (is_reply s.awaited_control p) (does_is s.awaited_control p) up)
+    by (inr (inr (inr up))) = inr (sent_up header h o p history part (word.ends_as s.awaited_control) (is_reply s.awaited_control p) (ends_is s.awaited_control p) up)
 
 shared_carried : (header : Header) (outside : Outside) (history : List Event) → IsPaidFor header outside history → AllServed header history → SharedAreCarried header history
 shared_carried header outside history known served =
     record {
       asked = λ h o p shared is. asked_on header h o p history (part_of header outside h o p history known shared) is;
       unlocking = λ h o p shared here is. unlocking_on header h o p history (part_of header outside h o p history known shared) here is;
-      standing = λ o p shared some. let host = served o p shared some in let a = awaited_on header host.0 o p history (part_of header outside host.0 o p history known shared) host.1 in (host.0, a.0, a.1);
+      awaited = λ h o p shared some. awaited_on header h o p history (part_of header outside h o p history known shared) some;
+      standing = λ o p shared some. let host = served o p shared some in (host.0, (side host.0 (page_part header.size o p history)).awaited_control, awaited_on header host.0 o p history (part_of header outside host.0 o p history known shared) host.1);
     }
 
 pub shared_are_carried : (header : Header) (outside : Outside) (history : List Event) → EachEvent (HasCause header outside) history → EachEvent (OwnBytes header) history → BeforeSteps (IsPaid header) history → IsPaid header history → AllServed header history → SharedAreCarried header history

@@ -22,6 +22,7 @@ use Rattle.vm_model.specs.Tasks.{host_of}
 use Rattle.vm_model.specs.Waiters.{readers, waiter_of, waiters}
 use Rattle.vm_model.specs.Waiting.{Access, Copying, Loading, is_store, next_page, waiting}
 use Rattle.vm_model.specs.Words.{Act, ActEffect, UpWord, act_of, Asking, Begins, Copies, Doing, Drops, Ending, EndsCopy, Fails, Loads, Locking, Nothing, Opens, OtherDown, OtherUp, Puts, Returning, SendsUp, SentDown, StepBegins, Stores, Supplying, TakenUp, TakesDown, Unlocking, down_word, in_range, sent_act_effect, up_word}
+use Rattle.vm_legal.specs.Accesses.{HasPageLeft}
 use Rattle.vm_legal.specs.Bytes.{AnswersOwn, OwnBytes, PutsOwn}
 use Rattle.vm_legal.specs.Licences as L
 use Rattle.vm_legal.specs.Licences.{HasCause, LockRequest, MaySendUp, ReturnCause, ServerSends, gives_back, is_answered_over, lock_taken}
@@ -105,8 +106,8 @@ word_row : (header : Header) (h o p control : ℕ) (b : Bool) (w : UpWord) (past
 word_row header h o p control true w past is = is refl
 word_row header h o p control false w past is = tt
 
-page_left : (header : Header) (task : ℕ) (access : Access) (past : List Event) → L.HasPageLeft header.size access (next_page task past) → (address bytes to : ℕ) → access ≡ Copying address bytes to → next_page task past < bytes / header.size
-page_left header task access past left address bytes to is = subst (λ a. L.HasPageLeft header.size a (next_page task past)) is left
+page_left : (header : Header) (task : ℕ) (access : Access) (past : List Event) → HasPageLeft header.size access (next_page task past) → (address bytes to : ℕ) → access ≡ Copying address bytes to → next_page task past < bytes / header.size
+page_left header task access past left address bytes to is = subst (λ a. HasPageLeft header.size a (next_page task past)) is left
 
 returns_sent : (header : Header) (outside : Outside) (doing : Command) (h o p control : ℕ) (dirty keep : Bool) (bytes : List ℕ) (past : List Event) → EachEvent (HasCause header outside) past → is_shared header o ≡ true → L.GivesBack header doing h control o p dirty keep bytes past
     → Cause header.size h (SendsUp control (Returning dirty keep bytes)) (page_part header.size o p past)
@@ -138,7 +139,7 @@ asks_sent : (header : Header) (outside : Outside) (h o p control access : ℕ) (
 asks_sent header outside h o p control access past caused shared c =
     let k : Known header h o p past = known header outside past caused h o p shared in
     asks_row (waiters h (page_part header.size o p past)) (readers h (page_part header.size o p past)) (side h (page_part header.size o p past)) (page_on header h o p past) (live_control h o past) control access _ _ k.is k.steps c.live c.ready c.away c.unasked
-    (asks_reason header outside h control o p access past caused shared c (page_left header c.task c.access past c.left))
+    (asks_reason header outside h control o p access past caused shared c (page_left header c.task c.access past c.waits.left))
 
 unlocks_sent : (header : Header) (outside : Outside) (h o p control access : ℕ) (past : List Event) → EachEvent (HasCause header outside) past → is_shared header o ≡ true → L.Unlocks header h control o p access past → Cause header.size h (SendsUp control (Unlocking access)) (page_part header.size o p past)
 unlocks_sent header outside h o p control access past caused shared c =
@@ -198,7 +199,7 @@ down_sent header h o p control m past c = absurd c
 drop_clean : (header : Header) (outside : Outside) (doing : Command) (h o p : ℕ) (past : List Event) → EachEvent (HasCause header outside) past → is_shared header o ≡ true → L.DropCause header doing h o p (page_on header h o p past) past → (page_on header h o p past).dirty ≡ false
 drop_clean header outside doing h o p past caused shared (L.DropCause.Reclaimed clean plain reclaims) = clean
 drop_clean header outside doing h o p past caused shared (L.DropCause.Ended clean plain declared unheld) = clean
-drop_clean header outside doing h o p past caused shared (L.DropCause.Unreached temporary unreached order) = let less = shared_declared header o shared in absurd (omega (arith, less, temporary))
+drop_clean header outside doing h o p past caused shared (L.DropCause.Unreached temporary unreached) = let less = shared_declared header o shared in absurd (omega (arith, less, temporary))
 drop_clean header outside doing h o p past caused shared (L.DropCause.Flushed returns locked none) =
     let r : LockRequest = record { host = h; object = o; control = locked.control; page = locked.first; count = locked.count; returns = returns; flush = true; lock = locked.lock; reply = locked.reply } in
     let one : returns ≡ 1 = kind locked.reply (servers_lock header outside past caused r locked.taken shared) in

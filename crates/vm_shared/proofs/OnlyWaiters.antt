@@ -1,10 +1,8 @@
 -- Nobody else is among the waiters of a shared page: whoever is there waits for it, where no task is made anew while it lives.
-use Rattle.std.proofs.Common.{ℕ, zero, suc, ◌≡◌, ◌<◌, List, [], ◌∷◌, Bool, true, false, Option, Some, None, if◌then◌else◌, refl, sym, ap, subst, ◌∙◌, arith}
+use Rattle.std.proofs.Common.{ℕ, ◌≡◌, ◌<◌, List, [], ◌∷◌, Bool, true, false, Some, None, if◌then◌else◌, refl, sym, ap, subst, ◌∙◌, arith}
 use Rattle.std.proofs.lemmas.Bool.Decides.{nat_tests}
 use Rattle.std.specs.Prelude.{◌%◌, ◌/◌, ◌==◌, ◌&&◌}
 use Rattle.vm_base.specs.declared.entry.Entry.{Entry}
-use Rattle.vm_base.specs.declared.ids.HostId.{HostId}
-use Rattle.vm_base.specs.declared.ids.TaskId.{TaskId}
 use Rattle.vm_base.specs.Entries.{entered, entry_at, inherited, page_at, protected, removed}
 use Rattle.vm_model.specs.declared.event.Event.{Event}
 use Rattle.vm_model.specs.declared.event.Event.TheVariants as event
@@ -12,23 +10,19 @@ use Rattle.vm_model.specs.declared.script.Header.{Header}
 use Rattle.vm_model.specs.Moments.{EachEvent}
 use Rattle.vm_model.specs.Named.{named}
 use Rattle.vm_model.specs.PagePart.{page_part}
-use Rattle.vm_model.specs.Regions.{backing_of}
 use Rattle.vm_model.specs.Side.{side}
 use Rattle.vm_model.specs.TaskPlace.{has_page, means_page, task_host}
 use Rattle.vm_model.specs.Tasks.{entries_of, host_of}
 use Rattle.vm_model.specs.Waiters.{Waiter, waiter_of, waiters, waiters_after, without_task}
 use Rattle.vm_model.specs.Waiting.{Access, Copying, Loading, Storing, address_of, next_page, waiting}
 use Rattle.vm_model.specs.Words.{Act, ActEffect, Begins, BeginsCopy, Copies, EndsCopy, Fails, Loads, Nothing, Puts, StepBegins, Stores, TakenUp, TakesDown, act_if, act_of, effect_on, times_meant, to_others}
-use Rattle.vm_legal.specs.Accesses.{At, HasPlace}
 use Rattle.vm_legal.specs.Licences as L
 use Rattle.vm_legal.specs.Licences.{HasCause}
 use Rattle.vm_legal.specs.Outside.{Outside, is_shared}
-use Rattle.vm_legal.specs.Walks.{Leads}
-use Rattle.vm_flat.proofs.Numbers.{NumberedAt}
 use Rattle.vm_abroad.specs.Whose.{IsNewTask}
 use Rattle.vm_shared.proofs.Declared.{comes_from_declared, declared_top_own, place_from_declared, shared_declared}
 use Rattle.vm_shared.proofs.Numbering.{IsOwn, numbering}
-use Rattle.vm_shared.proofs.Waiters.{IsPlainAccess, IsSame, Spares, at_address, copies_plain, else_same, is_of, itself, none_waits, number_is, on_host, same, spares, spares_on, then_same, waiter_for, waiter_stays}
+use Rattle.vm_shared.proofs.Waiters.{IsPlainAccess, at_address, copies_plain, else_same, is_of, itself, none_waits, number_is, same, spares, spares_on, then_same, waiter_for, waiter_stays}
 
 -- a task waits on the host with a load or a store of page p of o, and wants this of the page
 pub record IsWaiting (size o p h task : ℕ) (w : Waiter) (past : List Event) : Type 0 where

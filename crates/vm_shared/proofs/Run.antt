@@ -572,13 +572,13 @@ caused_20 : EachEvent (HasCause header outside) past_20
 caused_20 = ((settling, (refl, (refl, omega arith))), caused_19)
 
 caused_21 : EachEvent (HasCause header outside) past_21
-caused_21 = ((settling, record { task = 0; access = Loading 0 1; waits = record { waits = refl; at = record { host = 0; entry = mapped; lives = refl; found = refl } }; on_host = refl; unmarked = λ store. refl; comes = record { top = 0; top_page = 0; steps = 0; is_top = record { object = refl; page = refl }; walks = (refl, refl) }; number = refl; live = refl; ready = refl; away = refl; unasked = refl; known = refl; left = tt }), caused_20)
+caused_21 = ((settling, record { task = 0; access = Loading 0 1; waits = record { waits = refl; at = record { host = 0; entry = mapped; lives = refl; found = refl }; left = tt }; on_host = refl; unmarked = λ store. refl; comes = record { top = 0; top_page = 0; steps = 0; is_top = record { object = refl; page = refl }; walks = (refl, refl) }; number = refl; live = refl; ready = refl; away = refl; unasked = refl; known = refl }), caused_20)
 
 caused_22 : EachEvent (HasCause header outside) past_22
 caused_22 = ((settling, (refl, (refl, omega arith))), caused_21)
 
 caused_23 : EachEvent (HasCause header outside) past_23
-caused_23 = ((settling, record { task = 1; access = Loading 0 1; waits = record { waits = refl; at = record { host = 1; entry = mapped; lives = refl; found = refl } }; on_host = refl; unmarked = λ store. refl; comes = record { top = 0; top_page = 0; steps = 0; is_top = record { object = refl; page = refl }; walks = (refl, refl) }; number = refl; live = refl; ready = refl; away = refl; unasked = refl; known = refl; left = tt }), caused_22)
+caused_23 = ((settling, record { task = 1; access = Loading 0 1; waits = record { waits = refl; at = record { host = 1; entry = mapped; lives = refl; found = refl }; left = tt }; on_host = refl; unmarked = λ store. refl; comes = record { top = 0; top_page = 0; steps = 0; is_top = record { object = refl; page = refl }; walks = (refl, refl) }; number = refl; live = refl; ready = refl; away = refl; unasked = refl; known = refl }), caused_22)
 
 caused_24 : EachEvent (HasCause header outside) past_24
 caused_24 = ((settling, (refl, (refl, omega arith))), caused_23)
@@ -596,13 +596,13 @@ caused_28 : EachEvent (HasCause header outside) past_28
 caused_28 = ((settling, (refl, (refl, omega arith))), caused_27)
 
 caused_29 : EachEvent (HasCause header outside) past_29
-caused_29 = ((settling, record { address = 0; bytes = 1; waits = record { waits = refl; at = record { host = 0; entry = mapped; lives = refl; found = refl } }; comes = record { top = 0; top_page = 0; steps = 0; is_top = record { object = refl; page = refl }; walks = (refl, refl) }; here = refl }), caused_28)
+caused_29 = ((settling, record { address = 0; bytes = 1; waits = record { waits = refl; at = record { host = 0; entry = mapped; lives = refl; found = refl }; left = tt }; comes = record { top = 0; top_page = 0; steps = 0; is_top = record { object = refl; page = refl }; walks = (refl, refl) }; here = refl }), caused_28)
 
 caused_30 : EachEvent (HasCause header outside) past_30
 caused_30 = ((settling, (refl, (refl, omega arith))), caused_29)
 
 caused_31 : EachEvent (HasCause header outside) past_31
-caused_31 = ((settling, record { address = 0; bytes = 1; waits = record { waits = refl; at = record { host = 1; entry = mapped; lives = refl; found = refl } }; comes = record { top = 0; top_page = 0; steps = 0; is_top = record { object = refl; page = refl }; walks = (refl, refl) }; here = refl }), caused_30)
+caused_31 = ((settling, record { address = 0; bytes = 1; waits = record { waits = refl; at = record { host = 1; entry = mapped; lives = refl; found = refl }; left = tt }; comes = record { top = 0; top_page = 0; steps = 0; is_top = record { object = refl; page = refl }; walks = (refl, refl) }; here = refl }), caused_30)
 
 caused_32 : EachEvent (HasCause header outside) past_32
 caused_32 = ((settling, tt), caused_31)
@@ -611,7 +611,7 @@ caused_33 : EachEvent (HasCause header outside) past_33
 caused_33 = ((settling, refl), caused_32)
 
 caused_34 : EachEvent (HasCause header outside) past_34
-caused_34 = ((settling, record { task = 0; access = Storing 0 1 8; waits = record { waits = refl; at = record { host = 0; entry = mapped; lives = refl; found = refl } }; on_host = refl; comes = record { top = 0; top_page = 0; steps = 0; is_top = record { object = refl; page = refl }; walks = (refl, refl) }; number = refl; live = refl; here = refl; named = refl; none = refl; behind = λ is. never is }), caused_33)
+caused_34 = ((settling, record { task = 0; access = Storing 0 1 8; waits = record { waits = refl; at = record { host = 0; entry = mapped; lives = refl; found = refl }; left = tt }; on_host = refl; comes = record { top = 0; top_page = 0; steps = 0; is_top = record { object = refl; page = refl }; walks = (refl, refl) }; number = refl; live = refl; here = refl; named = refl; none = refl; behind = λ is. never is }), caused_33)
 
 caused_35 : EachEvent (HasCause header outside) past_35
 caused_35 = ((settling, tt), caused_34)
@@ -671,7 +671,7 @@ caused_53 : EachEvent (HasCause header outside) past_53
 caused_53 = ((settling, (refl, (refl, omega arith))), caused_52)
 
 caused_54 : EachEvent (HasCause header outside) past_54
-caused_54 = ((settling, record { address = 0; waits = record { waits = refl; at = record { host = 0; entry = mapped; lives = refl; found = refl } }; is_top = record { object = refl; page = refl }; unmarked = refl; here = refl; place = refl }), caused_53)
+caused_54 = ((settling, record { address = 0; waits = record { waits = refl; at = record { host = 0; entry = mapped; lives = refl; found = refl }; left = tt }; is_top = record { object = refl; page = refl }; unmarked = refl; here = refl; place = refl }), caused_53)
 
 caused_55 : EachEvent (HasCause header outside) past_55
 caused_55 = ((settling, (refl, (refl, omega arith))), caused_54)
@@ -683,7 +683,7 @@ caused_57 : EachEvent (HasCause header outside) past_57
 caused_57 = ((settling, refl), caused_56)
 
 caused_58 : EachEvent (HasCause header outside) past_58
-caused_58 = ((settling, record { task = 1; access = Loading 0 1; waits = record { waits = refl; at = record { host = 1; entry = mapped; lives = refl; found = refl } }; on_host = refl; unmarked = λ store. refl; comes = record { top = 0; top_page = 0; steps = 0; is_top = record { object = refl; page = refl }; walks = (refl, refl) }; number = refl; live = refl; ready = refl; away = refl; unasked = refl; known = refl; left = tt }), caused_57)
+caused_58 = ((settling, record { task = 1; access = Loading 0 1; waits = record { waits = refl; at = record { host = 1; entry = mapped; lives = refl; found = refl }; left = tt }; on_host = refl; unmarked = λ store. refl; comes = record { top = 0; top_page = 0; steps = 0; is_top = record { object = refl; page = refl }; walks = (refl, refl) }; number = refl; live = refl; ready = refl; away = refl; unasked = refl; known = refl }), caused_57)
 
 caused_59 : EachEvent (HasCause header outside) past_59
 caused_59 = ((settling, tt), caused_58)
@@ -716,7 +716,7 @@ caused_68 : EachEvent (HasCause header outside) past_68
 caused_68 = ((settling, (refl, (refl, omega arith))), caused_67)
 
 caused_69 : EachEvent (HasCause header outside) past_69
-caused_69 = ((settling, record { address = 0; bytes = 1; waits = record { waits = refl; at = record { host = 1; entry = mapped; lives = refl; found = refl } }; comes = record { top = 0; top_page = 0; steps = 0; is_top = record { object = refl; page = refl }; walks = (refl, refl) }; here = refl }), caused_68)
+caused_69 = ((settling, record { address = 0; bytes = 1; waits = record { waits = refl; at = record { host = 1; entry = mapped; lives = refl; found = refl }; left = tt }; comes = record { top = 0; top_page = 0; steps = 0; is_top = record { object = refl; page = refl }; walks = (refl, refl) }; here = refl }), caused_68)
 
 caused_70 : EachEvent (HasCause header outside) past_70
 caused_70 = ((settling, tt), caused_69)
@@ -728,7 +728,7 @@ caused_72 : EachEvent (HasCause header outside) past_72
 caused_72 = ((settling, (refl, refl)), caused_71)
 
 caused_73 : EachEvent (HasCause header outside) past_73
-caused_73 = ((settling, record { address = 0; bytes = 16; to = 64; waits = record { waits = refl; at = record { host = 0; entry = mapped; lives = refl; found = refl } }; next = refl; declared = omega arith; supplied = refl; is_top = record { object = refl; page = refl }; here = refl; region = 1; filled = refl; inside = omega arith; away = refl; unasked = refl }), caused_72)
+caused_73 = ((settling, record { address = 0; bytes = 16; to = 64; waits = record { waits = refl; at = record { host = 0; entry = mapped; lives = refl; found = refl }; left = omega arith }; next = refl; declared = omega arith; supplied = refl; is_top = record { object = refl; page = refl }; here = refl; region = 1; filled = refl; inside = omega arith; away = refl; unasked = refl }), caused_72)
 
 caused_74 : EachEvent (HasCause header outside) past_74
 caused_74 = ((settling, record { address = 0; bytes = 16; to = 64; waits = refl; all = refl }), caused_73)
@@ -742,16 +742,16 @@ causes = caused_75
 -- what is loaded, stored and copied
 
 own_29 : OwnBytes header (event.Loaded (task 0) object page 0) past_28
-own_29 = record { address = 0; bytes = 1; waits = record { waits = refl; at = record { host = 0; entry = mapped; lives = refl; found = refl } }; readable = record { here = refl; unlocked = inr refl }; number = refl }
+own_29 = record { address = 0; bytes = 1; waits = record { waits = refl; at = record { host = 0; entry = mapped; lives = refl; found = refl }; left = tt }; readable = record { here = refl; unlocked = inr refl }; number = refl }
 
 own_31 : OwnBytes header (event.Loaded (task 1) object page 0) past_30
-own_31 = record { address = 0; bytes = 1; waits = record { waits = refl; at = record { host = 1; entry = mapped; lives = refl; found = refl } }; readable = record { here = refl; unlocked = inr refl }; number = refl }
+own_31 = record { address = 0; bytes = 1; waits = record { waits = refl; at = record { host = 1; entry = mapped; lives = refl; found = refl }; left = tt }; readable = record { here = refl; unlocked = inr refl }; number = refl }
 
 own_54 : OwnBytes header (event.Stored (task 0) object page 0 1 8) past_53
-own_54 = record { address = 0; waits = record { waits = refl; at = record { host = 0; entry = mapped; lives = refl; found = refl } }; writable = record { here = refl; unlocked = refl }; place = refl }
+own_54 = record { address = 0; waits = record { waits = refl; at = record { host = 0; entry = mapped; lives = refl; found = refl }; left = tt }; writable = record { here = refl; unlocked = refl }; place = refl }
 
 own_69 : OwnBytes header (event.Loaded (task 1) object page 8) past_68
-own_69 = record { address = 0; bytes = 1; waits = record { waits = refl; at = record { host = 1; entry = mapped; lives = refl; found = refl } }; readable = record { here = refl; unlocked = inr refl }; number = refl }
+own_69 = record { address = 0; bytes = 1; waits = record { waits = refl; at = record { host = 1; entry = mapped; lives = refl; found = refl }; left = tt }; readable = record { here = refl; unlocked = inr refl }; number = refl }
 
 own_73 : OwnBytes header (event.CopiedPage (task 0) page object page copied_object) past_72
 own_73 = λ h lives. copied_here h lives

@@ -1,5 +1,5 @@
 -- The worked history meets all premises of the laws of who waits for the server of shared memory.
-use Rattle.std.proofs.Common.{inl, inr, ℕ, zero, suc, ◌≡◌, ◌≢◌, ◌<◌, ◌≤◌, ◌∙◌, List, [], ◌∷◌, Bool, true, false, refl, sym, subst, arith, Option, Some, None}
+use Rattle.std.proofs.Common.{inr, ℕ, ◌≡◌, ◌<◌, ◌≤◌, List, [], ◌∷◌, true, false, refl, subst, arith}
 use Rattle.std.proofs.lemmas.Bool.Decides.{nat_tests}
 use Rattle.vm_base.specs.declared.entry.Entry.{Entry}
 use Rattle.vm_base.specs.declared.ids.Inherit.TheVariants.{Share}
@@ -9,12 +9,11 @@ use Rattle.vm_model.specs.declared.event.Event.{Event}
 use Rattle.vm_model.specs.declared.event.Event.TheVariants as event
 use Rattle.vm_model.specs.declared.message.Channel.TheVariants.{Up, Down}
 use Rattle.vm_model.specs.declared.message.Message.TheVariants as message
-use Rattle.vm_model.specs.Moments.{BeforeSteps, EachEvent}
+use Rattle.vm_model.specs.Moments.{EachEvent}
 use Rattle.vm_model.specs.PageLicences.{NobodyAwaited, OthersHold}
 use Rattle.vm_model.specs.PagePart.{page_part}
 use Rattle.vm_model.specs.Waiting.{Loading, Storing}
 use Rattle.vm_legal.specs.Bytes.{OwnBytes}
-use Rattle.vm_legal.specs.Debts.{IsPaid}
 use Rattle.vm_legal.specs.Licences.{Flushed, HasCause, gives_back}
 use Rattle.vm_legal.specs.Undelivered.{undelivered}
 use Rattle.vm_legal.specs.Walks.{page_on}
@@ -199,13 +198,13 @@ caused_19 : EachEvent (HasCause header outside) past_19
 caused_19 = ((settling, (refl, (refl, omega arith))), caused_18)
 
 caused_20 : EachEvent (HasCause header outside) past_20
-caused_20 = ((settling, record { task = 0; access = Loading 0 1; waits = record { waits = refl; at = record { host = 0; entry = mapped; lives = refl; found = refl } }; on_host = refl; unmarked = λ store. refl; comes = record { top = 0; top_page = 0; steps = 0; is_top = record { object = refl; page = refl }; walks = (refl, refl) }; number = refl; live = refl; ready = refl; away = refl; unasked = refl; known = refl; left = tt }), caused_19)
+caused_20 = ((settling, record { task = 0; access = Loading 0 1; waits = record { waits = refl; at = record { host = 0; entry = mapped; lives = refl; found = refl }; left = tt }; on_host = refl; unmarked = λ store. refl; comes = record { top = 0; top_page = 0; steps = 0; is_top = record { object = refl; page = refl }; walks = (refl, refl) }; number = refl; live = refl; ready = refl; away = refl; unasked = refl; known = refl }), caused_19)
 
 caused_21 : EachEvent (HasCause header outside) past_21
 caused_21 = ((settling, (refl, (refl, omega arith))), caused_20)
 
 caused_22 : EachEvent (HasCause header outside) past_22
-caused_22 = ((settling, record { task = 1; access = Storing 0 1 8; waits = record { waits = refl; at = record { host = 1; entry = mapped; lives = refl; found = refl } }; on_host = refl; unmarked = λ store. refl; comes = record { top = 0; top_page = 0; steps = 0; is_top = record { object = refl; page = refl }; walks = (refl, refl) }; number = refl; live = refl; ready = refl; away = refl; unasked = refl; known = refl; left = tt }), caused_21)
+caused_22 = ((settling, record { task = 1; access = Storing 0 1 8; waits = record { waits = refl; at = record { host = 1; entry = mapped; lives = refl; found = refl }; left = tt }; on_host = refl; unmarked = λ store. refl; comes = record { top = 0; top_page = 0; steps = 0; is_top = record { object = refl; page = refl }; walks = (refl, refl) }; number = refl; live = refl; ready = refl; away = refl; unasked = refl; known = refl }), caused_21)
 
 caused_23 : EachEvent (HasCause header outside) past_23
 caused_23 = ((settling, (refl, (refl, omega arith))), caused_22)
@@ -229,7 +228,7 @@ caused_27 : EachEvent (HasCause header outside) past_27
 caused_27 = ((settling, (refl, (refl, omega arith))), caused_26)
 
 caused_28 : EachEvent (HasCause header outside) past_28
-caused_28 = ((settling, record { address = 0; bytes = 1; waits = record { waits = refl; at = record { host = 0; entry = mapped; lives = refl; found = refl } }; comes = record { top = 0; top_page = 0; steps = 0; is_top = record { object = refl; page = refl }; walks = (refl, refl) }; here = refl }), caused_27)
+caused_28 = ((settling, record { address = 0; bytes = 1; waits = record { waits = refl; at = record { host = 0; entry = mapped; lives = refl; found = refl }; left = tt }; comes = record { top = 0; top_page = 0; steps = 0; is_top = record { object = refl; page = refl }; walks = (refl, refl) }; here = refl }), caused_27)
 
 caused_29 : EachEvent (HasCause header outside) past_29
 caused_29 = ((settling, (refl, (refl, omega arith))), caused_28)
@@ -259,16 +258,16 @@ caused_34 : EachEvent (HasCause header outside) past_34
 caused_34 = ((settling, (refl, (refl, omega arith))), caused_33)
 
 caused_35 : EachEvent (HasCause header outside) past_35
-caused_35 = ((settling, record { address = 0; waits = record { waits = refl; at = record { host = 1; entry = mapped; lives = refl; found = refl } }; is_top = record { object = refl; page = refl }; unmarked = refl; here = refl; place = refl }), caused_34)
+caused_35 = ((settling, record { address = 0; waits = record { waits = refl; at = record { host = 1; entry = mapped; lives = refl; found = refl }; left = tt }; is_top = record { object = refl; page = refl }; unmarked = refl; here = refl; place = refl }), caused_34)
 
 pub served_causes : EachEvent (HasCause header outside) history
 served_causes = caused_35
 
 own_load : OwnBytes header (event.Loaded (task 0) object page 0) past_27
-own_load = record { address = 0; bytes = 1; waits = record { waits = refl; at = record { host = 0; entry = mapped; lives = refl; found = refl } }; readable = record { here = refl; unlocked = inr refl }; number = refl }
+own_load = record { address = 0; bytes = 1; waits = record { waits = refl; at = record { host = 0; entry = mapped; lives = refl; found = refl }; left = tt }; readable = record { here = refl; unlocked = inr refl }; number = refl }
 
 own_store : OwnBytes header (event.Stored (task 1) object page 0 1 8) past_34
-own_store = record { address = 0; waits = record { waits = refl; at = record { host = 1; entry = mapped; lives = refl; found = refl } }; writable = record { here = refl; unlocked = refl }; place = refl }
+own_store = record { address = 0; waits = record { waits = refl; at = record { host = 1; entry = mapped; lives = refl; found = refl }; left = tt }; writable = record { here = refl; unlocked = refl }; place = refl }
 
 pub served_own : EachEvent (OwnBytes header) history
 served_own = (own_store, (tt, (tt, (tt, (tt, (tt, (tt, (own_load, (tt, (tt, (tt, (tt, (tt, (tt, (tt, (tt, (tt, (tt, (tt, (tt, (tt, (tt, (tt, (tt, (tt, (tt, (tt, (tt, (tt, (tt, (tt, (tt, (tt, (tt, (tt, (tt, tt))))))))))))))))))))))))))))))))))))

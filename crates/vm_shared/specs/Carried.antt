@@ -1,5 +1,5 @@
 -- What is asked of the server of shared memory is on its way to it, in its line, or answered.
-use Rattle.std.specs.Prelude.{ℕ, ◌≡◌, ◌≢◌, ◌⊎◌, ◌==◌, ◌&&◌, Any, Bool, true, false, List, [], Some}
+use Rattle.std.specs.Prelude.{ℕ, ◌≡◌, ◌≢◌, ◌<◌, ◌⊎◌, ◌==◌, ◌&&◌, Any, Bool, true, false, List, [], Some}
 use Rattle.vm_model.specs.declared.event.Event.{Event}
 use Rattle.vm_model.specs.declared.message.Message.{Message}
 use Rattle.vm_model.specs.declared.message.Message.TheVariants as message
@@ -8,6 +8,7 @@ use Rattle.vm_model.specs.Channels.{down_port, up_port}
 use Rattle.vm_model.specs.Controls.{live_control}
 use Rattle.vm_model.specs.PagePart.{page_part}
 use Rattle.vm_model.specs.Server.{Wanting, line}
+use Rattle.vm_model.specs.Side.{side}
 use Rattle.vm_model.specs.Words.{in_range}
 use Rattle.vm_legal.specs.Outside.{is_shared}
 use Rattle.vm_legal.specs.Steps.{is_answer}
@@ -55,6 +56,10 @@ pub record SharedAreCarried (header : Header) (history : List Event) : Type 0 wh
       → (control : ℕ) × (live_control host object history ≡ Some control)
       × (IsUndelivered (is_unlock page) (up_port host object) history
       ⊎ (IsInLine (upgrades host) (line_of header object page history) ⊎ IsUndelivered (is_lock page) (down_port host object control) history))
+  -- of each host that is awaited for a page, also where its control has ended, the lock with a reply is undelivered on the channel to the control for which it is awaited, or that this control has done it, or its end
+  pub awaited : (host object page : ℕ) → is_shared header object ≡ true → 0 < (side host (page_part header.size object page history)).awaits
+      → IsUndelivered (is_recall page) (down_port host object (side host (page_part header.size object page history)).awaited_control) history
+      ⊎ IsUndelivered (is_reply (side host (page_part header.size object page history)).awaited_control page) (up_port host object) history
   -- where anybody stands in line, a lock with a reply is undelivered, or that a control has done it, or its end
   pub standing : (object page : ℕ) → is_shared header object ≡ true → line_of header object page history ≢ []
       → (host : ℕ) × (control : ℕ) × (IsUndelivered (is_recall page) (down_port host object control) history ⊎ IsUndelivered (is_reply control page) (up_port host object) history)

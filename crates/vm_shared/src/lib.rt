@@ -96,8 +96,10 @@ pub fn takings_keep_the_protocol()
 
 /// Where each step has paid, what is asked of the server of shared memory is on its way: of each page that is
 /// asked, and of each unlock that is outstanding, the message to the server or its answer is undelivered, or its
-/// host stands in the server's line; and if of each page for which somebody stands in line some host is awaited,
-/// a message of that page is undelivered then too.
+/// host stands in the server's line. Of each host that the server awaits for a page, also where its control has
+/// ended, the lock that was sent to the control for which it is awaited is undelivered, or that this control has
+/// done it, or its end; so if of each page for which somebody stands in line some host is awaited, a message of
+/// that page is undelivered then too.
 #[tactic(auto, using(crate::proofs::Carried::shared_are_carried))]
 pub fn what_the_server_is_asked_is_on_its_way()
     ensures carried { (header : Header) (outside : Outside) (history : List Event) → EachEvent (HasCause header outside) history → EachEvent (OwnBytes header) history → BeforeSteps (IsPaid header) history → IsPaid header history → AllServed header history → SharedAreCarried header history }
