@@ -18,7 +18,8 @@ use Rattle.vm_model.specs.declared.message.Message.TheVariants as message
 use Rattle.vm_model.specs.declared.script.Header.{Header}
 use Rattle.vm_model.specs.Named.{named}
 use Rattle.vm_legal.proofs.Served.{later_paged, paged_sends}
-use Rattle.vm_legal.specs.Licences.{AllLicensed, MaySendDown, PagerSends, pager_has, tells}
+use Rattle.vm_legal.specs.Licences.{MaySendDown, PagerSends, pager_has, tells}
+use Rattle.vm_legal.specs.InTurn.{AllInTurn}
 use Rattle.vm_legal.specs.Outside.{Outside, is_file, kind_of, start_page}
 use Rattle.vm_legal.specs.Pagers.{is_lost, last_return, newer, slot_at as slot_of_page, slot_of}
 use Rattle.pg_default.specs.Answers.{PagerAnswer, RequestAnswer, SuppliesStored, became, device_failed, error, sent_to, supply, told_of}
@@ -69,8 +70,8 @@ record Finds (header : Header) (host : ℕ) (past : List Event) (object : Object
   slot : slot_held has ≡ slot_of_page header host object.0 page.0 past
 
 -- what is licensed where the supplied bytes were stored
-abbrev Caused : Header → Outside → Command → ℕ → List Event → ObjectId → List Event → List Event → Type 0
-Caused header outside doing host past object first events = (outside.paging ≡ true → SuppliesStored object events (content_of header host past)) → AllLicensed header outside doing events first
+abbrev CausedInTurn : Header → Outside → Command → ℕ → List Event → ObjectId → List Event → List Event → Type 0
+CausedInTurn header outside doing host past object first events = (outside.paging ≡ true → SuppliesStored object events (content_of header host past)) → AllInTurn header outside doing events first
 
 -- the default pager answers for temporary objects
 sends : (header : Header) (outside : Outside) (doing : Command) (host : ℕ) (object : ObjectId) (control : ℕ) (m : Message) (past : List Event) → named header ≤ object.0
@@ -78,7 +79,7 @@ sends : (header : Header) (outside : Outside) (doing : Command) (host : ℕ) (ob
 sends header outside doing host object control m past temporary may = paged_sends header outside doing host object.0 control m past (later_paged header object.0 temporary) may
 
 unavailable : (header : Header) (outside : Outside) (doing : Command) (host : ℕ) (past : List Event) (object : ObjectId) (control : ℕ) (page : PageNo) (access : ℕ) → Finds header host past object page None
-    → AllLicensed header outside doing (sent_to host object control (message.Unavailable page) ∷ []) (taking host object (message.Request control page access) past)
+    → AllInTurn header outside doing (sent_to host object control (message.Unavailable page) ∷ []) (taking host object (message.Request control page access) past)
 unavailable header outside doing host past object control page access f =
     let is = none_is _ _ f.returned in
     let last = (same_taken header host object.0 (message.Request control page access) past tt).last object.0 page.0 in (
@@ -94,7 +95,7 @@ unavailable header outside doing host past object control page access f =
     )
 
 lost_error : (header : Header) (outside : Outside) (doing : Command) (host : ℕ) (past : List Event) (object : ObjectId) (control : ℕ) (page : PageNo) (access : ℕ) → named header ≤ object.0 → is_lost object.0 page.0 past ≡ true
-    → AllLicensed header outside doing (sent_to host object control (error page) ∷ []) (taking host object (message.Request control page access) past)
+    → AllInTurn header outside doing (sent_to host object control (error page) ∷ []) (taking host object (message.Request control page access) past)
 lost_error header outside doing host past object control page access temporary lost = (
   (
     sends header outside doing host object control (error page) (taking host object (message.Request control page access) past) temporary
@@ -106,7 +107,7 @@ lost_error header outside doing host past object control page access temporary l
 
 supplies : (header : Header) (outside : Outside) (doing : Command) (host : ℕ) (past : List Event) (object : ObjectId) (control : ℕ) (page : PageNo) (access s : ℕ) (bytes : List ℕ) → Finds header host past object page (Some (held.Kept s))
     → (outside.paging ≡ true → content_of header host past object.0 page.0 ≡ Some (Kept bytes))
-    → AllLicensed header outside doing (sent_to host object control (supply page bytes) ∷ []) (taking host object (message.Request control page access) past)
+    → AllInTurn header outside doing (sent_to host object control (supply page bytes) ∷ []) (taking host object (message.Request control page access) past)
 supplies header outside doing host past object control page access s bytes f stored =
     let is = kept_is s _ _ f.returned in
     let last = (same_taken header host object.0 (message.Request control page access) past tt).last object.0 page.0 ∙ is.1 in (
@@ -138,7 +139,7 @@ supplies header outside doing host past object control page access s bytes f sto
     has last e = ap (λ (x : Option (List ℕ)). newer x (if is_file header object.0 then Some (start_page header outside object.0 page.0) else None)) last ∙ ap Some e
 
 unread : (header : Header) (outside : Outside) (doing : Command) (host : ℕ) (past : List Event) (object : ObjectId) (control : ℕ) (page : PageNo) (access s : ℕ) → Finds header host past object page (Some (held.Kept s))
-    → AllLicensed header outside doing (sent_to host object control (error page) ∷ device_failed Read object page ∷ []) (taking host object (message.Request control page access) past)
+    → AllInTurn header outside doing (sent_to host object control (error page) ∷ device_failed Read object page ∷ []) (taking host object (message.Request control page access) past)
 unread header outside doing host past object control page access s f =
     let rows = (same_taken header host object.0 (message.Request control page access) past tt).rows in (
       (
@@ -151,16 +152,16 @@ unread header outside doing host past object control page access s f =
 
 requested : (header : Header) (outside : Outside) (doing : Command) (host size : ℕ) (past : List Event) (object : ObjectId) (control : ℕ) (page : PageNo) (access : ℕ) (has : Option Held) (events : List Event)
     → Finds header host past object page has → RequestAnswer size host object control page has events
-    → Caused header outside doing host past object (taking host object (message.Request control page access) past) events
-requested header outside doing host size past object control page access None events f is = subst (Caused header outside doing host past object _) (sym is) (λ stored. unavailable header outside doing host past object control page access f)
-requested header outside doing host size past object control page access (Some held.Lost) events f is = subst (Caused header outside doing host past object _) (sym is) (λ stored. lost_error header outside doing host past object control page access f.temporary (lost_is _ _ f.returned))
-requested header outside doing host size past object control page access (Some (held.Torn s)) events f is = subst (Caused header outside doing host past object _) (sym is) (λ stored. lost_error header outside doing host past object control page access f.temporary (torn_is s _ _ f.returned))
-requested header outside doing host size past object control page access (Some (held.Kept s)) events f (inl is) = subst (Caused header outside doing host past object _) (sym is.2) (λ stored. supplies header outside doing host past object control page access s is.0 f stored)
-requested header outside doing host size past object control page access (Some (held.Kept s)) events f (inr is) = subst (Caused header outside doing host past object _) (sym is) (λ stored. unread header outside doing host past object control page access s f)
+    → CausedInTurn header outside doing host past object (taking host object (message.Request control page access) past) events
+requested header outside doing host size past object control page access None events f is = subst (CausedInTurn header outside doing host past object _) (sym is) (λ stored. unavailable header outside doing host past object control page access f)
+requested header outside doing host size past object control page access (Some held.Lost) events f is = subst (CausedInTurn header outside doing host past object _) (sym is) (λ stored. lost_error header outside doing host past object control page access f.temporary (lost_is _ _ f.returned))
+requested header outside doing host size past object control page access (Some (held.Torn s)) events f is = subst (CausedInTurn header outside doing host past object _) (sym is) (λ stored. lost_error header outside doing host past object control page access f.temporary (torn_is s _ _ f.returned))
+requested header outside doing host size past object control page access (Some (held.Kept s)) events f (inl is) = subst (CausedInTurn header outside doing host past object _) (sym is.2) (λ stored. supplies header outside doing host past object control page access s is.0 f stored)
+requested header outside doing host size past object control page access (Some (held.Kept s)) events f (inr is) = subst (CausedInTurn header outside doing host past object _) (sym is) (λ stored. unread header outside doing host past object control page access s f)
 
 returned : (header : Header) (outside : Outside) (doing : Command) (host : ℕ) (past : List Event) (object : ObjectId) (control : ℕ) (page : PageNo) (dirty keep : Bool) (bytes : List ℕ) (old new : SlotTable) (is : PutAnswer)
     → named header ≤ object.0 → PagerStands header host old past → PutEffects is object.0 page.0 old new → (is ≡ put.NoSlot → HasNoSlot old object.0 page.0)
-    → AllLicensed header outside doing (told_of is object page) (taking host object (message.Return control page dirty keep bytes) past)
+    → AllInTurn header outside doing (told_of is object page) (taking host object (message.Return control page dirty keep bytes) past)
 returned header outside doing host past object control page dirty keep bytes old new put.Kept temporary s leaves lacks = tt
 returned header outside doing host past object control page dirty keep bytes old new put.NoSlot temporary s leaves lacks =
     let none = lacks refl in (
@@ -192,34 +193,34 @@ returned header outside doing host past object control page dirty keep bytes old
 
 -- a pager is ready once
 ready_init : (header : Header) (outside : Outside) (doing : Command) (host : ℕ) (past : List Event) (object : ObjectId) (control size : ℕ) → named header ≤ object.0
-    → AllLicensed header outside doing (sent_to host object control (message.Ready false 0) ∷ []) (taking host object (message.Init control size) past)
+    → AllInTurn header outside doing (sent_to host object control (message.Ready false 0) ∷ []) (taking host object (message.Init control size) past)
 ready_init header outside doing host past object control size temporary =
     ((sends header outside doing host object control (message.Ready false 0) (taking host object (message.Init control size) past) temporary (size, refl, refl, inr (refl, refl)), tt), tt)
 
 ready_create : (header : Header) (outside : Outside) (doing : Command) (host : ℕ) (past : List Event) (object : ObjectId) (control size : ℕ) → named header ≤ object.0
-    → AllLicensed header outside doing (sent_to host object control (message.Ready false 3) ∷ []) (taking host object (message.Create control size) past)
+    → AllInTurn header outside doing (sent_to host object control (message.Ready false 3) ∷ []) (taking host object (message.Create control size) past)
 ready_create header outside doing host past object control size temporary =
     ((sends header outside doing host object control (message.Ready false 3) (taking host object (message.Create control size) past) temporary (size, refl, refl, inl (refl, refl)), tt), tt)
 
 pub causes : (header : Header) (outside : Outside) (doing : Command) (host : ℕ) (past : List Event) (object : ObjectId) (m : Message) (old new : SlotTable) (events : List Event)
-    → PagerServes header host past object m old new events → (outside.paging ≡ true → SuppliesStored object events (content_of header host past)) → AllLicensed header outside doing events (taking host object m past)
+    → PagerServes header host past object m old new events → (outside.paging ≡ true → SuppliesStored object events (content_of header host past)) → AllInTurn header outside doing events (taking host object m past)
 causes header outside doing host past object m old new events serves stored = by m serves.answered
   where
     at : (control : ℕ) (reply : Message) → events ≡ sent_to old.host object control reply ∷ [] → events ≡ sent_to host object control reply ∷ []
     at control reply is = subst (λ (h : ℕ). events ≡ sent_to h object control reply ∷ []) serves.stands.host_is is
 
-    nothing : (first : List Event) → events ≡ [] → AllLicensed header outside doing events first
-    nothing first is = subst (λ (es : List Event). AllLicensed header outside doing es first) (sym is) tt
+    nothing : (first : List Event) → events ≡ [] → AllInTurn header outside doing events first
+    nothing first is = subst (λ (es : List Event). AllInTurn header outside doing es first) (sym is) tt
 
-    by : (m : Message) → PagerAnswer m object old new events → AllLicensed header outside doing events (taking host object m past)
-    by (message.Init control size) a = subst (λ (es : List Event). AllLicensed header outside doing es (taking host object (message.Init control size) past)) (sym (at control _ a.1)) (ready_init header outside doing host past object control size serves.temporary)
-    by (message.Create control size) a = subst (λ (es : List Event). AllLicensed header outside doing es (taking host object (message.Create control size) past)) (sym (at control _ a.1)) (ready_create header outside doing host past object control size serves.temporary)
+    by : (m : Message) → PagerAnswer m object old new events → AllInTurn header outside doing events (taking host object m past)
+    by (message.Init control size) a = subst (λ (es : List Event). AllInTurn header outside doing es (taking host object (message.Init control size) past)) (sym (at control _ a.1)) (ready_init header outside doing host past object control size serves.temporary)
+    by (message.Create control size) a = subst (λ (es : List Event). AllInTurn header outside doing es (taking host object (message.Create control size) past)) (sym (at control _ a.1)) (ready_create header outside doing host past object control size serves.temporary)
     by (message.Request control page access) a =
         requested header outside doing host old.size past object control page access (held_at old object.0 page.0) events
         (record { temporary = serves.temporary; unended = serves.unended; returned = serves.stands.returned object.0 page.0 serves.temporary serves.unended serves.own; slot = serves.stands.slot object.0 page.0 })
         (subst (λ (h : ℕ). RequestAnswer old.size h object control page (held_at old object.0 page.0) events) serves.stands.host_is a.1) stored
     by (message.Return control page dirty keep bytes) a =
-        subst (λ (es : List Event). AllLicensed header outside doing es (taking host object (message.Return control page dirty keep bytes) past)) (sym a.told) (returned header outside doing host past object control page dirty keep bytes old new (became events) serves.temporary serves.stands a.held a.no_slot.0)
+        subst (λ (es : List Event). AllInTurn header outside doing es (taking host object (message.Return control page dirty keep bytes) past)) (sym a.told) (returned header outside doing host past object control page dirty keep bytes old new (became events) serves.temporary serves.stands a.held a.no_slot.0)
     by (message.Terminate control) a = nothing (taking host object (message.Terminate control) past) a.1
     by (message.Unlock control page access) a = nothing (taking host object (message.Unlock control page access) past) a.1
     by (message.Completed control page count) a = nothing (taking host object (message.Completed control page count) past) a.1

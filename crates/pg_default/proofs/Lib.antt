@@ -1,4 +1,5 @@
 pub mod Leaving
+pub mod Calls
 pub mod Rows
 pub mod Facts
 pub mod Standing

@@ -7,7 +7,7 @@ ghost use Rattle.pg_slots.specs.Slots.{SlotTable};
 ghost use Rattle.vm_base.specs.Listing.{Listed};
 ghost use Rattle.vm_base.specs.declared.ids.ObjectId.{ObjectId};
 ghost use Rattle.vm_legal.specs.Debts.{IsPaid};
-ghost use Rattle.vm_legal.specs.Licences.{AllLicensed};
+ghost use Rattle.vm_legal.specs.InTurn.{AllInTurn};
 ghost use Rattle.vm_legal.specs.Outside.{Outside};
 ghost use Rattle.vm_model.specs.declared.command.Command.{Command};
 ghost use Rattle.vm_model.specs.declared.event.Event.{Event};
@@ -38,7 +38,7 @@ pub fn answers_are_legal()
     ensures causes { (header : Header) (outside : Outside) (doing : Command) (host : ℕ) (past : List Event) (object : ObjectId) (m : Message) (old new : SlotTable) (events : List Event)
         → PagerServes header host past object m old new events
         → (outside.paging ≡ true → SuppliesStored object events (content_of header host past))
-        → AllLicensed header outside doing events (taking host object m past) }
+        → AllInTurn header outside doing events (taking host object m past) }
     ensures paid { (header : Header) (host : ℕ) (past : List Event) (object : ObjectId) (m : Message) (old new : SlotTable) (events : List Event)
         → PagerServes header host past object m old new events → IsPaid header (events ++ taking host object m past) }
     ensures carries { (header : Header) (host : ℕ) (past : List Event) (object : ObjectId) (m : Message) (old new : SlotTable) (events : Listed Event) (before after : List ℕ → Told)

@@ -1,6 +1,7 @@
 // The default pager of a host.
 ghost use Rattle.std.specs.Prelude.{ℕ, ◌≡◌, ◌<◌, ◌≤◌, [], List, None, IfOk, OnErr, false, length};
 ghost use Rattle.pg_default.specs.Answers.{AnswerHasCause, EndsInReply, IsToPager, LeavesAreas, LeavesBacking, PagerAnswer, ReturnsWhole, SuppliesStored, after_message};
+ghost use Rattle.pg_default.specs.Calls.{PagerMakes};
 ghost use Rattle.pg_slots.specs.Contents.{CarriesContent, Content, IsAreaTold, SlotsFit};
 ghost use Rattle.pg_slots.specs.Slots.{KeepsShape};
 ghost use Rattle.vm_base.specs.Limits.{most_hosts, most_slots};
@@ -52,7 +53,8 @@ impl DefaultPager {
 
     /// Takes a message about an object from the kernel of the host, and gives the events that come of
     /// it: the device's failure or the want of a slot, and behind it the answer, if there is one. It
-    /// takes all its memory before it calls the backing, and calls it at most once.
+    /// takes all its memory before it calls the backing. A request reads a page that is kept once, a
+    /// return writes once where it has a slot, and nothing else calls the backing.
     ///
     /// The calls are those of memory_object_init and memory_object_create (ready, with the strategy
     /// none or temporary), data_request, data_return and terminate of the Mach 3 kernel interfaces;
@@ -80,6 +82,7 @@ impl DefaultPager {
         ensures later { P.later paging.old paging.new }
         ensures unmoved { OnErr result (P.armed paging.new ≡ P.armed paging.old) }
         ensures untouched { LeavesBacking message.now object self.old paging.old paging.new result }
+        ensures calls { PagerMakes P.called message.now object self.old result paging.old paging.new }
     {
         let mut events = Listing::new(self.alloc);
         events.reserve(2)?;

@@ -15,7 +15,8 @@ use Rattle.vm_model.specs.declared.message.Message.TheVariants as message
 use Rattle.vm_model.specs.declared.script.Header.{Header}
 use Rattle.vm_legal.proofs.Answering.{itself, own_test}
 use Rattle.vm_legal.proofs.Served.{paged_sends}
-use Rattle.vm_legal.specs.Licences.{AllLicensed, IsBehind, IsClean, MaySendDown, PagerSends, pager_has, tells}
+use Rattle.vm_legal.specs.Licences.{IsBehind, IsClean, MaySendDown, PagerSends, pager_has, tells}
+use Rattle.vm_legal.specs.InTurn.{AllInTurn}
 use Rattle.vm_legal.specs.Outside.{Outside, FilesAtStart, is_file, kind_of, start_in, start_page}
 use Rattle.vm_legal.specs.Pagers.{is_lost, last_return, newer}
 use Rattle.vm_legal.specs.Steps.{just_begun}
@@ -60,8 +61,8 @@ has_page header outside host object page past events file stored kept =
     begun = chosen (is_file header object) (Some (start_page header outside object page)) None file ∙ ap Some start_is
 
 -- what is licensed where the answer tells what the file has
-abbrev Caused : Header → Outside → Command → ℕ → ℕ → List Event → List Event → List Event → Type 0
-Caused header outside doing host object past first events = (tells header outside object ≡ true → AnswersKept header outside host object past events) → AllLicensed header outside doing events first
+abbrev CausedInTurn : Header → Outside → Command → ℕ → ℕ → List Event → List Event → List Event → Type 0
+CausedInTurn header outside doing host object past first events = (tells header outside object ≡ true → AnswersKept header outside host object past events) → AllInTurn header outside doing events first
 
 -- the history in which a request was taken
 abbrev asked : ℕ → ℕ → ℕ → PageNo → ℕ → List Event → List Event
@@ -77,7 +78,7 @@ no_file : {X : Type 0} (header : Header) (object : ℕ) → is_file header objec
 no_file header object file other = absurd (false≢true (sym other ∙ file))
 
 supplies : (header : Header) (outside : Outside) (doing : Command) (host object control : ℕ) (page : PageNo) (access : ℕ) (bytes : List ℕ) (past : List Event) → is_file header object ≡ true → is_lost object page.0 past ≡ false
-    → Caused header outside doing host object past (asked host object control page access past) (sent_to host object control (supply page bytes) ∷ [])
+    → CausedInTurn header outside doing host object past (asked host object control page access past) (sent_to host object control (supply page bytes) ∷ [])
 supplies header outside doing host object control page access bytes past file stored kept = (
   (
     sends header outside doing host object control (supply page bytes) (asked host object control page access past) file (
@@ -97,7 +98,7 @@ supplies header outside doing host object control page access bytes past file st
     has k = has_asked header outside host object control page access past ∙ has_page header outside host object page.0 past _ file stored k ∙ ap Some (sym k.tells.1)
 
 lacks : (header : Header) (outside : Outside) (doing : Command) (host object control : ℕ) (page : PageNo) (access : ℕ) (past : List Event) → is_file header object ≡ true → is_lost object page.0 past ≡ false
-    → Caused header outside doing host object past (asked host object control page access past) (sent_to host object control (message.Unavailable page) ∷ [])
+    → CausedInTurn header outside doing host object past (asked host object control page access past) (sent_to host object control (message.Unavailable page) ∷ [])
 lacks header outside doing host object control page access past file stored kept = (
   (
     sends header outside doing host object control (message.Unavailable page) (asked host object control page access past) file (
@@ -116,7 +117,7 @@ lacks header outside doing host object control page access past file stored kept
         ∙ ap Some (absent_zeros header.size page.0 k.now k.tells)
 
 lost_error : (header : Header) (outside : Outside) (doing : Command) (host object control : ℕ) (page : PageNo) (access : ℕ) (past : List Event) → is_file header object ≡ true → is_lost object page.0 past ≡ true
-    → AllLicensed header outside doing (sent_to host object control (error page) ∷ []) (asked host object control page access past)
+    → AllInTurn header outside doing (sent_to host object control (error page) ∷ []) (asked host object control page access past)
 lost_error header outside doing host object control page access past file lost = (
   (
     sends header outside doing host object control (error page) (asked host object control page access past) file (record { access = access; taken = refl; unanswered = refl }, refl, inl lost),
@@ -126,7 +127,7 @@ lost_error header outside doing host object control page access past file lost =
 )
 
 unread : (header : Header) (outside : Outside) (doing : Command) (host object control : ℕ) (page : PageNo) (access : ℕ) (past : List Event) → is_file header object ≡ true
-    → AllLicensed header outside doing (sent_to host object control (error page) ∷ device_failed Read object page ∷ []) (asked host object control page access past)
+    → AllInTurn header outside doing (sent_to host object control (error page) ∷ device_failed Read object page ∷ []) (asked host object control page access past)
 unread header outside doing host object control page access past file = (
   (
     sends header outside doing host object control (error page) (device_failed Read object page ∷ asked host object control page access past) file
@@ -137,51 +138,51 @@ unread header outside doing host object control page access past file = (
 )
 
 requested : (header : Header) (outside : Outside) (doing : Command) (size host object control : ℕ) (page : PageNo) (access : ℕ) (past : List Event) (lost : Bool) (events : List Event) → is_file header object ≡ true → is_lost object page.0 past ≡ lost
-    → RequestAnswer size host object control page lost events → Caused header outside doing host object past (asked host object control page access past) events
+    → RequestAnswer size host object control page lost events → CausedInTurn header outside doing host object past (asked host object control page access past) events
 requested header outside doing size host object control page access past true events file lost is =
-    subst (Caused header outside doing host object past _) (sym is) (λ kept. lost_error header outside doing host object control page access past file lost)
+    subst (CausedInTurn header outside doing host object past _) (sym is) (λ kept. lost_error header outside doing host object control page access past file lost)
 requested header outside doing size host object control page access past false events file stored (inl is) =
-    subst (Caused header outside doing host object past _) (sym is.2) (supplies header outside doing host object control page access is.0 past file stored)
+    subst (CausedInTurn header outside doing host object past _) (sym is.2) (supplies header outside doing host object control page access is.0 past file stored)
 requested header outside doing size host object control page access past false events file stored (inr (inl is)) =
-    subst (Caused header outside doing host object past _) (sym is) (lacks header outside doing host object control page access past file stored)
+    subst (CausedInTurn header outside doing host object past _) (sym is) (lacks header outside doing host object control page access past file stored)
 requested header outside doing size host object control page access past false events file stored (inr (inr is)) =
-    subst (Caused header outside doing host object past _) (sym is) (λ kept. unread header outside doing host object control page access past file)
+    subst (CausedInTurn header outside doing host object past _) (sym is) (λ kept. unread header outside doing host object control page access past file)
 
 returned : (header : Header) (outside : Outside) (doing : Command) (host object control : ℕ) (page : PageNo) (dirty keep : Bool) (bytes : List ℕ) (past : List Event) (stored : Bool) → is_file header object ≡ true
-    → AllLicensed header outside doing (told_of stored object page) (taking host object (message.Return control page dirty keep bytes) past)
+    → AllInTurn header outside doing (told_of stored object page) (taking host object (message.Return control page dirty keep bytes) past)
 returned header outside doing host object control page dirty keep bytes past true file = tt
 returned header outside doing host object control page dirty keep bytes past false file = (((file, (host, record { control = control; dirty = dirty; keep = keep; bytes = bytes; is = refl }, tt)), tt), tt)
 
 -- a pager is ready once
 ready_init : (header : Header) (outside : Outside) (doing : Command) (host object control size : ℕ) (past : List Event) → is_file header object ≡ true
-    → AllLicensed header outside doing (sent_to host object control (message.Ready false 0) ∷ []) (taking host object (message.Init control size) past)
+    → AllInTurn header outside doing (sent_to host object control (message.Ready false 0) ∷ []) (taking host object (message.Init control size) past)
 ready_init header outside doing host object control size past file =
     ((sends header outside doing host object control (message.Ready false 0) (taking host object (message.Init control size) past) file (size, refl, refl, inr (refl, refl)), tt), tt)
 
 ready_create : (header : Header) (outside : Outside) (doing : Command) (host object control size : ℕ) (past : List Event) → is_file header object ≡ true
-    → AllLicensed header outside doing (sent_to host object control (message.Ready false 3) ∷ []) (taking host object (message.Create control size) past)
+    → AllInTurn header outside doing (sent_to host object control (message.Ready false 3) ∷ []) (taking host object (message.Create control size) past)
 ready_create header outside doing host object control size past file =
     ((sends header outside doing host object control (message.Ready false 3) (taking host object (message.Create control size) past) file (size, refl, refl, inl (refl, refl)), tt), tt)
 
 pub causes : (header : Header) (outside : Outside) (doing : Command) (host : ℕ) (past : List Event) (object : ℕ) (m : Message) (old new : FileTable) (events : List Event)
-    → PagerServes header host past object m old new events → (tells header outside object ≡ true → AnswersKept header outside host object past events) → AllLicensed header outside doing events (taking host object m past)
+    → PagerServes header host past object m old new events → (tells header outside object ≡ true → AnswersKept header outside host object past events) → AllInTurn header outside doing events (taking host object m past)
 causes header outside doing host past object m old new events serves kept = by m serves.answered
   where
     at : (control : ℕ) (reply : Message) → events ≡ sent_to host old.object control reply ∷ [] → events ≡ sent_to host object control reply ∷ []
     at control reply is = subst (λ (o : ℕ). events ≡ sent_to host o control reply ∷ []) serves.stands.object_is is
 
-    nothing : (first : List Event) → events ≡ [] → AllLicensed header outside doing events first
-    nothing first is = subst (λ (es : List Event). AllLicensed header outside doing es first) (sym is) tt
+    nothing : (first : List Event) → events ≡ [] → AllInTurn header outside doing events first
+    nothing first is = subst (λ (es : List Event). AllInTurn header outside doing es first) (sym is) tt
 
-    by : (m : Message) → FileAnswer m host old new events → AllLicensed header outside doing events (taking host object m past)
-    by (message.Init control size) a = subst (λ (es : List Event). AllLicensed header outside doing es (taking host object (message.Init control size) past)) (sym (at control _ a.1)) (ready_init header outside doing host object control size past serves.stands.file)
-    by (message.Create control size) a = subst (λ (es : List Event). AllLicensed header outside doing es (taking host object (message.Create control size) past)) (sym (at control _ a.1)) (ready_create header outside doing host object control size past serves.stands.file)
+    by : (m : Message) → FileAnswer m host old new events → AllInTurn header outside doing events (taking host object m past)
+    by (message.Init control size) a = subst (λ (es : List Event). AllInTurn header outside doing es (taking host object (message.Init control size) past)) (sym (at control _ a.1)) (ready_init header outside doing host object control size past serves.stands.file)
+    by (message.Create control size) a = subst (λ (es : List Event). AllInTurn header outside doing es (taking host object (message.Create control size) past)) (sym (at control _ a.1)) (ready_create header outside doing host object control size past serves.stands.file)
     by (message.Request control page access) a =
         requested header outside doing old.size host object control page access past (has_lost old page.0) events serves.stands.file (sym (serves.stands.lost_is page.0))
         (subst (λ (o : ℕ). RequestAnswer old.size host o control page (has_lost old page.0) events) serves.stands.object_is a.1) kept
     by (message.Return control page dirty keep bytes) a =
         let told : events ≡ told_of (is_stored events) object page = subst (λ (o : ℕ). events ≡ told_of (is_stored events) o page) serves.stands.object_is a.told in
-        subst (λ (es : List Event). AllLicensed header outside doing es (taking host object (message.Return control page dirty keep bytes) past)) (sym told) (returned header outside doing host object control page dirty keep bytes past (is_stored events) serves.stands.file)
+        subst (λ (es : List Event). AllInTurn header outside doing es (taking host object (message.Return control page dirty keep bytes) past)) (sym told) (returned header outside doing host object control page dirty keep bytes past (is_stored events) serves.stands.file)
     by (message.Terminate control) a = nothing (taking host object (message.Terminate control) past) a.1
     by (message.Unlock control page access) a = nothing (taking host object (message.Unlock control page access) past) a.1
     by (message.Completed control page count) a = nothing (taking host object (message.Completed control page count) past) a.1
@@ -201,12 +202,12 @@ behind_line e (event.Line line ∷ past) begun = tt
 behind_line e (other ∷ past) begun = absurd (false≢true begun)
 
 pub cleans : (header : Header) (outside : Outside) (doing : Command) (past : List Event) (object : ℕ) (table : FileTable) (page : PageNo) (count : ℕ) (flush : Bool) (events : List Event)
-    → PagerStands header object table past → just_begun past ≡ true → IsClean doing object page.0 count flush → CleanEvents table.known table.object page count flush events → AllLicensed header outside doing events past
+    → PagerStands header object table past → just_begun past ≡ true → IsClean doing object page.0 count flush → CleanEvents table.known table.object page count flush events → AllInTurn header outside doing events past
 cleans header outside doing past object table page count flush events s begun doing_is a = by table.known s.known_is (subst (λ (o : ℕ). CleanEvents table.known o page count flush events) s.object_is a)
   where
-    by : (known : Option KnownControl) → IsKnownAs object known past → CleanEvents known object page count flush events → AllLicensed header outside doing events past
-    by None is none = subst (λ (es : List Event). AllLicensed header outside doing es past) (sym none) tt
-    by (Some known) is asks = subst (λ (es : List Event). AllLicensed header outside doing es past) (sym asks) (
+    by : (known : Option KnownControl) → IsKnownAs object known past → CleanEvents known object page count flush events → AllInTurn header outside doing events past
+    by None is none = subst (λ (es : List Event). AllInTurn header outside doing es past) (sym none) tt
+    by (Some known) is asks = subst (λ (es : List Event). AllInTurn header outside doing es past) (sym asks) (
       (
         sends header outside doing known.host.0 object known.control (clean_request page count flush) past s.file (s.file, refl, refl, refl, is, doing_is, begun),
         behind_line (sent_to known.host.0 object known.control (clean_request page count flush)) past begun,

@@ -30,7 +30,7 @@ pub stored_cause : (stored : Bool) (object : ℕ) (page : PageNo) (before now : 
 stored_cause true object page before now events is cause = record { later = cause.later; failed = λ fault. absurd (subst TellsFault is fault); spared = λ none. cause.spared (λ bad. cc); same = tt }
 stored_cause false object page before now events is cause = record { later = cause.later; failed = λ fault. cause.failed refl; spared = λ none. absurd (none (subst TellsFault (sym is) tt)); same = tt }
 
-told_stored : (stored : Bool) (object : ℕ) (page : PageNo) → is_stored (told_of stored object page) ≡ stored
+pub told_stored : (stored : Bool) (object : ℕ) (page : PageNo) → is_stored (told_of stored object page) ≡ stored
 told_stored true object page = refl
 told_stored false object page = refl
 

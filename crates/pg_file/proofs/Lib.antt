@@ -1,4 +1,5 @@
 pub mod Leaving
+pub mod Calls
 pub mod Pages
 pub mod Facts
 pub mod Standing

@@ -1,4 +1,5 @@
 pub mod Answers
+pub mod Calls
 pub mod Files
 pub mod Finding
 pub mod Stands

@@ -1,8 +1,10 @@
 // A page of a file, as it is found there.
 ghost use Rattle.std.specs.Prelude.{ℕ, ◌≡◌, ◌*◌, List, Some, IfOk, OnErr, false, length};
 ghost use Rattle.std.specs.declared.option.Option.{Option};
+ghost use Rattle.pg_file.specs.Calls.{FindMakes};
 ghost use Rattle.pg_file.specs.Finding.{FindHasCause, IsFoundAs, IsFoundIn, IsWholePage};
 ghost use Rattle.vm_outside.specs.Areas.{ReadTold, SameAreas};
+ghost use Rattle.vm_outside.specs.Calls.{Reads};
 ghost use Rattle.vm_outside.specs.Causes.{CallHasCause};
 
 use std::alloc::Global;
@@ -42,6 +44,7 @@ fn fill_page<F: Backing>(
     ensures told { ReadTold (F.area files.old) (F.area files.new) name.now at page.new result }
     ensures cause { CallHasCause (F.faults files.old) (F.faults files.new) result }
     ensures later { F.later files.old files.new }
+    ensures called { F.called (Reads name.now at (length buffer.old) result) files.old files.new }
 {
     files.read(name, at, buffer)?;
     page.fill(buffer);
@@ -64,6 +67,7 @@ pub fn find<F: Backing>(
     ensures cause { FindHasCause (F.faults files.old) (F.faults files.new) result }
     ensures later { F.later files.old files.new }
     ensures err { OnErr result (files.new ≡ files.old) }
+    ensures calls { FindMakes F.called name.now (page.0 * size) size result files.old files.new }
 {
     let mut buffer = vec![in alloc; 0u8; size.bytes() as usize]?;
     let mut bytes = PageBytes::zero(alloc, size)?;

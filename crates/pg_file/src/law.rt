@@ -6,7 +6,8 @@ ghost use Rattle.pg_file.specs.Stands.{AnswersKept, CarriesFile, FileKept, IsOth
 ghost use Rattle.vm_base.specs.Listing.{Listed};
 ghost use Rattle.vm_base.specs.declared.ids.PageNo.{PageNo};
 ghost use Rattle.vm_legal.specs.Debts.{IsPaid};
-ghost use Rattle.vm_legal.specs.Licences.{AllLicensed, IsClean, tells};
+ghost use Rattle.vm_legal.specs.Licences.{IsClean, tells};
+ghost use Rattle.vm_legal.specs.InTurn.{AllInTurn};
 ghost use Rattle.vm_legal.specs.Outside.{Outside, is_file};
 ghost use Rattle.vm_legal.specs.Steps.{just_begun};
 ghost use Rattle.vm_model.specs.declared.command.Command.{Command};
@@ -37,14 +38,14 @@ pub fn answers_are_legal()
     ensures causes { (header : Header) (outside : Outside) (doing : Command) (host : ℕ) (past : List Event) (object : ℕ) (m : Message) (old new : FileTable) (events : List Event)
         → PagerServes header host past object m old new events
         → (tells header outside object ≡ true → AnswersKept header outside host object past events)
-        → AllLicensed header outside doing events (taking host object m past) }
+        → AllInTurn header outside doing events (taking host object m past) }
     ensures paid { (header : Header) (host : ℕ) (past : List Event) (object : ℕ) (m : Message) (old new : FileTable) (events : List Event)
         → PagerServes header host past object m old new events → IsPaid header (events ++ taking host object m past) }
 
     // A clean stands right behind its line.
     ensures cleans { (header : Header) (outside : Outside) (doing : Command) (past : List Event) (object : ℕ) (table : FileTable) (page : PageNo) (count : ℕ) (flush : Bool) (events : List Event)
         → PagerStands header object table past → just_begun past ≡ true → IsClean doing object page.0 count flush
-        → CleanEvents table.known table.object page count flush events → AllLicensed header outside doing events past }
+        → CleanEvents table.known table.object page count flush events → AllInTurn header outside doing events past }
     ensures clean_stands { (header : Header) (past : List Event) (object : ℕ) (table : FileTable) (page : PageNo) (count : ℕ) (flush : Bool) (events : List Event)
         → PagerStands header object table past → CleanEvents table.known table.object page count flush events
         → PagerStands header object table (events ++ past) }

@@ -2,6 +2,7 @@
 ghost use Rattle.std.specs.Prelude.{ℕ, ◌≡◌, ◌≤◌, ◌*◌, [], List, None, Some, IfOk, OnErr, length, not};
 ghost use Rattle.std.specs.declared.option.Option.{Option};
 ghost use Rattle.pg_file.specs.Answers.{AnswerHasCause, CleanEvents, EndsInReply, FileAnswer, IsToPager, LeavesBacking, LeavesFile, ReturnsWhole, TellsPage, write_answer};
+ghost use Rattle.pg_file.specs.Calls.{FileMakes, FindMakes, StoreMakes};
 ghost use Rattle.pg_file.specs.Files.{KeepsShape, MarksPage, has_lost, without_known};
 ghost use Rattle.pg_file.specs.Finding.{FindHasCause, IsFoundAs, IsFoundIn, IsWholePage, StoreHasCause};
 ghost use Rattle.vm_outside.specs.Areas.{SameAreas, WriteTold};
@@ -68,8 +69,9 @@ impl FilePager {
 
     /// Takes a message about the file from the kernel of a host, and gives the events that come of
     /// it: the device's failure, and behind it the answer, if there is one. It takes all its memory
-    /// before it calls the backing. A request calls it at most twice, for the length and then for
-    /// the page; a return once.
+    /// before it calls the backing. A request asks once for the length, and then reads the page once
+    /// where the file reaches it; for a page that is lost it calls nothing. A return writes once. No
+    /// other message calls the backing.
     ///
     /// The calls are those of memory_object_init (ready, with the strategy none), data_request,
     /// data_return and terminate of the Mach 3 kernel interfaces; a create, which no kernel sends
@@ -97,6 +99,7 @@ impl FilePager {
         ensures later { F.later files.old files.new }
         ensures unmoved { OnErr result (F.armed files.new ≡ F.armed files.old) }
         ensures untouched { LeavesBacking message.now self.old files.old files.new result }
+        ensures calls { FileMakes F.called message.now self.old result files.old files.new }
     {
         let mut events = Listing::new(self.alloc);
         events.reserve(2)?;
@@ -156,6 +159,7 @@ impl FilePager {
         ensures later { F.later files.old files.new }
         ensures lost { result ≡ Ok Found.Lost → files.new ≡ files.old }
         ensures err { OnErr result (files.new ≡ files.old) }
+        ensures calls { FindMakes F.called self.now.name (page.0 * self.now.size) self.now.size result files.old files.new }
     {
         if self.lost.has(page) {
             return Ok(Found::Lost);
@@ -177,6 +181,7 @@ impl FilePager {
         ensures cause { StoreHasCause (F.faults files.old) (F.faults files.new) result }
         ensures later { F.later files.old files.new }
         ensures unmoved { OnErr result (F.armed files.new ≡ F.armed files.old) }
+        ensures calls { StoreMakes F.called self.old.name (page.0 * self.old.size) bytes.now result files.old files.new }
     {
         self.lost.reserve()?;
         let at = place(page, self.size);

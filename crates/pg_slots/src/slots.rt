@@ -1,5 +1,6 @@
 // The slots.
 ghost use Rattle.std.specs.Prelude.{ℕ, ◌≡◌, ◌*◌, ◌<◌, ◌≤◌, ◌↔◌, ◌==◌, [], List, None, Some, IfOk, IfSome, MatchOption, OnErr, length, true, if◌then◌else◌};
+ghost use Rattle.pg_slots.specs.Calls.{GetMakes, PutMakes};
 ghost use Rattle.pg_slots.specs.Contents.{AgreesWithContent, AnswersHeld, CarriesContent, Content, GetHasCause, GivesStored, IsAreaTold, IsGetAnswer, IsWholePage, PutHasCause, PutTold, SlotsFit, after_put, area_name, content_without, same_content};
 ghost use Rattle.pg_slots.specs.Kept.{AreGivable, FreesSlots, MayTake, PutsRow, is_taken, room_of, slot_in_map};
 ghost use Rattle.pg_slots.specs.Slots.{DropsHeld, GoesTo, HasNoSlot, KeepsShape, PutEffects, held_at, slot_in_table};
@@ -89,6 +90,7 @@ impl Slots {
         ensures later { P.later paging.old paging.new }
         ensures unmoved { OnErr result (P.armed paging.new ≡ P.armed paging.old) }
         ensures untouched { result ≡ Ok Put.NoSlot → paging.new ≡ paging.old }
+        ensures calls { PutMakes P.called self.old key.object.0 key.page.0 bytes.now result paging.old paging.new }
     {
         let slot = self.slot_for(key);
         self.rows.reserve(key)?;
@@ -129,6 +131,7 @@ impl Slots {
         ensures never { result ≡ Ok Got.Never → paging.new ≡ paging.old }
         ensures lost { result ≡ Ok Got.Lost → paging.new ≡ paging.old }
         ensures err { OnErr result (paging.new ≡ paging.old) }
+        ensures calls { GetMakes P.called self.now (held_at self.now key.object.0 key.page.0) result paging.old paging.new }
     {
         let slot = match self.rows.held(key) {
             None => return Ok(Got::Never),

@@ -2,6 +2,7 @@ pub mod Adapters
 pub mod Areas
 pub mod Arming
 pub mod Bytes
+pub mod Calls
 pub mod Causes
 pub mod Folders
 pub mod Memory

@@ -1,6 +1,7 @@
 -- Which calls of a value in memory fail.
-use Rattle.std.specs.Prelude.{ℕ, ◌==◌, Bool, List}
+use Rattle.std.specs.Prelude.{ℕ, ◌≡◌, ◌==◌, Bool, List, if◌then◌else◌}
 use Rattle.std.specs.List.{list_any}
+use Rattle.vm_outside.specs.Calls.{Call, weight}
 use Rattle.vm_outside.specs.Causes.{next_count}
 
 -- the numbers of the calls that fail, counted from 1, how many calls were made, and how many failed
@@ -20,6 +21,10 @@ after_fault plan = record { fails = plan.fails; calls = next_count plan.calls; f
 -- the counts after a call that did not fail
 abbrev pub after_pass : Planned → Planned
 after_pass plan = record { fails = plan.fails; calls = next_count plan.calls; faults = plan.faults }
+
+-- a call of a backing is counted, but for a write that found no memory
+abbrev pub PlanCounts : Call → Planned → Planned → Type 0
+PlanCounts call old new = new.calls ≡ (if weight call == 1 then next_count old.calls else old.calls)
 
 -- bytes that are left or were written, and the calls that fail
 pub record PlannedBytes : Type 0 where

@@ -1,8 +1,9 @@
 // A backing whose coming calls can be made to fail.
-ghost use Rattle.std.specs.Prelude.{◌≡◌, ◌≢◌, ◌-◌, ◌<◌, IsErr, IsErrOf, true, false};
+ghost use Rattle.std.specs.Prelude.{◌≡◌, ◌≢◌, ◌-◌, ◌<◌, IsErr, IsErrOf, length, true, false};
 ghost use Rattle.vm_outside.specs.Areas.{LengthTold, ReadTold, WriteTold};
 ghost use Rattle.vm_outside.specs.Causes.{next_count, sum_count, CallHasCause, WriteHasCause};
-ghost use Rattle.vm_outside.specs.Arming.{armed_later_same, armed_later_more, ArmedLater, Strikes, PassesOn, KeepsArming};
+ghost use Rattle.vm_outside.specs.Arming.{armed_later_same, armed_later_more, ArmedCalled, ArmedLater, Strikes, PassesOn, KeepsArming};
+ghost use Rattle.vm_outside.specs.Calls.{AsksLength, Reads, Writes};
 
 use crate::Backing;
 use std::marker::Model;
@@ -99,6 +100,8 @@ impl<B: Backing> Backing for Armed<B> {
 
     ghost later = { λ s t. B.later s.inner t.inner × ArmedLater s.left s.reached t.left t.reached };
 
+    ghost called = { λ c s t. ArmedCalled B.called c s t };
+
     ghost later_same = { λ s. (B.later_same s.inner, armed_later_same s.left s.reached) };
 
     ghost later_more = { λ r s t one two. (B.later_more r.inner s.inner t.inner one.0 two.0, armed_later_more _ _ _ _ _ _ one.1 two.1) };
@@ -108,6 +111,7 @@ impl<B: Backing> Backing for Armed<B> {
         ensures cause { CallHasCause (sum_count (B.faults self.old.inner) self.old.reached) (sum_count (B.faults self.new.inner) self.new.reached) result }
         ensures later { B.later self.old.inner self.new.inner
             × ArmedLater self.old.left self.old.reached self.new.left self.new.reached }
+        ensures called { ArmedCalled B.called (AsksLength name.now result) self.old self.new }
 
         ensures fails { self.old.left ≡ 1 → IsErr result }
         ensures strikes { self.old.left ≡ 1 → Strikes self.old self.new }
@@ -127,6 +131,7 @@ impl<B: Backing> Backing for Armed<B> {
         ensures cause { CallHasCause (sum_count (B.faults self.old.inner) self.old.reached) (sum_count (B.faults self.new.inner) self.new.reached) result }
         ensures later { B.later self.old.inner self.new.inner
             × ArmedLater self.old.left self.old.reached self.new.left self.new.reached }
+        ensures called { ArmedCalled B.called (Reads name.now at (length buf.new) result) self.old self.new }
 
         ensures fails { self.old.left ≡ 1 → IsErr result }
         ensures strikes { self.old.left ≡ 1 → Strikes self.old self.new }
@@ -147,6 +152,7 @@ impl<B: Backing> Backing for Armed<B> {
         ensures cause { WriteHasCause (sum_count (B.faults self.old.inner) self.old.reached) (sum_count (B.faults self.new.inner) self.new.reached) result }
         ensures later { B.later self.old.inner self.new.inner
             × ArmedLater self.old.left self.old.reached self.new.left self.new.reached }
+        ensures called { ArmedCalled B.called (Writes name.now at bytes.now result) self.old self.new }
         ensures unmoved { IsErrOf result WriteStop.NoMemory → self.new.left ≡ self.old.left }
 
         ensures fails { self.old.left ≡ 1 → IsErrOf result WriteStop.Failed }

@@ -149,6 +149,8 @@ impl<R: Files> Backing for Folder<R> {
 
     ghost later = { λ s t. Unit {0} };
 
+    ghost called = { λ c s t. Unit {0} };
+
     ghost later_same = { λ s. tt };
 
     ghost later_more = { λ r s t one two. tt };
@@ -157,6 +159,7 @@ impl<R: Files> Backing for Folder<R> {
         ensures told { LengthTold (λ other. None) (λ other. None) name.now result }
         ensures cause { CallHasCause self.old.faults self.new.faults result }
         ensures later { Unit {0} }
+        ensures called { Unit {0} }
 
         ensures none { OnOk result (self.new.faults ≡ self.old.faults) }
         ensures fault { OnErr result (self.new.faults ≡ next_count self.old.faults) }
@@ -173,6 +176,7 @@ impl<R: Files> Backing for Folder<R> {
         ensures told { ReadTold (λ other. None) (λ other. None) name.now at buf.new result }
         ensures cause { CallHasCause self.old.faults self.new.faults result }
         ensures later { Unit {0} }
+        ensures called { Unit {0} }
 
         ensures none { OnOk result (self.new.faults ≡ self.old.faults) }
         ensures fault { OnErr result (self.new.faults ≡ next_count self.old.faults) }
@@ -190,6 +194,7 @@ impl<R: Files> Backing for Folder<R> {
         ensures told { WriteTold (λ other. None) (λ other. None) name.now at bytes.now result }
         ensures cause { WriteHasCause self.old.faults self.new.faults result }
         ensures later { Unit {0} }
+        ensures called { Unit {0} }
         ensures unmoved { IsErrOf result WriteStop.NoMemory → ◌≡◌ {A = ℕ} 0 0 }
 
         ensures none { OnOk result (self.new.faults ≡ self.old.faults) }

@@ -55,6 +55,8 @@ impl Backing for SureBacking {
 
     ghost later = { λ s t. Unit {0} };
 
+    ghost called = { λ c s t. Unit {0} };
+
     ghost later_same = { λ s. tt };
 
     ghost later_more = { λ r s t one two. tt };
@@ -63,6 +65,7 @@ impl Backing for SureBacking {
         ensures told { LengthTold (λ other. Some (area_of self.old other)) (λ other. Some (area_of self.new other)) name.now result }
         ensures cause { CallHasCause 0 0 result }
         ensures later { Unit {0} }
+        ensures called { Unit {0} }
         ensures sure { IsOk result }
     {
         Ok(self.areas.length(name))
@@ -72,6 +75,7 @@ impl Backing for SureBacking {
         ensures told { ReadTold (λ other. Some (area_of self.old other)) (λ other. Some (area_of self.new other)) name.now at buf.new result }
         ensures cause { CallHasCause 0 0 result }
         ensures later { Unit {0} }
+        ensures called { Unit {0} }
         ensures sure { IsOk result }
     {
         self.areas.read(name, at, buf);
@@ -82,6 +86,7 @@ impl Backing for SureBacking {
         ensures told { WriteTold (λ other. Some (area_of self.old other)) (λ other. Some (area_of self.new other)) name.now at bytes.now result }
         ensures cause { WriteHasCause 0 0 result }
         ensures later { Unit {0} }
+        ensures called { Unit {0} }
         ensures unmoved { IsErrOf result WriteStop.NoMemory → ◌≡◌ {A = ℕ} 0 0 }
         ensures sure { IsOkUnless result WriteStop.NoMemory }
     {

@@ -1,10 +1,11 @@
 // A backing in memory with calls that fail.
-ghost use Rattle.std.specs.Prelude.{◌≡◌, ◌≢◌, ◌↔◌, List, ℕ, Some, None, IsTrue, IsErr, IsErrOf, OnOk, OnErr};
+ghost use Rattle.std.specs.Prelude.{◌≡◌, ◌≢◌, ◌↔◌, List, ℕ, Some, None, length, IsTrue, IsErr, IsErrOf, OnOk, OnErr};
 ghost use Rattle.std.specs.Option.{option_copied};
 ghost use Rattle.vm_outside.specs.Areas.{LengthTold, ReadTold, WriteTold};
+ghost use Rattle.vm_outside.specs.Calls.{AsksLength, Reads, Writes};
 ghost use Rattle.vm_outside.specs.Causes.{CallHasCause, WriteHasCause};
 ghost use Rattle.vm_outside.specs.Memory.{bytes_of, plan_of};
-ghost use Rattle.vm_outside.specs.Plans.{fails_next, after_fault, after_pass};
+ghost use Rattle.vm_outside.specs.Plans.{PlanCounts, fails_next, after_fault, after_pass};
 
 use crate::Backing;
 use crate::areas::Areas;
@@ -54,6 +55,7 @@ impl MemBacking {
 
 impl Backing for MemBacking {
     ghost use Rattle.vm_outside.specs.Memory.{bytes_of, plan_of};
+    ghost use Rattle.vm_outside.specs.Plans.{PlanCounts};
 
     ghost area = { λ s name. Some (bytes_of s name) };
 
@@ -62,6 +64,8 @@ impl Backing for MemBacking {
     ghost armed = { λ s. 0 };
 
     ghost later = { λ s t. Unit {0} };
+
+    ghost called = { λ c s t. PlanCounts c (plan_of s) (plan_of t) };
 
     ghost later_same = { λ s. tt };
 
@@ -72,6 +76,7 @@ impl Backing for MemBacking {
         ensures told { LengthTold (λ other. Some (bytes_of self.old other)) (λ other. Some (bytes_of self.new other)) name.now result }
         ensures cause { CallHasCause (plan_of self.old).faults (plan_of self.new).faults result }
         ensures later { Unit {0} }
+        ensures called { PlanCounts (AsksLength name.now result) (plan_of self.old) (plan_of self.new) }
 
         ensures fails { IsErr result ↔ IsTrue (fails_next (plan_of self.old)) }
         ensures failed { IsErr result → plan_of self.new ≡ after_fault (plan_of self.old) }
@@ -89,6 +94,7 @@ impl Backing for MemBacking {
         ensures told { ReadTold (λ other. Some (bytes_of self.old other)) (λ other. Some (bytes_of self.new other)) name.now at buf.new result }
         ensures cause { CallHasCause (plan_of self.old).faults (plan_of self.new).faults result }
         ensures later { Unit {0} }
+        ensures called { PlanCounts (Reads name.now at (length buf.new) result) (plan_of self.old) (plan_of self.new) }
 
         ensures fails { IsErr result ↔ IsTrue (fails_next (plan_of self.old)) }
         ensures failed { IsErr result → plan_of self.new ≡ after_fault (plan_of self.old) }
@@ -108,6 +114,7 @@ impl Backing for MemBacking {
         ensures told { WriteTold (λ other. Some (bytes_of self.old other)) (λ other. Some (bytes_of self.new other)) name.now at bytes.now result }
         ensures cause { WriteHasCause (plan_of self.old).faults (plan_of self.new).faults result }
         ensures later { Unit {0} }
+        ensures called { PlanCounts (Writes name.now at bytes.now result) (plan_of self.old) (plan_of self.new) }
         ensures unmoved { IsErrOf result WriteStop.NoMemory → ◌≡◌ {A = ℕ} 0 0 }
 
         ensures fails { IsErrOf result WriteStop.Failed ↔ IsTrue (fails_next (plan_of self.old)) }
