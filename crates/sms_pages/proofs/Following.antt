@@ -15,7 +15,7 @@ use Rattle.sms_pages.specs.declared.holding.Turn.{Turn}
 use Rattle.sms_pages.specs.declared.holding.Turn.TheVariants.{Leaves, Recalls, Waits, Grants}
 use Rattle.sms_pages.specs.Directory.{is_recalled, any_recalled, leaves, turn, recall, recall_kind, recalls, recalled, grant, granted, Directory, Outcome, served, IsServedDirectory}
 use Rattle.vm_model.specs.Server.{NoUpgrade, NoRequest}
-use Rattle.sms_pages.specs.Stands.{count_wanting, DirectoryStands, StandsFor, lock_number, reply_act, reply_acts, Hears, ServingFollows, RepliesHaveCause}
+use Rattle.sms_pages.specs.Stands.{AllAreRecalled, count_wanting, DirectoryStands, StandsFor, lock_number, reply_act, reply_acts, Hears, ServingFollows, RepliesHaveCause}
 use Rattle.vm_model.specs.Coherence.{SomebodyIsAwaited}
 use Rattle.sms_pages.proofs.Facts.{own_side, holds_set, awaits_set, holds_kept, awaits_kept, heard_kept, counted_none, counted_same, all_none}
 use Rattle.sms_pages.proofs.Recalls.{recalled_above}
@@ -28,17 +28,46 @@ pub record State (size : ℕ) (heard : ℕ → ℕ) (bytes : List ℕ) (holds aw
 
 -- the turn's cases
 
-turn_leaves : (l r a : Bool) → (if l then Leaves else if r then Recalls else if a then Grants else Waits) ≡ Leaves → l ≡ true
-turn_leaves l r a is = grind arith
+turn_leaves : (w : Wanting) (holds awaits : List ℕ) → turn w holds awaits ≡ Leaves → leaves w holds ≡ true
+turn_leaves w holds awaits is = by (leaves w holds) refl where
+  by : (l : Bool) → leaves w holds ≡ l → l ≡ true
+  by true e = refl
+  by false e = let at = rw e at is in absurd (grind (arith, at))
 
-turn_stays : (l r a : Bool) (t : Turn) → t ≢ Leaves → (if l then Leaves else if r then Recalls else if a then Grants else Waits) ≡ t → l ≡ false
-turn_stays l r a t apart is = grind arith
+turn_stays : (w : Wanting) (holds awaits : List ℕ) (t : Turn) → t ≢ Leaves → turn w holds awaits ≡ t → leaves w holds ≡ false
+turn_stays w holds awaits t apart is = by (leaves w holds) refl where
+  by : (l : Bool) → leaves w holds ≡ l → l ≡ false
+  by true e = let at = rw e at is in absurd (apart (sym at))
+  by false e = refl
 
-turn_grants : (l r a : Bool) → (if l then Leaves else if r then Recalls else if a then Grants else Waits) ≡ Grants → (r ≡ false) × (a ≡ true)
-turn_grants true r a is = absurd (cc)
-turn_grants false true a is = absurd (cc)
-turn_grants false false true is = (refl, refl)
-turn_grants false false false is = absurd (cc)
+turn_recalls : (w : Wanting) (holds awaits : List ℕ) → turn w holds awaits ≡ Recalls → any_recalled w holds awaits 8 ≡ true
+turn_recalls w holds awaits is = by (any_recalled w holds awaits 8) refl where
+  by : (r : Bool) → any_recalled w holds awaits 8 ≡ r → r ≡ true
+  by true e = refl
+  by false e = let at = rw e at is in absurd (grind (arith, at))
+
+turn_grants : (w : Wanting) (holds awaits : List ℕ) → turn w holds awaits ≡ Grants → (any_recalled w holds awaits 8 ≡ false) × (list_all (λ kind. kind == 0) awaits ≡ true)
+turn_grants w holds awaits is = (by (any_recalled w holds awaits 8) refl, all (list_all (λ kind. kind == 0) awaits) refl) where
+  by : (r : Bool) → any_recalled w holds awaits 8 ≡ r → r ≡ false
+  by true e = let at = rw e at is in absurd (grind (arith, at))
+  by false e = refl
+
+  all : (a : Bool) → list_all (λ kind. kind == 0) awaits ≡ a → a ≡ true
+  all true e = refl
+  all false e = let at = rw e at is in absurd (grind (arith, at))
+
+turn_waits : (w : Wanting) (holds awaits : List ℕ) → turn w holds awaits ≡ Waits → list_all (λ kind. kind == 0) awaits ≡ false
+turn_waits w holds awaits is = by (list_all (λ kind. kind == 0) awaits) refl where
+  by : (a : Bool) → list_all (λ kind. kind == 0) awaits ≡ a → a ≡ false
+  by true e = let at = rw e at is in absurd (grind (arith, at))
+  by false e = refl
+
+-- who waits has nobody left to recall
+turn_settles : (w : Wanting) (holds awaits : List ℕ) → turn w holds awaits ≡ Waits → any_recalled w holds awaits 8 ≡ false
+turn_settles w holds awaits is = by (any_recalled w holds awaits 8) refl where
+  by : (r : Bool) → any_recalled w holds awaits 8 ≡ r → r ≡ false
+  by true e = let at = rw e at is in absurd (grind (arith, at))
+  by false e = refl
 
 -- who leaves doesn't count, and who stays is the first of the line
 
@@ -330,9 +359,9 @@ served_follows size heard bytes holds awaits (w ∷ ws) sent past s =
             | Waits ↦ record { holds = holds; awaits = awaits; line = w ∷ ws; replies = sent }
             | Grants ↦ served (grant w bytes ∷ sent) (slice_set holds w.host (granted w)) awaits bytes ws
           ]) past
-      by_turn Leaves is on given = on (left size heard bytes holds awaits w ws (reply_acts heard sent ++ past) s (turn_leaves (leaves w holds) (any_recalled w holds awaits 8) (list_all (λ kind. kind == 0) awaits) is))
+      by_turn Leaves is on given = on (left size heard bytes holds awaits w ws (reply_acts heard sent ++ past) s (turn_leaves w holds awaits is))
       by_turn Recalls is on given =
-          let r = after_recalls size heard bytes holds awaits w ws (reply_acts heard sent ++ past) 8 s (turn_stays (leaves w holds) (any_recalled w holds awaits 8) (list_all (λ kind. kind == 0) awaits) Recalls (λ e. absurd (cc)) is) (omega arith) in
+          let r = after_recalls size heard bytes holds awaits w ws (reply_acts heard sent ++ past) 8 s (turn_stays w holds awaits Recalls (λ e. absurd (cc)) is) (omega arith) in
           let e = acts_append heard (recalls w holds awaits 8) sent past in
           record {
             licensed = subst (λ (l : List Act). ActsLicensed size l) (sym e) r.licensed;
@@ -340,26 +369,30 @@ served_follows size heard bytes holds awaits (w ∷ ws) sent past s =
           }
       by_turn Waits is on given = record { licensed = s.licensed; stands = s.stands }
       by_turn Grants is on given =
-          let f = turn_grants (leaves w holds) (any_recalled w holds awaits 8) (list_all (λ kind. kind == 0) awaits) is in
-          given (after_grant size w.upgrade heard bytes holds awaits w ws (reply_acts heard sent ++ past) s (turn_stays (leaves w holds) (any_recalled w holds awaits 8) (list_all (λ kind. kind == 0) awaits) Grants (λ e. absurd (cc)) is) f.0 f.1 refl)
+          let f = turn_grants w holds awaits is in
+          given (after_grant size w.upgrade heard bytes holds awaits w ws (reply_acts heard sent ++ past) s (turn_stays w holds awaits Grants (λ e. absurd (cc)) is) f.0 f.1 refl)
 
 -- where somebody still waits, some host is awaited
+
+recalled_long : (w : Wanting) (holds awaits : List ℕ) (n : ℕ) → length awaits ≡ 8 → length (recalled w holds awaits n) ≡ 8
+recalled_long w holds awaits zero eight = eight
+recalled_long w holds awaits (suc n) eight = keeps (is_recalled w n (slice_index holds n) (slice_index awaits n)) (recalled w holds awaits n) n (recall_kind w) (recalled_long w holds awaits n eight) where
+  keeps : (b : Bool) (xs : List ℕ) (m kind : ℕ) → length xs ≡ 8 → length (if b then slice_set xs m kind else xs) ≡ 8
+  keeps true xs m kind is = length-set xs m kind ∙ is
+  keeps false xs m kind is = is
+
+is_awaited : (w : Wanting) (holds awaits : List ℕ) (n : ℕ) → length awaits ≡ 8 → suc n ≤ 8 → 0 < slice_index (slice_set (recalled w holds awaits n) n (recall_kind w)) n
+is_awaited w holds awaits n eight le =
+    let e : slice_index (slice_set (recalled w holds awaits n) n (recall_kind w)) n ≡ recall_kind w = get_or-set_same (recalled w holds awaits n) n (recall_kind w) 0 (omega (arith, recalled_long w holds awaits n eight)) in
+    omega (arith, some_kind w) where
+      some_kind : (w : Wanting) → 0 < recall_kind w
+      some_kind w = grind arith
 
 some_recalled : (w : Wanting) (holds awaits : List ℕ) (n : ℕ) → length awaits ≡ 8 → n ≤ 8 → any_recalled w holds awaits n ≡ true → (g : ℕ) × (0 < slice_index (recalled w holds awaits n) g)
 some_recalled w holds awaits zero eight le any = absurd (cc)
 some_recalled w holds awaits (suc n) eight le any = by_host (is_recalled w n (slice_index holds n) (slice_index awaits n)) (any_recalled w holds awaits n) any (some_recalled w holds awaits n eight (omega arith)) where
-  long : (m : ℕ) → length (recalled w holds awaits m) ≡ 8
-  long zero = eight
-  long (suc m) = keeps (is_recalled w m (slice_index holds m) (slice_index awaits m)) (recalled w holds awaits m) m (recall_kind w) (long m) where
-    keeps : (b : Bool) (xs : List ℕ) (m kind : ℕ) → length xs ≡ 8 → length (if b then slice_set xs m kind else xs) ≡ 8
-    keeps true xs m kind is = length-set xs m kind ∙ is
-    keeps false xs m kind is = is
-
-  some_kind : (w : Wanting) → 0 < recall_kind w
-  some_kind w = grind arith
-
   by_host : (b c : Bool) → (c || b) ≡ true → (c ≡ true → (g : ℕ) × (0 < slice_index (recalled w holds awaits n) g)) → (g : ℕ) × (0 < slice_index (if b then slice_set (recalled w holds awaits n) n (recall_kind w) else recalled w holds awaits n) g)
-  by_host true c is before = (n, let e : slice_index (slice_set (recalled w holds awaits n) n (recall_kind w)) n ≡ recall_kind w = get_or-set_same (recalled w holds awaits n) n (recall_kind w) 0 (omega (arith, long n)) in omega (arith, some_kind w))
+  by_host true c is before = (n, is_awaited w holds awaits n eight le)
   by_host false true is before = before refl
   by_host false false is before = absurd (cc)
 
@@ -371,12 +404,6 @@ not_all_none (a ∷ more) is = elim (ℕ_discrete a 0) [
 ] where
   rest_not : (a : ℕ) (c : Bool) → a ≡ 0 → (a == 0 && c) ≡ false → c ≡ false
   rest_not a c none is = grind (arith, nat_tests)
-
-turn_recalls : (l r a : Bool) → (if l then Leaves else if r then Recalls else if a then Grants else Waits) ≡ Recalls → r ≡ true
-turn_recalls l r a is = grind arith
-
-turn_waits : (l r a : Bool) → (if l then Leaves else if r then Recalls else if a then Grants else Waits) ≡ Waits → a ≡ false
-turn_waits l r a is = grind arith
 
 abbrev Awaited : Outcome → Type 0
 Awaited s = s.line ≢ [] → (g : ℕ) × (0 < slice_index s.awaits g)
@@ -393,9 +420,86 @@ served_awaited sent holds awaits bytes (w ∷ ws) eight =
             | Grants ↦ served (grant w bytes ∷ sent) (slice_set holds w.host (granted w)) awaits bytes ws
           ])
       by_turn Leaves is on given = on
-      by_turn Recalls is on given = λ some. some_recalled w holds awaits 8 eight (omega arith) (turn_recalls (leaves w holds) (any_recalled w holds awaits 8) (list_all (λ kind. kind == 0) awaits) is)
-      by_turn Waits is on given = λ some. not_all_none awaits (turn_waits (leaves w holds) (any_recalled w holds awaits 8) (list_all (λ kind. kind == 0) awaits) is)
+      by_turn Recalls is on given = λ some. some_recalled w holds awaits 8 eight (omega arith) (turn_recalls w holds awaits is)
+      by_turn Waits is on given = λ some. not_all_none awaits (turn_waits w holds awaits is)
       by_turn Grants is on given = given
+
+-- and each host that stands in the way of the first in line
+
+-- the front stays, and nobody is left whom it would recall
+abbrev HasRecalled : Outcome → Type 0
+HasRecalled s = (w : Wanting) → first s.line ≡ Some w → (leaves w s.holds ≡ false) × ((g : ℕ) → g < 8 → is_recalled w g (slice_index s.holds g) (slice_index s.awaits g) ≡ false)
+
+none_twice : (w : Wanting) (g hold await : ℕ) → 0 < await → is_recalled w g hold await ≡ false
+none_twice w g hold await some = grind (arith, nat_tests)
+
+none_left : (w : Wanting) (holds awaits : List ℕ) (n : ℕ) → length awaits ≡ 8 → n ≤ 8 → (g : ℕ) → g < n → is_recalled w g (slice_index holds g) (slice_index (recalled w holds awaits n) g) ≡ false
+none_left w holds awaits zero eight le g lt = absurd (omega arith)
+none_left w holds awaits (suc n) eight le g lt = by_host (is_recalled w n (slice_index holds n) (slice_index awaits n)) refl (λ below. none_left w holds awaits n eight (omega arith) g below) where
+  kept : slice_index (recalled w holds awaits n) n ≡ slice_index awaits n
+  kept = recalled_above w holds awaits n n (omega arith)
+
+  by_host : (b : Bool) → is_recalled w n (slice_index holds n) (slice_index awaits n) ≡ b → (g < n → is_recalled w g (slice_index holds g) (slice_index (recalled w holds awaits n) g) ≡ false)
+      → is_recalled w g (slice_index holds g) (slice_index (if b then slice_set (recalled w holds awaits n) n (recall_kind w) else recalled w holds awaits n) g) ≡ false
+  by_host true is before = elim (ℕ_discrete g n) [
+    | yes same ↦ subst (λ (k : ℕ). is_recalled w k (slice_index holds k) (slice_index (slice_set (recalled w holds awaits n) n (recall_kind w)) k) ≡ false) (sym same) (none_twice w n (slice_index holds n) (slice_index (slice_set (recalled w holds awaits n) n (recall_kind w)) n) (is_awaited w holds awaits n eight le))
+    | no apart ↦ subst (λ (m : ℕ). is_recalled w g (slice_index holds g) m ≡ false) (sym (get_or-set_other (recalled w holds awaits n) n g (recall_kind w) 0 apart)) (before (omega arith))
+  ]
+  by_host false is before = elim (ℕ_discrete g n) [
+    | yes same ↦ subst (λ (k : ℕ). is_recalled w k (slice_index holds k) (slice_index (recalled w holds awaits n) k) ≡ false) (sym same) (subst (λ (m : ℕ). is_recalled w n (slice_index holds n) m ≡ false) (sym kept) is)
+    | no apart ↦ before (omega arith)
+  ]
+
+-- what holds of the one in front
+of_front : (P : Wanting → Type 0) (w v : Wanting) (ws : List Wanting) → P w → first (w ∷ ws) ≡ Some v → P v
+of_front P w v ws holds is = let e : w ≡ v = cc in subst P e holds
+
+served_recalled : (sent : List Reply) (holds awaits bytes : List ℕ) (wants : List Wanting) → length awaits ≡ 8 → HasRecalled (served sent holds awaits bytes wants)
+served_recalled sent holds awaits bytes [] eight = λ w is. absurd (cc)
+served_recalled sent holds awaits bytes (w ∷ ws) eight =
+    by_turn (turn w holds awaits) refl (served_recalled sent holds awaits bytes ws eight) (served_recalled (grant w bytes ∷ sent) (slice_set holds w.host (granted w)) awaits bytes ws eight) where
+      stays : (t : Turn) → t ≢ Leaves → turn w holds awaits ≡ t → leaves w holds ≡ false
+      stays t apart is = turn_stays w holds awaits t apart is
+
+      by_turn : (t : Turn) → turn w holds awaits ≡ t → HasRecalled (served sent holds awaits bytes ws) → HasRecalled (served (grant w bytes ∷ sent) (slice_set holds w.host (granted w)) awaits bytes ws)
+          → HasRecalled (elim t as (λ t. Outcome) [
+            | Leaves ↦ served sent holds awaits bytes ws
+            | Recalls ↦ record { holds = holds; awaits = recalled w holds awaits 8; line = w ∷ ws; replies = recalls w holds awaits 8 ++ sent }
+            | Waits ↦ record { holds = holds; awaits = awaits; line = w ∷ ws; replies = sent }
+            | Grants ↦ served (grant w bytes ∷ sent) (slice_set holds w.host (granted w)) awaits bytes ws
+          ])
+      by_turn Leaves is on given = on
+      by_turn Recalls is on given = λ v front. of_front (λ (u : Wanting). (leaves u holds ≡ false) × ((g : ℕ) → g < 8 → is_recalled u g (slice_index holds g) (slice_index (recalled w holds awaits 8) g) ≡ false)) w v ws
+          (stays Recalls (λ e. absurd (cc)) is, none_left w holds awaits 8 eight (omega arith)) front
+      by_turn Waits is on given = λ v front. of_front (λ (u : Wanting). (leaves u holds ≡ false) × ((g : ℕ) → g < 8 → is_recalled u g (slice_index holds g) (slice_index awaits g) ≡ false)) w v ws
+          (stays Waits (λ e. absurd (cc)) is, any_none w holds awaits 8 (turn_settles w holds awaits is)) front
+      by_turn Grants is on given = given
+
+-- the first that counts is the first in line, where that one stays
+front_counted : (holds : List ℕ) (wants : List Wanting) (w : Wanting) → ((v : Wanting) → first wants ≡ Some v → leaves v holds ≡ false) → first (count_wanting holds wants) ≡ Some w → first wants ≡ Some w
+front_counted holds [] w stays is = is
+front_counted holds (v ∷ vs) w stays is = ap (λ (l : List Wanting). first l) (sym (is_counted v holds vs (stays v refl))) ∙ is
+
+must_await : (w : Wanting) (g hold await : ℕ) → is_recalled w g hold await ≡ false → is_recalled w g hold 0 ≡ true → 0 < await
+must_await w g hold await none way = elim (ℕ_discrete await 0) [
+  | yes free ↦ absurd (grind (arith, nat_tests))
+  | no some ↦ omega arith
+]
+
+-- who holds nothing stands in nobody's way
+nothing_recalled : (w : Wanting) (g hold : ℕ) → hold ≡ 0 → is_recalled w g hold 0 ≡ true → ⊥
+nothing_recalled w g hold none way = grind (arith, nat_tests)
+
+all_recalled : (size : ℕ) (bytes : List ℕ) (s : Outcome) (past : List Act) → DirectoryStands size s.holds s.awaits bytes s.line past → HasRecalled s → AllAreRecalled past
+all_recalled size bytes s past stands recalled host w is way =
+    let front : first s.line ≡ Some w = front_counted s.holds s.line w (λ v at. (recalled v at).0) (ap (λ (l : List Wanting). first l) (sym stands.same_line) ∙ is) in
+    let here : is_recalled w host (slice_index s.holds host) 0 ≡ true = subst (λ (n : ℕ). is_recalled w host n 0 ≡ true) (stands.same_holds host) way in
+    subst (λ (n : ℕ). 0 < n) (sym (stands.same_awaits host)) (elim (lt_or host) [
+      | inl lt ↦ must_await w host (slice_index s.holds host) (slice_index s.awaits host) ((recalled w front).1 host lt) here
+      | inr ge ↦ absurd (nothing_recalled w host (slice_index s.holds host) (get_or_past s.holds host 0 (omega (arith, stands.eight_hold))) here)
+    ]) where
+      lt_or : (g : ℕ) → (g < 8) ⊎ (8 ≤ g)
+      lt_or g = grind arith
 
 -- the law of serving
 
@@ -410,6 +514,7 @@ serving size heard changed after replies past licensed stands hears is =
       licensed = f.licensed;
       stands = subst (λ (bytes : List ℕ). DirectoryStands size after.holds after.awaits bytes after.line (reply_acts heard replies ++ past)) (sym is.bytes) f.stands;
       served = served_past;
+      recalled = all_recalled size changed.bytes done (reply_acts heard replies ++ past) f.stands (subst HasRecalled (sym is.exact) (served_recalled [] changed.holds changed.awaits changed.bytes changed.line stands.eight_await));
     } where
       done : Outcome
       done = record { holds = after.holds; awaits = after.awaits; line = after.line; replies = replies }

@@ -1,15 +1,15 @@
 -- A page's directory beside the page's history: what it notes is what the history says.
-use Rattle.std.specs.Prelude.{ℕ, ◌≡◌, ◌≤◌, ◌<◌, ◌+◌, ◌==◌, Bool, true, false, if◌then◌else◌, List, [], ◌∷◌, ◌++◌, length, slice_index}
+use Rattle.std.specs.Prelude.{ℕ, ◌≡◌, ◌≤◌, ◌<◌, ◌+◌, ◌==◌, Bool, true, false, if◌then◌else◌, Some, List, [], ◌∷◌, ◌++◌, length, slice_index}
 use Rattle.vm_base.specs.Limits.{most_hosts}
 use Rattle.vm_base.specs.declared.ids.Lock.{Lock}
 use Rattle.vm_model.specs.Words.{Act, Supplying, Locking, SentDown, TakenUp, UpWord}
 use Rattle.vm_model.specs.Side.{side}
-use Rattle.vm_model.specs.Server.{Wanting, line, kept, NoUpgrade, NoRequest}
+use Rattle.vm_model.specs.Server.{Wanting, first, line, kept, NoUpgrade, NoRequest}
 use Rattle.vm_model.specs.PageLicences.{ActsLicensed}
 use Rattle.vm_model.specs.Coherence.{SomebodyIsAwaited}
 use Rattle.sms_pages.specs.declared.reply.Reply.{Reply}
 use Rattle.sms_pages.specs.declared.reply.Reply.TheVariants.{Supply, Flush, CleanLock, Unlock}
-use Rattle.sms_pages.specs.Directory.{Directory, Outcome}
+use Rattle.sms_pages.specs.Directory.{Directory, Outcome, is_recalled}
 
 -- an upgrade counts only while its host holds Read
 abbrev pub counts : List ℕ → Wanting → Bool
@@ -64,12 +64,18 @@ pub record ServingFollows (size : ℕ) (heard : ℕ → ℕ) (bytes : List ℕ) 
 abbrev pub StandsFor : ℕ → Directory → List Act → Type 0
 StandsFor size d past = DirectoryStands size d.holds d.awaits d.bytes d.line past
 
+-- each host is awaited that the first in line would have recalled if it weren't
+abbrev pub AllAreRecalled : List Act → Type 0
+AllAreRecalled past =
+    (host : ℕ) (w : Wanting) → first (line past) ≡ Some w → is_recalled w host (side host past).holds 0 ≡ true → 0 < (side host past).awaits
+
 -- each reply has its cause, the directory stands for the past with them, and where somebody still waits a host is
--- awaited
+-- awaited, and with it each that stands in the way of the first in line
 pub record RepliesHaveCause (size : ℕ) (heard : ℕ → ℕ) (after : Directory) (replies : List Reply) (past : List Act) : Type 0 where
   pub licensed : ActsLicensed size (reply_acts heard replies ++ past)
   pub stands : StandsFor size after (reply_acts heard replies ++ past)
   pub served : SomebodyIsAwaited (reply_acts heard replies ++ past)
+  pub recalled : AllAreRecalled (reply_acts heard replies ++ past)
 
 -- the taking of a message of the host
 abbrev pub taking_act : ℕ → UpWord → Act

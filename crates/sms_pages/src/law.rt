@@ -10,7 +10,8 @@ ghost use Rattle.vm_model.specs.Server.{line, NoRequest, NoUpgrade};
 ghost use Rattle.sms_pages.specs.Stands.{StandsFor, Hears, RepliesHaveCause, taking_act};
 
 /// The law of a page's directory: where it stands for the history of its page, each message that the
-/// server takes leaves it standing for the history with that message, and each reply has its cause.
+/// server takes leaves it standing for the history with that message, each reply has its cause, and
+/// behind them each host is awaited that stands in the way of the first in line.
 ///
 /// It asks of the hosts what their own rules give: one request and one unlock at a time, and a
 /// completion or an end that speaks of the control for which the host is awaited. `heard` is the

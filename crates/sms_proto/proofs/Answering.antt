@@ -24,7 +24,7 @@ use Rattle.sms_pages.specs.declared.reply.Reply.TheVariants as reply
 use Rattle.sms_pages.specs.Directory.{Directory, IsServedDirectory, IsSame, wanted_access}
 use Rattle.sms_pages.specs.Desk.{AllLong}
 use Rattle.std.specs.VecDeque.{deque_len, deque_capacity}
-use Rattle.sms_pages.specs.Stands.{DirectoryStands, StandsFor, RepliesHaveCause, Hears, lock_number, reply_act, reply_acts, taking_act}
+use Rattle.sms_pages.specs.Stands.{AllAreRecalled, DirectoryStands, StandsFor, RepliesHaveCause, Hears, lock_number, reply_act, reply_acts, taking_act}
 use Rattle.sms_pages.proofs.Taken.{request_taken, unlock_taken, after_return, completed_taken, end_taken}
 use Rattle.sms_pages.proofs.Following.{serving}
 use Rattle.sms_proto.specs.declared.kernel.Kernel.{Kernel}
@@ -240,6 +240,7 @@ answering_sent size h ks d rest r old new k m within is mine a added fits same h
             licensed = subst (λ (l : List Act). ActsLicensed size l) moved a.answered.licensed;
             stands = subst (λ (l : List Act). StandsFor size d l) moved a.answered.stands;
             served = subst (λ (l : List Act). SomebodyIsAwaited l) moved a.answered.served;
+            recalled = subst (λ (l : List Act). AllAreRecalled l) moved a.answered.recalled;
           }
 
       none : (r : Reply) → begins_step (reply_act (heard_in ks) r).effect ≡ true → Done (world_part size old)

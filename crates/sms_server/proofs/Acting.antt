@@ -7,6 +7,7 @@ use Rattle.sms_pages.specs.declared.reply.Reply.{Reply}
 use Rattle.sms_pages.specs.declared.reply.Reply.TheVariants.{Supply, Flush, CleanLock, Unlock}
 use Rattle.vm_base.specs.declared.ids.ObjectId.{ObjectId}
 use Rattle.vm_legal.proofs.Answering.{itself}
+use Rattle.vm_legal.specs.InTurn.{AllRecalled}
 use Rattle.vm_legal.specs.Outside.{is_shared}
 use Rattle.vm_model.specs.PageLicences.{ActsLicensed}
 use Rattle.vm_model.specs.PagePart.{page_part}
@@ -19,7 +20,7 @@ use Rattle.vm_model.specs.declared.message.Channel.TheVariants.{Up, Down}
 use Rattle.vm_model.specs.declared.message.Message.{Message}
 use Rattle.vm_model.specs.declared.message.Message.TheVariants as message
 use Rattle.vm_model.specs.declared.script.Header.{Header}
-use Rattle.sms_server.proofs.Quiet.{hears_quiet, is_word, served_quiet, stands_quiet}
+use Rattle.sms_server.proofs.Quiet.{hears_quiet, is_word, recalled_quiet, served_quiet, stands_quiet}
 use Rattle.sms_server.specs.Answers.{page_no, reply_events, reply_host, reply_message}
 use Rattle.sms_server.specs.Stands.{IsOther, ServerStands, taking}
 use Rattle.vm_legal.specs.Prompt.{AllServed}
@@ -110,6 +111,10 @@ others_stand header table e past other s = record {
 pub others_serve : (header : Header) (e : Event) (past : List Event) → IsOther header e → AllServed header past → AllServed header (e ∷ past)
 others_serve header e past other served o p shared =
     served_quiet (act_in header.size o p e past) (page_part header.size o p past) (quiet_event header o p e past shared other) (served o p shared)
+
+pub others_recall : (header : Header) (e : Event) (past : List Event) → IsOther header e → AllRecalled header past → AllRecalled header (e ∷ past)
+others_recall header e past other recalled o p host w shared front way =
+    recalled_quiet (act_in header.size o p e past) (page_part header.size o p past) (quiet_event header o p e past shared other) (λ g v at stands. recalled o p g v shared at stands) host w front way
 
 -- What the server takes, and what it sends.
 

@@ -1,6 +1,7 @@
 pub mod Keyed
 pub mod Replying
 pub mod Looping
+pub mod Readers
 pub mod Quiet
 pub mod Acting
 pub mod Serving

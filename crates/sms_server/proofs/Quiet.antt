@@ -2,11 +2,12 @@
 use Rattle.std.proofs.Common.{◌≡◌, ◌<◌, ◌==◌, ℕ, List, ◌∷◌, refl, ap, subst, sym, ◌∙◌, Bool, true, false, if◌then◌else◌}
 use Rattle.std.proofs.lemmas.Bool.{false≢true}
 use Rattle.sms_pages.proofs.Facts.{counted_same}
-use Rattle.sms_pages.specs.Directory.{Directory}
-use Rattle.sms_pages.specs.Stands.{Hears, StandsFor}
+use Rattle.sms_pages.specs.Directory.{Directory, is_recalled}
+use Rattle.sms_pages.specs.Stands.{AllAreRecalled, Hears, StandsFor}
 use Rattle.vm_model.specs.Coherence.{SomebodyIsAwaited}
-use Rattle.vm_model.specs.Server.{Wanting, joined, kept, kept_after, line, trimmed_line}
+use Rattle.vm_model.specs.Server.{Wanting, first, joined, kept, kept_after, line, trimmed_line}
 use Rattle.vm_model.specs.Side.{Side, is_open_to, side, side_after, side_taken_down}
+use Rattle.sms_server.proofs.Readers.{none_leaves, only_readers}
 use Rattle.vm_model.specs.Words.{UpWord, Asking, Unlocking, Returning, Doing, Ending, OtherUp, DownWord, Supplying, Locking, Lacking, Failing, Readying, OtherDown, ActEffect, Opens, SendsUp, TakenUp, SentDown, TakesDown, Puts, Drops, Begins, Loads, Stores, Fails, BeginsCopy, Copies, EndsCopy, StepBegins, Nothing, Act, effect_on, to_others}
 
 -- the act is a word of the page to the server, or from it
@@ -191,3 +192,25 @@ served_quiet a past none served some =
     let was = served (λ e. some (line_quiet a past none ∙ ap (trimmed_line a.host (side a.host past).holds) e)) in
     let same = same_of a past none was.0 in
     (was.0, subst (λ (n : ℕ). 0 < n) (sym same.awaits) was.1)
+
+-- and so is each that stands in the way of the first in line
+pub recalled_quiet : (a : Act) (past : List Act) → is_word a.effect ≡ false → AllAreRecalled past → AllAreRecalled (a ∷ past)
+recalled_quiet a past none recalled host w front way =
+    let same = same_of a past none host in
+    let kept : line (a ∷ past) ≡ line past = line_quiet a past none ∙ none_leaves a.host (λ k. (side k past).holds) (line past) (only_readers past) in
+    subst (λ (n : ℕ). 0 < n) (sym same.awaits)
+    (recalled host w (ap (λ (l : List Wanting). first l) (sym kept) ∙ front) (subst (λ (n : ℕ). is_recalled w host n 0 ≡ true) same.holds way))
+
+-- what held of the line in front of some acts holds behind them: where somebody waits a host is awaited, and so is each in the way
+pub record StillServed (before part : List Act) : Type 0 where
+  pub somebody : SomebodyIsAwaited before → SomebodyIsAwaited part
+  pub recalled : AllAreRecalled before → AllAreRecalled part
+
+pub still_quiet : (a : Act) (before past : List Act) → is_word a.effect ≡ false → StillServed before past → StillServed before (a ∷ past)
+still_quiet a before past none still = record {
+  somebody = λ was. served_quiet a past none (still.somebody was);
+  recalled = λ was. recalled_quiet a past none (still.recalled was);
+}
+
+pub still_same : (past : List Act) → StillServed past past
+still_same past = record { somebody = λ was. was; recalled = λ was. was }

@@ -14,9 +14,9 @@ use Rattle.vm_base.specs.declared.ids.ObjectKind.{ObjectKind}
 use Rattle.vm_base.specs.declared.ids.ObjectKind.TheVariants.{Temp, File, Shared, Wild}
 use Rattle.vm_legal.proofs.Stretched.{licensed_both}
 use Rattle.vm_legal.proofs.Owing.{behind_none}
-use Rattle.vm_legal.specs.Licences.{AllLicensed, PagerSends, ServerSends, owed}
+use Rattle.vm_legal.specs.Licences.{PagerSends, ServerSends, owed}
+use Rattle.vm_legal.specs.InTurn.{AllInTurn}
 use Rattle.vm_legal.specs.Outside.{Outside, is_shared, is_shared_kind, kind_of}
-use Rattle.vm_model.specs.Coherence.{SomebodyIsAwaited}
 use Rattle.vm_model.specs.PageLicences.{ActsLicensed, ReplyCause}
 use Rattle.vm_model.specs.PagePart.{page_part}
 use Rattle.vm_model.specs.Words.{UpWord, Asking, Unlocking, Returning, Doing, Ending, OtherUp, Supplying, Locking, Act, up_word}
@@ -26,23 +26,23 @@ use Rattle.vm_model.specs.declared.message.Message.{Message}
 use Rattle.vm_model.specs.declared.message.Message.TheVariants as message
 use Rattle.vm_model.specs.declared.script.Header.{Header}
 use Rattle.sms_server.proofs.Acting.{AreFree, act_in, free_both, free_licensed, free_quiet, own_replies, own_taken, replies_free}
-use Rattle.sms_server.proofs.Quiet.{hears_quiet, served_quiet, stands_quiet}
+use Rattle.sms_server.proofs.Quiet.{StillServed, hears_quiet, stands_quiet, still_quiet, still_same}
 use Rattle.sms_server.specs.Answers.{DirectoryAfter, RisesFrom, changed_by, heard_by, is_among, page_events, page_no, replies_to, reply_event, reply_events, stretches}
 use Rattle.sms_server.specs.Stands.{MeetsProtocol, ServerServes, taking}
 use Rattle.sms_server.specs.Table.{ServerTable, directory_at, heard_at}
 
--- a page that took a word and is to answer; `was` says that it was served before
-pub record ToAnswer (size h : ℕ) (w : UpWord) (d : Directory) (heard : ℕ → ℕ) (was : Type 0) (part : List Act) : Type 0 where
+-- a page that took a word and is to answer; `before` is what it was in front of the step
+pub record ToAnswer (size h : ℕ) (w : UpWord) (d : Directory) (heard : ℕ → ℕ) (before part : List Act) : Type 0 where
   pub licensed : ActsLicensed size part
   pub stands : StandsFor size (changed_by h w d) part
   pub hears : Hears (heard_by h w heard) part
-  pub served : w ≡ OtherUp → was → SomebodyIsAwaited part
+  pub served : w ≡ OtherUp → StillServed before part
 
 -- a page that has answered
-pub record HasAnswered (size : ℕ) (d : Directory) (heard : ℕ → ℕ) (was : Type 0) (part : List Act) : Type 0 where
+pub record HasAnswered (size : ℕ) (d : Directory) (heard : ℕ → ℕ) (before part : List Act) : Type 0 where
   pub stands : StandsFor size d part
   pub hears : Hears heard part
-  pub served : was → SomebodyIsAwaited part
+  pub served : StillServed before part
 
 -- the taking
 
@@ -62,13 +62,13 @@ hears_taken h (Doing control count) heard past hears g = let was = hears g in gr
 hears_taken h (Ending control) heard past hears g = let was = hears g in grind (arith, nat_tests)
 hears_taken h OtherUp heard past hears g = hears_quiet heard (taking_act h OtherUp) past refl hears g
 
-served_taken : (h : ℕ) (w : UpWord) (past : List Act) → w ≡ OtherUp → SomebodyIsAwaited past → SomebodyIsAwaited (taking_act h w ∷ past)
-served_taken h w past other was = subst (λ (v : UpWord). SomebodyIsAwaited (taking_act h v ∷ past)) (sym other) (served_quiet (taking_act h OtherUp) past refl was)
+served_taken : (h : ℕ) (w : UpWord) (past : List Act) → w ≡ OtherUp → StillServed past (taking_act h w ∷ past)
+served_taken h w past other = subst (λ (v : UpWord). StillServed past (taking_act h v ∷ past)) (sym other) (still_quiet (taking_act h OtherUp) past past refl (still_same past))
 
 pub taken : (header : Header) (h : ℕ) (past : List Event) (object : ObjectId) (m : Message) (old new : ServerTable) (events : List Event) → ServerServes header h past object m old new events → (p : ℕ)
-    → ToAnswer header.size h (up_word p m) (directory_at old object.0 p) (heard_at old object.0 p) (SomebodyIsAwaited (page_part header.size object.0 p past)) (page_part header.size object.0 p (taking h object m past))
+    → ToAnswer header.size h (up_word p m) (directory_at old object.0 p) (heard_at old object.0 p) (page_part header.size object.0 p past) (page_part header.size object.0 p (taking h object m past))
 taken header h past object m old new events s p =
-    subst (ToAnswer header.size h (up_word p m) (directory_at old object.0 p) (heard_at old object.0 p) (SomebodyIsAwaited (page_part header.size object.0 p past))) (sym same) (record {
+    subst (ToAnswer header.size h (up_word p m) (directory_at old object.0 p) (heard_at old object.0 p) (page_part header.size object.0 p past)) (sym same) (record {
       licensed = subst (ActsLicensed header.size) same (s.licensed p);
       stands = stands_taken header.size h (up_word p m) (directory_at old object.0 p) part s.host (s.stands.pages object.0 p s.shared) (s.protocol p);
       hears = hears_taken h (up_word p m) (heard_at old object.0 p) part (s.stands.heard object.0 p s.shared);
@@ -102,19 +102,19 @@ hears_replies heard (CleanLock host ∷ rs) past hears = heard_kept heard host.0
 hears_replies heard (Unlock host ∷ rs) past hears = heard_kept heard host.0 (heard host.0) _ (reply_acts heard rs ++ past) (hears_replies heard rs past hears)
 
 -- the page's acts behind its answer
-pub record Answering (size : ℕ) (d : Directory) (heard : ℕ → ℕ) (was : Type 0) (replies : List Reply) (part : List Act) : Type 0 where
+pub record Answering (size : ℕ) (d : Directory) (heard : ℕ → ℕ) (before : List Act) (replies : List Reply) (part : List Act) : Type 0 where
   pub licensed : ActsLicensed size (reply_acts heard replies ++ part)
-  pub answered : HasAnswered size d heard was (reply_acts heard replies ++ part)
+  pub answered : HasAnswered size d heard before (reply_acts heard replies ++ part)
 
-pub answers : (size h : ℕ) (w : UpWord) (old new : Directory) (heard : ℕ → ℕ) (was : Type 0) (part : List Act) → ToAnswer size h w old heard was part → DirectoryAfter h w old new
-    → Answering size new (heard_by h w heard) was (replies_to h w old) part
-answers size h w old new heard was part t after =
+pub answers : (size h : ℕ) (w : UpWord) (old new : Directory) (heard : ℕ → ℕ) (before part : List Act) → ToAnswer size h w old heard before part → DirectoryAfter h w old new
+    → Answering size new (heard_by h w heard) before (replies_to h w old) part
+answers size h w old new heard before part t after =
     ⊎_elim
-    (λ (o : (w ≡ OtherUp) × IsSame old new). subst (λ (v : UpWord). ToAnswer size h v old heard was part → Answering size new (heard_by h v heard) was (replies_to h v old) part) (sym o.0)
+    (λ (o : (w ≡ OtherUp) × IsSame old new). subst (λ (v : UpWord). ToAnswer size h v old heard before part → Answering size new (heard_by h v heard) before (replies_to h v old) part) (sym o.0)
     (λ u. record { licensed = u.licensed; answered = record { stands = same_stands size old new part o.1 u.stands; hears = u.hears; served = u.served refl } }) t)
     (λ (is : IsServedDirectory (changed_by h w old) new (replies_to h w old)).
     let r = serving size (heard_by h w heard) (changed_by h w old) new (replies_to h w old) part t.licensed t.stands t.hears is in
-    record { licensed = r.licensed; answered = record { stands = r.stands; hears = hears_replies (heard_by h w heard) (replies_to h w old) part t.hears; served = λ before. r.served } })
+    record { licensed = r.licensed; answered = record { stands = r.stands; hears = hears_replies (heard_by h w heard) (replies_to h w old) part t.hears; served = record { somebody = λ was. r.served; recalled = λ was. r.recalled } } })
     (after_word h w old new after)
 
 -- what the server sends has its cause
@@ -138,7 +138,7 @@ owed_replies object p heard (CleanLock host ∷ rs) past none = refl
 owed_replies object p heard (Unlock host ∷ rs) past none = refl
 
 pub replies_caused : (header : Header) (outside : Outside) (doing : Command) (object : ObjectId) (p : ℕ) (heard : ℕ → ℕ) (rs : List Reply) (past : List Event) → is_shared header object.0 ≡ true → owed past ≡ None
-    → ActsLicensed header.size (reply_acts heard rs ++ page_part header.size object.0 p past) → AllLicensed header outside doing (reply_events object (page_no p) heard rs) past
+    → ActsLicensed header.size (reply_acts heard rs ++ page_part header.size object.0 p past) → AllInTurn header outside doing (reply_events object (page_no p) heard rs) past
 replies_caused header outside doing object p heard [] past shared none licensed = tt
 replies_caused header outside doing object p heard (Supply host lock bytes ∷ rs) past shared none licensed = (
   (
@@ -171,23 +171,23 @@ replies_caused header outside doing object p heard (Unlock host ∷ rs) past sha
 
 -- all pages, in their turn
 
-pub answered_free : (size : ℕ) (d : Directory) (heard : ℕ → ℕ) (was : Type 0) (o p : ℕ) (es past : List Event) → AreFree size o p es past → HasAnswered size d heard was (page_part size o p past) → HasAnswered size d heard was (page_part size o p (es ++ past))
-answered_free size d heard was o p [] past free a = a
-answered_free size d heard was o p (e ∷ es) past free a =
-    let rest = answered_free size d heard was o p es past free.1 a in
+pub answered_free : (size : ℕ) (d : Directory) (heard : ℕ → ℕ) (before : List Act) (o p : ℕ) (es past : List Event) → AreFree size o p es past → HasAnswered size d heard before (page_part size o p past) → HasAnswered size d heard before (page_part size o p (es ++ past))
+answered_free size d heard before o p [] past free a = a
+answered_free size d heard before o p (e ∷ es) past free a =
+    let rest = answered_free size d heard before o p es past free.1 a in
     let act = act_in size o p e (es ++ past) in
     let part = page_part size o p (es ++ past) in
     let none = free_quiet act.effect free.0 in
     record {
       stands = stands_quiet size d act part none rest.stands;
       hears = hears_quiet heard act part none rest.hears;
-      served = λ before. served_quiet act part none (rest.served before);
+      served = still_quiet act before part none rest.served;
     }
 
-waits_free : (size h : ℕ) (w : UpWord) (d : Directory) (heard : ℕ → ℕ) (was : Type 0) (o p : ℕ) (es past : List Event) → AreFree size o p es past → ToAnswer size h w d heard was (page_part size o p past) → ToAnswer size h w d heard was (page_part size o p (es ++ past))
-waits_free size h w d heard was o p [] past free a = a
-waits_free size h w d heard was o p (e ∷ es) past free a =
-    let rest = waits_free size h w d heard was o p es past free.1 a in
+waits_free : (size h : ℕ) (w : UpWord) (d : Directory) (heard : ℕ → ℕ) (before : List Act) (o p : ℕ) (es past : List Event) → AreFree size o p es past → ToAnswer size h w d heard before (page_part size o p past) → ToAnswer size h w d heard before (page_part size o p (es ++ past))
+waits_free size h w d heard before o p [] past free a = a
+waits_free size h w d heard before o p (e ∷ es) past free a =
+    let rest = waits_free size h w d heard before o p es past free.1 a in
     let act = act_in size o p e (es ++ past) in
     let part = page_part size o p (es ++ past) in
     let none = free_quiet act.effect free.0 in
@@ -195,27 +195,27 @@ waits_free size h w d heard was o p (e ∷ es) past free a =
       licensed = free_licensed size act.host act.effect part free.0 rest.licensed;
       stands = stands_quiet size (changed_by h w d) act part none rest.stands;
       hears = hears_quiet (heard_by h w heard) act part none rest.hears;
-      served = λ other before. served_quiet act part none (rest.served other before);
+      served = λ other. still_quiet act before part none (rest.served other);
     }
 
 -- who answers, for a message of a host about an object
-pub record Asked (header : Header) (h : ℕ) (object : ObjectId) (m : Message) (old new : ServerTable) (was : ℕ → Type 0) : Type 0 where
+pub record Asked (header : Header) (h : ℕ) (object : ObjectId) (m : Message) (old new : ServerTable) (before : ℕ → List Act) : Type 0 where
   pub shared : is_shared header object.0 ≡ true
   pub after : (p : ℕ) → DirectoryAfter h (up_word p m) (directory_at old object.0 p) (directory_at new object.0 p)
 
-abbrev pub Waits : (header : Header) (h : ℕ) (object : ObjectId) (m : Message) (old : ServerTable) (was : ℕ → Type 0) → ℕ → List Event → Type 0
-Waits header h object m old was p past = ToAnswer header.size h (up_word p m) (directory_at old object.0 p) (heard_at old object.0 p) (was p) (page_part header.size object.0 p past)
+abbrev pub Waits : (header : Header) (h : ℕ) (object : ObjectId) (m : Message) (old : ServerTable) (before : ℕ → List Act) → ℕ → List Event → Type 0
+Waits header h object m old before p past = ToAnswer header.size h (up_word p m) (directory_at old object.0 p) (heard_at old object.0 p) (before p) (page_part header.size object.0 p past)
 
-abbrev pub Done : (header : Header) (h : ℕ) (object : ObjectId) (m : Message) (old new : ServerTable) (was : ℕ → Type 0) → ℕ → List Event → Type 0
-Done header h object m old new was p past = HasAnswered header.size (directory_at new object.0 p) (heard_by h (up_word p m) (heard_at old object.0 p)) (was p) (page_part header.size object.0 p past)
+abbrev pub Done : (header : Header) (h : ℕ) (object : ObjectId) (m : Message) (old new : ServerTable) (before : ℕ → List Act) → ℕ → List Event → Type 0
+Done header h object m old new before p past = HasAnswered header.size (directory_at new object.0 p) (heard_by h (up_word p m) (heard_at old object.0 p)) (before p) (page_part header.size object.0 p past)
 
 -- one page, whose events come now
-pub one_answers : (header : Header) (outside : Outside) (doing : Command) (h : ℕ) (object : ObjectId) (m : Message) (old new : ServerTable) (was : ℕ → Type 0) (p : ℕ) (past : List Event) → Asked header h object m old new was
-    → owed past ≡ None → Waits header h object m old was p past
-    → Done header h object m old new was p (page_events old h object m p ++ past) × AllLicensed header outside doing (page_events old h object m p) past
-one_answers header outside doing h object m old new was p past a none waits =
-    let r = answers header.size h (up_word p m) (directory_at old object.0 p) (directory_at new object.0 p) (heard_at old object.0 p) (was p) (page_part header.size object.0 p past) waits (a.after p) in (
-      subst (HasAnswered header.size (directory_at new object.0 p) (heard_by h (up_word p m) (heard_at old object.0 p)) (was p)) (sym (own_replies header.size p object (heard_by h (up_word p m) (heard_at old object.0 p)) (replies_to h (up_word p m) (directory_at old object.0 p)) past)) r.answered,
+pub one_answers : (header : Header) (outside : Outside) (doing : Command) (h : ℕ) (object : ObjectId) (m : Message) (old new : ServerTable) (before : ℕ → List Act) (p : ℕ) (past : List Event) → Asked header h object m old new before
+    → owed past ≡ None → Waits header h object m old before p past
+    → Done header h object m old new before p (page_events old h object m p ++ past) × AllInTurn header outside doing (page_events old h object m p) past
+one_answers header outside doing h object m old new before p past a none waits =
+    let r = answers header.size h (up_word p m) (directory_at old object.0 p) (directory_at new object.0 p) (heard_at old object.0 p) (before p) (page_part header.size object.0 p past) waits (a.after p) in (
+      subst (HasAnswered header.size (directory_at new object.0 p) (heard_by h (up_word p m) (heard_at old object.0 p)) (before p)) (sym (own_replies header.size p object (heard_by h (up_word p m) (heard_at old object.0 p)) (replies_to h (up_word p m) (directory_at old object.0 p)) past)) r.answered,
       replies_caused header outside doing object p (heard_by h (up_word p m) (heard_at old object.0 p)) (replies_to h (up_word p m) (directory_at old object.0 p)) past a.shared none r.licensed,
     )
 
@@ -245,26 +245,26 @@ low_apart n q (p ∷ ps) rises low =
     rw no (low_apart (suc p) q ps rises.1 (omega (arith, rises.0)))
 
 -- what pages by rising number leave, and that they may
-pub record InTurn (header : Header) (outside : Outside) (doing : Command) (h : ℕ) (object : ObjectId) (m : Message) (old new : ServerTable) (was : ℕ → Type 0) (ps : List ℕ) (past : List Event) : Type 0 where
-  pub done : (q : ℕ) → is_among q ps ≡ true → Done header h object m old new was q (stretches old h object m ps ++ past)
-  pub licensed : AllLicensed header outside doing (stretches old h object m ps) past
+pub record InTurn (header : Header) (outside : Outside) (doing : Command) (h : ℕ) (object : ObjectId) (m : Message) (old new : ServerTable) (before : ℕ → List Act) (ps : List ℕ) (past : List Event) : Type 0 where
+  pub done : (q : ℕ) → is_among q ps ≡ true → Done header h object m old new before q (stretches old h object m ps ++ past)
+  pub licensed : AllInTurn header outside doing (stretches old h object m ps) past
 
-pub in_turn : (header : Header) (outside : Outside) (doing : Command) (h : ℕ) (object : ObjectId) (m : Message) (old new : ServerTable) (was : ℕ → Type 0) (n : ℕ) (ps : List ℕ) (past : List Event) → Asked header h object m old new was
-    → RisesFrom n ps → owed past ≡ None → ((q : ℕ) → n ≤ q → Waits header h object m old was q past) → InTurn header outside doing h object m old new was ps past
-in_turn header outside doing h object m old new was n [] past a rises none waits = record { done = λ q is. absurd (false≢true is); licensed = tt }
-in_turn header outside doing h object m old new was n (p ∷ ps) past a rises none waits =
-    let first = one_answers header outside doing h object m old new was p past a none (waits p rises.0) in
-    let rest = in_turn header outside doing h object m old new was (suc p) ps (page_events old h object m p ++ past) a rises.1
+pub in_turn : (header : Header) (outside : Outside) (doing : Command) (h : ℕ) (object : ObjectId) (m : Message) (old new : ServerTable) (before : ℕ → List Act) (n : ℕ) (ps : List ℕ) (past : List Event) → Asked header h object m old new before
+    → RisesFrom n ps → owed past ≡ None → ((q : ℕ) → n ≤ q → Waits header h object m old before q past) → InTurn header outside doing h object m old new before ps past
+in_turn header outside doing h object m old new before n [] past a rises none waits = record { done = λ q is. absurd (false≢true is); licensed = tt }
+in_turn header outside doing h object m old new before n (p ∷ ps) past a rises none waits =
+    let first = one_answers header outside doing h object m old new before p past a none (waits p rises.0) in
+    let rest = in_turn header outside doing h object m old new before (suc p) ps (page_events old h object m p ++ past) a rises.1
     (owed_replies object p (heard_by h (up_word p m) (heard_at old object.0 p)) (replies_to h (up_word p m) (directory_at old object.0 p)) past none)
-    (λ q high. waits_free header.size h (up_word q m) (directory_at old object.0 q) (heard_at old object.0 q) (was q) object.0 q (page_events old h object m p) past
+    (λ q high. waits_free header.size h (up_word q m) (directory_at old object.0 q) (heard_at old object.0 q) (before q) object.0 q (page_events old h object m p) past
     (page_free header.size h object.0 q p object m old past (λ same. grind (arith, nat_tests))) (waits q (omega (arith, rises.0)))) in
     record {
-      done = λ q is. subst (λ (l : List Event). Done header h object m old new was q l) (sym (append_assoc (stretches old h object m ps) (page_events old h object m p) past))
+      done = λ q is. subst (λ (l : List Event). Done header h object m old new before q l) (sym (append_assoc (stretches old h object m ps) (page_events old h object m p) past))
           (⊎_elim
           (λ (same : (p == q) ≡ true).
           let e : p ≡ q = grind (arith, nat_tests, same) in
-          subst (λ (k : ℕ). Done header h object m old new was k (stretches old h object m ps ++ (page_events old h object m p ++ past))) e
-          (answered_free header.size (directory_at new object.0 p) (heard_by h (up_word p m) (heard_at old object.0 p)) (was p) object.0 p (stretches old h object m ps) (page_events old h object m p ++ past)
+          subst (λ (k : ℕ). Done header h object m old new before k (stretches old h object m ps ++ (page_events old h object m p ++ past))) e
+          (answered_free header.size (directory_at new object.0 p) (heard_by h (up_word p m) (heard_at old object.0 p)) (before p) object.0 p (stretches old h object m ps) (page_events old h object m p ++ past)
           (stretches_free header.size h object.0 p object m old ps (page_events old h object m p ++ past) (λ own. low_apart (suc p) p ps rises.1 (omega arith))) first.0))
           (λ (other : (p == q) ≡ false). rest.done q (rw other at is))
           (cases_Bool (p == q)));

@@ -4,9 +4,8 @@ use Rattle.std.proofs.lemmas.Bool.{cases_Bool, false≢true}
 use Rattle.std.proofs.lemmas.Bool.Decides.{nat_tests}
 use Rattle.sms_pages.specs.Stands.{Hears, StandsFor}
 use Rattle.vm_base.specs.declared.ids.ObjectId.{ObjectId}
-use Rattle.vm_legal.specs.Licences.{AllLicensed}
+use Rattle.vm_legal.specs.InTurn.{AllInTurn, AllRecalled}
 use Rattle.vm_legal.specs.Outside.{Outside, Untold, is_shared}
-use Rattle.vm_model.specs.Coherence.{SomebodyIsAwaited}
 use Rattle.vm_model.specs.PagePart.{page_part}
 use Rattle.vm_model.specs.Words.{OtherUp, Readying, SentDown, Act, in_range, up_word}
 use Rattle.vm_model.specs.declared.command.Command.{Command}
@@ -16,7 +15,7 @@ use Rattle.vm_model.specs.declared.message.Message.{Message}
 use Rattle.vm_model.specs.declared.message.Message.TheVariants as message
 use Rattle.vm_model.specs.declared.script.Header.{Header}
 use Rattle.sms_server.proofs.Acting.{AreFree, foreign_taken, free_if, step_act}
-use Rattle.sms_server.proofs.Quiet.{hears_quiet, served_quiet, stands_quiet}
+use Rattle.sms_server.proofs.Quiet.{StillServed, hears_quiet, stands_quiet, still_quiet, still_same}
 use Rattle.sms_server.proofs.Serving.{Asked, Done, HasAnswered, InTurn, answered_free, in_turn, one_answers, same_stands, sends, stretches_free, taken}
 use Rattle.sms_server.specs.Answers.{AnswerEvents, AnswersInTurn, IsToServer, is_among, page_events, sent_to, stretches}
 use Rattle.sms_server.specs.Stands.{ServerServes, ServerStands, taking}
@@ -75,25 +74,25 @@ turns old h object (message.Lock page count returns flush lock reply) events to 
 turns old h object (message.Attributes cache strategy reply) events to other is = absurd to
 turns old h object (message.Destroy reason) events to other is = absurd to
 
--- which pages were served before
-abbrev pub Was : Header → ObjectId → List Event → ℕ → Type 0
-Was header object past p = SomebodyIsAwaited (page_part header.size object.0 p past)
+-- what the pages were in front of the step
+abbrev pub parts : Header → ObjectId → List Event → ℕ → List Act
+parts header object past p = page_part header.size object.0 p past
 
 -- what an answer leaves: of each page of its object, and of those of others
 pub record Whole (header : Header) (outside : Outside) (doing : Command) (h : ℕ) (past : List Event) (object : ObjectId) (m : Message) (old new : ServerTable) (events : List Event) : Type 0 where
-  pub own : (q : ℕ) → Done header h object m old new (Was header object past) q (events ++ taking h object m past)
+  pub own : (q : ℕ) → Done header h object m old new (parts header object past) q (events ++ taking h object m past)
   pub foreign : (o q : ℕ) → (object.0 == o) ≡ false → AreFree header.size o q events (taking h object m past)
-  pub licensed : AllLicensed header outside doing events (taking h object m past)
+  pub licensed : AllInTurn header outside doing events (taking h object m past)
 
-asked : (header : Header) (h : ℕ) (past : List Event) (object : ObjectId) (m : Message) (old new : ServerTable) (events : List Event) → ServerServes header h past object m old new events → Asked header h object m old new (Was header object past)
+asked : (header : Header) (h : ℕ) (past : List Event) (object : ObjectId) (m : Message) (old new : ServerTable) (events : List Event) → ServerServes header h past object m old new events → Asked header h object m old new (parts header object past)
 asked header h past object m old new events s = record { shared = s.shared; after = λ p. let a = s.answered.pages p in a.directory }
 
 -- a page that has nothing to say
 at_once : (header : Header) (outside : Outside) (doing : Command) (h : ℕ) (past : List Event) (object : ObjectId) (m : Message) (old new : ServerTable) (events : List Event) → ServerServes header h past object m old new events → (q : ℕ)
-    → page_events old h object m q ≡ [] → Done header h object m old new (Was header object past) q (taking h object m past)
+    → page_events old h object m q ≡ [] → Done header h object m old new (parts header object past) q (taking h object m past)
 at_once header outside doing h past object m old new events s q none =
-    let one = one_answers header outside doing h object m old new (Was header object past) q (taking h object m past) (asked header h past object m old new events s) refl (taken header h past object m old new events s q) in
-    subst (λ (es : List Event). Done header h object m old new (Was header object past) q (es ++ taking h object m past)) none one.0
+    let one = one_answers header outside doing h object m old new (parts header object past) q (taking h object m past) (asked header h past object m old new events s) refl (taken header h past object m old new events s q) in
+    subst (λ (es : List Event). Done header h object m old new (parts header object past) q (es ++ taking h object m past)) none one.0
 
 whole_turn : (header : Header) (outside : Outside) (doing : Command) (h : ℕ) (past : List Event) (object : ObjectId) (m : Message) (old new : ServerTable) (events : List Event) → ServerServes header h past object m old new events
     → AnswersInTurn old h object m events → Whole header outside doing h past object m old new events
@@ -102,7 +101,7 @@ whole_turn header outside doing h past object m old new events s t =
       own = λ q. ⊎_elim
           (λ (is : is_among q t.pages ≡ true). all.done q is)
           (λ (none : is_among q t.pages ≡ false).
-          answered_free header.size (directory_at new object.0 q) _ (Was header object past q) object.0 q (stretches old h object m t.pages) first
+          answered_free header.size (directory_at new object.0 q) _ (parts header object past q) object.0 q (stretches old h object m t.pages) first
           (stretches_free header.size h object.0 q object m old t.pages first (λ own. none)) (at_once header outside doing h past object m old new events s q (t.silent q none)))
           (cases_Bool (is_among q t.pages));
       foreign = λ o q apart. stretches_free header.size h o q object m old t.pages first (λ same. absurd (apart_not object.0 o apart same));
@@ -115,14 +114,14 @@ whole_turn header outside doing h past object m old new events s t =
     apart_not : (a b : ℕ) → (a == b) ≡ false → a ≡ b → ⊥
     apart_not a b apart same = grind (arith, nat_tests)
 
-    all : InTurn header outside doing h object m old new (Was header object past) t.pages first
-    all = in_turn header outside doing h object m old new (Was header object past) 0 t.pages first (asked header h past object m old new events s) t.rising refl (λ q high. taken header h past object m old new events s q)
+    all : InTurn header outside doing h object m old new (parts header object past) t.pages first
+    all = in_turn header outside doing h object m old new (parts header object past) 0 t.pages first (asked header h past object m old new events s) t.rising refl (λ q high. taken header h past object m old new events s q)
 
 whole_ready : (header : Header) (outside : Outside) (doing : Command) (h : ℕ) (past : List Event) (object : ObjectId) (control size : ℕ) (old new : ServerTable) (events : List Event) → ServerServes header h past object (message.Init control size) old new events
     → events ≡ sent_to (record { 0 = h }) object control (message.Ready false 0) ∷ [] → Whole header outside doing h past object (message.Init control size) old new events
 whole_ready header outside doing h past object control size old new events s is =
     subst (Whole header outside doing h past object m old new) (sym is) (record {
-      own = λ q. answered_free header.size (directory_at new object.0 q) _ (Was header object past q) object.0 q (ready ∷ []) first (free object.0 q) (at_once header outside doing h past object m old new events s q refl);
+      own = λ q. answered_free header.size (directory_at new object.0 q) _ (parts header object past q) object.0 q (ready ∷ []) first (free object.0 q) (at_once header outside doing h past object m old new events s q refl);
       foreign = λ o q apart. free o q;
       licensed = ((sends header outside doing h object control (message.Ready false 0) first s.shared (size, refl, refl, refl, refl), tt), tt);
     })
@@ -148,7 +147,7 @@ whole header outside doing h past object m old new events s = whole_turn header 
 record Elsewhere (header : Header) (h : ℕ) (past : List Event) (object : ObjectId) (m : Message) (old new : ServerTable) (events : List Event) (o p : ℕ) : Type 0 where
   stands : StandsFor header.size (directory_at new o p) (page_part header.size o p (events ++ taking h object m past))
   hears : Hears (heard_at new o p) (page_part header.size o p (events ++ taking h object m past))
-  served : SomebodyIsAwaited (page_part header.size o p past) → SomebodyIsAwaited (page_part header.size o p (events ++ taking h object m past))
+  served : StillServed (page_part header.size o p past) (page_part header.size o p (events ++ taking h object m past))
 
 same_hears : (old new : ℕ → ℕ) (part : List Act) → ((g : ℕ) → new g ≡ old g) → Hears old part → Hears new part
 same_hears old new part same hears g = same g ∙ hears g
@@ -158,13 +157,13 @@ elsewhere : (header : Header) (h : ℕ) (past : List Event) (object : ObjectId) 
 elsewhere header h past object m old new events o p s free shared apart =
     let part = page_part header.size o p past in
     let same = s.answered.others o p (λ e. let is = sym e in grind (arith, nat_tests)) in
-    let now : HasAnswered header.size (directory_at new o p) (heard_at new o p) (SomebodyIsAwaited part) (step_act h ∷ part) = record {
+    let now : HasAnswered header.size (directory_at new o p) (heard_at new o p) part (step_act h ∷ part) = record {
       stands = same_stands header.size (directory_at old o p) (directory_at new o p) (step_act h ∷ part) same.directory (stands_quiet header.size (directory_at old o p) (step_act h) part refl (s.stands.pages o p shared));
       hears = same_hears (heard_at old o p) (heard_at new o p) (step_act h ∷ part) same.heard (hears_quiet (heard_at old o p) (step_act h) part refl (s.stands.heard o p shared));
-      served = λ was. served_quiet (step_act h) part refl was;
+      served = still_quiet (step_act h) part part refl (still_same part);
     } in
-    let first = subst (HasAnswered header.size (directory_at new o p) (heard_at new o p) (SomebodyIsAwaited part)) (sym (foreign_taken header.size h o p object m past apart)) now in
-    let all = answered_free header.size (directory_at new o p) (heard_at new o p) (SomebodyIsAwaited part) o p events (taking h object m past) free first in
+    let first = subst (HasAnswered header.size (directory_at new o p) (heard_at new o p) part) (sym (foreign_taken header.size h o p object m past apart)) now in
+    let all = answered_free header.size (directory_at new o p) (heard_at new o p) part o p events (taking h object m past) free first in
     record { stands = all.stands; hears = all.hears; served = all.served }
 
 own_page : (header : Header) (outside : Outside) (doing : Command) (h : ℕ) (past : List Event) (object : ObjectId) (m : Message) (old new : ServerTable) (events : List Event) (p : ℕ) → ServerServes header h past object m old new events
@@ -204,8 +203,15 @@ pub served : (header : Header) (h : ℕ) (past : List Event) (object : ObjectId)
 served header h past object m old new events s was o p shared =
     let w = whole header any_outside any_command h past object m old new events s in
     let page = each_page header any_outside any_command h past object m old new events o p s w shared in
-    page.served (was o p shared)
+    page.served.somebody (was o p shared)
+
+pub recalled : (header : Header) (h : ℕ) (past : List Event) (object : ObjectId) (m : Message) (old new : ServerTable) (events : List Event) → ServerServes header h past object m old new events → AllRecalled header past
+    → AllRecalled header (events ++ taking h object m past)
+recalled header h past object m old new events s was o p host w shared front way =
+    let all = whole header any_outside any_command h past object m old new events s in
+    let page = each_page header any_outside any_command h past object m old new events o p s all shared in
+    page.served.recalled (λ g v at stands. was o p g v shared at stands) host w front way
 
 pub causes : (header : Header) (outside : Outside) (doing : Command) (h : ℕ) (past : List Event) (object : ObjectId) (m : Message) (old new : ServerTable) (events : List Event) → ServerServes header h past object m old new events
-    → AllLicensed header outside doing events (taking h object m past)
+    → AllInTurn header outside doing events (taking h object m past)
 causes header outside doing h past object m old new events s = let w = whole header outside doing h past object m old new events s in w.licensed
