@@ -1,7 +1,8 @@
 -- One host acts: the kernels of the others stand for what it adds as well.
-use Rattle.vm_hosts.proofs.Common.{AllInner, AllLicensed, AllRest, Bool, Command, CreatesHere, EachIn, EachOf, EntersNext, Event, HasQueue, Header, HostTable, Ids, IsAbroad, IsMine, IsNewTask, IsOfHost, KernelSays, Licensed, List, MomentsIn, None, Option, Outside, OwnBytes, Parts, PromptAt, Rests, Some, SomeKernelSays, Stretch, Suffice, [], abroad_of_own, arith, common_of, each_both, false, copying_host, first_home, frames_abroad, home_of, host_of, if◌then◌else◌, inl, inr, is_home, length, length-set, licensed_both, of_both, of_host, own_of_home, prompt_abroad, queue_abroad, refl, rests_abroad, same_Some, slice_get, sound_more, subst, sym, true, ℕ, ℕ_discrete, ◌++◌, ◌+◌, ◌<◌, ◌==◌, ◌∙◌, ◌∷◌, ◌≡◌, ◌≢◌}
+use Rattle.vm_hosts.proofs.Common.{AllInner, AllInTurn, AllRest, Bool, Command, CreatesHere, EachIn, EachOf, EntersNext, Event, HasQueue, Header, HostTable, Ids, IsAbroad, IsMine, IsNewTask, IsOfHost, IsOnlyOfHost, KernelSays, LicensedInTurn, List, MomentsIn, None, Option, Outside, OwnBytes, Parts, PromptAt, Rests, Some, SomeKernelSays, Stretch, Suffice, [], abroad_of_own, arith, common_of, each_both, false, copying_host, first_home, frames_abroad, home_of, host_of, if◌then◌else◌, inl, inr, is_home, length, length-set, licensed_both, of_both, of_host, own_of_home, prompt_abroad, queue_abroad, refl, rests_abroad, same_Some, slice_get, sound_more, subst, sym, true, ℕ, ℕ_discrete, ◌++◌, ◌+◌, ◌<◌, ◌==◌, ◌∙◌, ◌∷◌, ◌≡◌, ◌≢◌}
 use Rattle.vm_model.specs.declared.event.Event.TheVariants as event
 use Rattle.vm_hosts.proofs.Tables.{common_all, put, set_cases}
+use Rattle.vm_legal.proofs.Turns.{cause_of}
 
 -- the event makes no task but on one of so many hosts
 abbrev pub MakesOn : ℕ → Event → Type 0
@@ -63,7 +64,7 @@ homes_more n (e ∷ events) past makes tasks was = homes_next n e (events ++ pas
 -- what a kernel adds to a history: each event has its cause and is its own
 pub record Acts (header : Header) (h : ℕ) (outside : Outside) (doing : Command) (past events : List Event) : Type 0 where
   pub known : h < length header.frames.items
-  pub licensed : AllLicensed header outside doing events past
+  pub licensed : AllInTurn header outside doing events past
   pub mine : EachIn (IsMine header h) events past
   pub makes : EachOf (MakesOn (length header.frames.items)) events
 
@@ -76,7 +77,7 @@ acts_both header h outside doing past front later one two = record {
 }
 
 -- it takes a message that is for it
-pub acts_one : (header : Header) (hosts : HostTable) (h : ℕ) (outside : Outside) (doing : Command) (past : List Event) (e : Event) → AllRest header hosts past → h < length header.frames.items → Licensed header outside doing e past
+pub acts_one : (header : Header) (hosts : HostTable) (h : ℕ) (outside : Outside) (doing : Command) (past : List Event) (e : Event) → AllRest header hosts past → h < length header.frames.items → LicensedInTurn header outside doing e past
     → is_home header h e past ≡ true → IsNewTask e past → CreatesHere header h e past → MakesOn (length header.frames.items) e → Acts header h outside doing past (e ∷ [])
 acts_one header hosts h outside doing past e all known licensed home new creates makes =
     let shut = (common_all header hosts past all).settled.shut in
@@ -84,7 +85,7 @@ acts_one header hosts h outside doing past e all known licensed home new creates
     record {
       known = known;
       licensed = (licensed, tt);
-      mine = (record { enters = enters; own = own_of_home header outside h e past all.sound (doing, licensed.0) enters new home; creates = creates }, tt);
+      mine = (record { enters = enters; own = own_of_home header outside h e past all.sound (doing, cause_of header outside doing e past licensed.0) enters new home; creates = creates }, tt);
       makes = (makes, tt);
     }
 
@@ -96,6 +97,11 @@ moments_all P (e ∷ events) past all = (λ g. (all g).0, moments_all P events p
 said_all : (header : Header) (h : ℕ) (events past : List Event) → h < length header.frames.items → EachOf (KernelSays h header.size) events → EachIn (IsMine header h) events past → EachIn (SomeKernelSays header) events past
 said_all header h [] past known said mine = tt
 said_all header h (e ∷ events) past known said mine = (record { host = h; known = known; says = said.0; creates = mine.0.creates }, said_all header h events past known said.1 mine.1)
+
+-- so they are no other host's
+pub only_of : (header : Header) (h : ℕ) (events past : List Event) → EachIn (IsMine header h) events past → EachIn (IsOnlyOfHost header h) events past
+only_of header h [] past mine = tt
+only_of header h (e ∷ events) past mine = (mine.0.own, only_of header h events past mine.1)
 
 module _ (header : Header) (h : ℕ) (outside : Outside) (doing : Command) (past events : List Event) (acts : Acts header h outside doing past events) where
   own : EachIn (IsOfHost header outside h) events past

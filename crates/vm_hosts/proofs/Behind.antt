@@ -1,5 +1,5 @@
 -- A pager's taking, and what it said of it, stands in front.
-use Rattle.vm_hosts.proofs.Common.{AllLicensed, AllRest, Bool, Command, EachOf, Event, Header, HostId, HostTable, Ids, IsLaundered, IsNobodys, Licensed, List, Message, ObjectId, Outside, PagerStep, Parts, Passed, Rests, Up, [], ap, append_assoc, arith, false, gives_frame, host_id, length, not, of_both, refl, subst, sym, true, ℕ, ◌&&◌, ◌++◌, ◌==◌, ◌∙◌, ◌∷◌, ◌≡◌, ◌≢◌}
+use Rattle.vm_hosts.proofs.Common.{AllInTurn, AllRest, Bool, Command, EachOf, Event, Header, HostId, HostTable, Ids, IsLaundered, IsNobodys, LicensedInTurn, List, Message, ObjectId, Outside, PagerStep, Parts, Passed, Rests, Up, [], ap, append_assoc, arith, false, gives_frame, host_id, length, not, of_both, refl, subst, sym, true, ℕ, ◌&&◌, ◌++◌, ◌==◌, ◌∙◌, ◌∷◌, ◌≡◌, ◌≢◌}
 use Rattle.vm_model.specs.declared.event.Event.TheVariants as event
 use Rattle.vm_model.specs.declared.message.Message.TheVariants as message
 use Rattle.vm_hosts.proofs.Acting.{acting_rests, acts_one}
@@ -17,11 +17,11 @@ first_is [] e = refl
 first_is (f ∷ []) e = refl
 first_is (f ∷ g ∷ told) e = first_is (g ∷ told) e
 
-licensed_apart : (header : Header) (outside : Outside) (doing : Command) (later front past : List Event) → AllLicensed header outside doing (later ++ front) past → AllLicensed header outside doing later (front ++ past) × AllLicensed header outside doing front past
+licensed_apart : (header : Header) (outside : Outside) (doing : Command) (later front past : List Event) → AllInTurn header outside doing (later ++ front) past → AllInTurn header outside doing later (front ++ past) × AllInTurn header outside doing front past
 licensed_apart header outside doing [] front past all = (tt, all)
 licensed_apart header outside doing (e ∷ later) front past all =
     let rest = licensed_apart header outside doing later front past all.1 in
-    ((subst (λ (z : List Event). Licensed header outside doing e z) (append_assoc later front past) all.0, rest.0), rest.1)
+    ((subst (λ (z : List Event). LicensedInTurn header outside doing e z) (append_assoc later front past) all.0, rest.0), rest.1)
 
 -- a return that kept no copy
 unkept : (keep : Bool) → not keep ≡ true → keep ≡ false
@@ -59,7 +59,7 @@ module _ (header : Header) (outside : Outside) (doing : Command) (host : HostId)
       → Passed header h outside doing (first_of front ++ past) k ids events → events ≡ [] → AllRest header (put hosts host.0 k ids) (front ++ past)
   behind_washed washed hosts h k ids events wash same answers all passed none =
       let taken = event.Taken (Up host answers.object) answers.m in
-      let parts = licensed_apart header outside doing answers.told (taken ∷ []) past (subst (λ (z : List Event). AllLicensed header outside doing z past) answers.is answers.licensed) in
+      let parts = licensed_apart header outside doing answers.told (taken ∷ []) past (subst (λ (z : List Event). AllInTurn header outside doing z past) answers.is answers.licensed) in
       let first : first_of front ≡ taken ∷ [] = ap first_of answers.is ∙ first_is answers.told taken in
       let rests : Rests header host.0 k ids (taken ∷ past) =
       subst (λ (z : ℕ). Rests header z k ids (taken ∷ past)) same
@@ -74,7 +74,7 @@ module _ (header : Header) (outside : Outside) (doing : Command) (host : HostId)
   pub behind_kept : (washed : Bool) (hosts : HostTable) → washed ≡ false → PagerStep header outside doing host washed past front → AllRest header hosts past → AllRest header hosts (front ++ past)
   behind_kept washed hosts kept answers all =
       let taken = event.Taken (Up host answers.object) answers.m in
-      let parts = licensed_apart header outside doing answers.told (taken ∷ []) past (subst (λ (z : List Event). AllLicensed header outside doing z past) answers.is answers.licensed) in
+      let parts = licensed_apart header outside doing answers.told (taken ∷ []) past (subst (λ (z : List Event). AllInTurn header outside doing z past) answers.is answers.licensed) in
       all_nobodys header outside doing hosts front past all
       (subst (EachOf MakesNoControl) (sym answers.is) (of_both MakesNoControl answers.told (taken ∷ []) (told_controls header outside doing answers.told past taken refl answers.inner parts.0) (tt, tt)))
       (subst (EachOf IsNobodys) (sym answers.is) (of_both IsNobodys answers.told (taken ∷ []) answers.nobodys (answers.gives ∙ kept, tt))) answers.licensed

@@ -1,6 +1,7 @@
 -- All that the proofs of this crate name from below.
 pub use Rattle.std.proofs.Common.{Bool, List, None, Option, Some, [], ap, append-nil, append_assoc, arith, false, get_or, inl, inr, length, length-append, refl, subst, suc, sym, true, zero, ℕ, ◌&&◌, ◌++◌, ◌+◌, ◌<◌, ◌==◌, ◌∙◌, ◌∷◌, ◌≡◌, ◌≢◌, ◌≤◌}
 pub use Rattle.std.proofs.Math.ListN.{length-set, set}
+pub use Rattle.std.proofs.Math.Numerals.{add-one}
 pub use Rattle.std.proofs.lemmas.Bool.Decides.{eqb_tells, nat_tests}
 pub use Rattle.std.proofs.lemmas.List.{length-reverse}
 pub use Rattle.std.proofs.lemmas.Option.{same_Some, slice_get_read, slice_get_within}
@@ -9,7 +10,7 @@ pub use Rattle.vm_abroad.proofs.Sounds.{sound_start}
 pub use Rattle.vm_abroad.proofs.Whose.{abroad_of_own, own_of_home}
 pub use Rattle.vm_abroad.specs.Home.{copying_host, first_of as first_home, home_of}
 pub use Rattle.vm_abroad.specs.Sound.{IsAbroad}
-pub use Rattle.vm_abroad.specs.Whose.{IsNewTask, IsOfHost}
+pub use Rattle.vm_abroad.specs.Whose.{IsNewTask, IsOfHost, IsOnlyOfHost}
 pub use Rattle.vm_base.specs.declared.code.Code.{Code}
 pub use Rattle.vm_base.specs.declared.ids.HostId.{HostId}
 pub use Rattle.vm_base.specs.declared.ids.ObjectId.{ObjectId}
@@ -24,17 +25,20 @@ pub use Rattle.vm_kernel.specs.Begun.{CreatesHere, IsLaundered, IsLined, IsMine,
 pub use Rattle.vm_kernel.specs.Built.{kernel_runs}
 pub use Rattle.vm_kernel.specs.Matches.{IsRanged, Rests, first_ids, host_id}
 pub use Rattle.vm_kernel.specs.Serving.{HasQueue}
-pub use Rattle.vm_kernel.specs.Taking.{EndsAll, IsAbsencePaid, IsErrorPaid, IsLockPaid}
+pub use Rattle.vm_kernel.specs.Taking.{IsAbsencePaid, IsErrorPaid, IsLockPaid}
+pub use Rattle.vm_legal.specs.InTurn.{EndsAll}
 pub use Rattle.vm_kernel.specs.declared.parts.Parts.{Parts}
 pub use Rattle.vm_legal.proofs.Inside.{absence_more, before_more, error_more, since_more}
 pub use Rattle.vm_legal.proofs.Paying.{lock_more, locked_more}
 pub use Rattle.vm_legal.proofs.Stretched.{each_both, inner_both, licensed_both, moments_both, of_both}
 pub use Rattle.vm_legal.specs.Bytes.{OwnBytes}
-pub use Rattle.vm_legal.specs.Debts.{WaitsAt}
-pub use Rattle.vm_legal.specs.Follows.{IsConsequence, IsDone}
+pub use Rattle.vm_legal.specs.InTurn.{WaitsAt}
+pub use Rattle.vm_legal.specs.Follows.{IsConsequence}
+pub use Rattle.vm_legal.specs.InTurn.{IsDoneInTurn}
 pub use Rattle.vm_legal.specs.Frames.{FramesSuffice, Suffice, frames_free, frames_used}
 pub use Rattle.vm_legal.specs.Homes.{EntersNext, gives_frame, is_home}
-pub use Rattle.vm_legal.specs.Licences.{AllLicensed, HasCause, IsBehind, Licensed, PagerSends, ReturnsOn, Says, owed, zeroes}
+pub use Rattle.vm_legal.specs.Licences.{HasCause, IsBehind, PagerSends, ReturnsOn, Says, owed, zeroes}
+pub use Rattle.vm_legal.specs.InTurn.{AllInTurn, LicensedInTurn}
 pub use Rattle.vm_legal.specs.Outside.{Outside, is_file, is_file_kept, is_file_kind, kind_in, kind_of}
 pub use Rattle.vm_legal.specs.Prompt.{PromptAt}
 pub use Rattle.vm_legal.specs.Refusal.{is_elsewhere, refusal}
@@ -58,4 +62,5 @@ pub use Rattle.vm_objects.specs.declared.row.ObjectRow.{ObjectRow}
 pub use Rattle.vm_shadow.specs.declared.ids.Ids.{Ids}
 pub use native.Mathlib.Decide.{ℕ_discrete}
 pub use Rattle.vm_hosts.specs.Hosts.{AllQueued, AllRest, AreNew, HostTable, knows_file}
-pub use Rattle.vm_hosts.specs.Steps.{Began, EventsFollow, Heads, PagerStep, Stretch, Went}
+pub use Rattle.vm_hosts.specs.Steps.{ActsOn, Began, EndsInTurn, EventsFollow, Heads, PagerStep, PartInTurn, ServeInTurn, Stretch, Went}
+pub use Rattle.vm_hosts.specs.Steps.ServeInTurn.{NextServes, NoneServed}

@@ -1,5 +1,5 @@
 -- What is no host's leaves all kernels what they stand for.
-use Rattle.vm_hosts.proofs.Common.{AllInner, AllLicensed, AllQueued, AllRest, Code, Command, Down, EachIn, EachOf, EntersNext, Event, HasCause, Header, HostTable, Ids, InRange, IsAbroad, IsCommon, IsNobodys, Licensed, List, Message, None, ObjectKind, Outside, PagerSends, Says, Temp, Up, [], ap, false, inl, inr, just_begun, kind_of, length, next_object, next_region, nobodys_abroad, nobodys_shut, owed, queue_abroad, refl, region_of, rests_abroad, sound_caused, subst, sym, true, ℕ, ◌++◌, ◌∙◌, ◌∷◌, ◌≡◌, ◌≤◌, ◌⊎◌}
+use Rattle.vm_hosts.proofs.Common.{AllInner, AllInTurn, AllQueued, AllRest, Code, Command, Down, EachIn, EachOf, EntersNext, Event, HasCause, Header, HostTable, Ids, InRange, IsAbroad, IsCommon, IsNobodys, LicensedInTurn, List, Message, None, ObjectKind, Outside, PagerSends, Says, Temp, Up, [], ap, false, inl, inr, just_begun, kind_of, length, next_object, next_region, nobodys_abroad, nobodys_shut, owed, queue_abroad, refl, region_of, rests_abroad, sound_caused, subst, sym, true, ℕ, ◌++◌, ◌∙◌, ◌∷◌, ◌≡◌, ◌≤◌, ◌⊎◌}
 use Rattle.vm_legal.proofs.Owing.{behind_none}
 use Rattle.vm_model.specs.declared.event.Event.TheVariants as event
 use Rattle.vm_model.specs.declared.message.Message.TheVariants as message
@@ -12,6 +12,7 @@ use Rattle.vm_base.specs.Limits.{most_objects}
 use Rattle.vm_model.specs.Regions.{marked_below, marked_regions}
 use Rattle.vm_hosts.proofs.Tables.{common_all}
 use Rattle.vm_kernel.proofs.Replied.{nobody_replied}
+use Rattle.vm_legal.proofs.Turns.{cause_of}
 
 makes_nothing : (n : ℕ) (events : List Event) → EachOf IsNobodys events → EachOf (MakesOn n) events
 makes_nothing n [] nobodys = tt
@@ -49,12 +50,12 @@ kind_sends header outside doing File host object control number size past why se
 kind_sends header outside doing Shared host object control number size past why sends = sends
 kind_sends header outside doing Wild host object control number size past why sends = says_none doing host object control number size past why sends
 
-one_sends : (header : Header) (outside : Outside) (doing : Command) (e : Event) (past : List Event) → SaysNoCreate doing ⊎ (just_begun past ≡ false) → Licensed header outside doing e past → MakesNoControl e
+one_sends : (header : Header) (outside : Outside) (doing : Command) (e : Event) (past : List Event) → SaysNoCreate doing ⊎ (just_begun past ≡ false) → LicensedInTurn header outside doing e past → MakesNoControl e
 one_sends header outside doing (event.Sent (Down host object control) (message.Create number size)) past why licensed = kind_sends header outside doing (kind_of header object.0) host.0 object.0 control number size past why licensed.0
 one_sends header outside doing other past why licensed = tt
 
 -- a step whose command says none makes no control
-pub said_controls : (header : Header) (outside : Outside) (doing : Command) (events past : List Event) → SaysNoCreate doing → AllLicensed header outside doing events past → EachOf MakesNoControl events
+pub said_controls : (header : Header) (outside : Outside) (doing : Command) (events past : List Event) → SaysNoCreate doing → AllInTurn header outside doing events past → EachOf MakesNoControl events
 said_controls header outside doing [] past none licensed = tt
 said_controls header outside doing (e ∷ events) past none licensed = (one_sends header outside doing e (events ++ past) (inl none) licensed.0, said_controls header outside doing events past none licensed.1)
 
@@ -65,7 +66,7 @@ later_begun [] past e none inner = none
 later_begun (event.Line line ∷ told) past e none inner = absurd inner.0
 later_begun (f ∷ told) past e none inner = refl
 
-pub told_controls : (header : Header) (outside : Outside) (doing : Command) (told past : List Event) (e : Event) → just_begun (e ∷ past) ≡ false → AllInner told → AllLicensed header outside doing told (e ∷ past) → EachOf MakesNoControl told
+pub told_controls : (header : Header) (outside : Outside) (doing : Command) (told past : List Event) (e : Event) → just_begun (e ∷ past) ≡ false → AllInner told → AllInTurn header outside doing told (e ∷ past) → EachOf MakesNoControl told
 told_controls header outside doing [] past e none inner licensed = tt
 told_controls header outside doing (f ∷ told) past e none inner licensed =
     (one_sends header outside doing f (told ++ e ∷ past) (inr (later_begun told past e none inner.1)) licensed.0, told_controls header outside doing told past e none inner.1 licensed.1)
@@ -97,7 +98,7 @@ marks_same header past new same (suc n) = rw (ap (λ z. z.mark) (same n), marks_
 marked_same : (header : Header) (past new : List Event) → SameTables header past new → marked_regions header new ≡ marked_regions header past
 marked_same header past new same = subst (λ (z : ℕ). marked_below header z new ≡ marked_regions header past) (sym same.region) (marks_same header past new same.regions (next_region header past))
 
-common_more : (header : Header) (outside : Outside) (doing : Command) (ids : Ids) (events past : List Event) → EachOf MakesNoControl events → EachOf IsNobodys events → AllLicensed header outside doing events past → IsCommon header ids past → IsCommon header ids (events ++ past)
+common_more : (header : Header) (outside : Outside) (doing : Command) (ids : Ids) (events past : List Event) → EachOf MakesNoControl events → EachOf IsNobodys events → AllInTurn header outside doing events past → IsCommon header ids past → IsCommon header ids (events ++ past)
 common_more header outside doing ids [] past none nobodys licensed common = common
 common_more header outside doing ids (e ∷ events) past none nobodys licensed common =
     let before = common_more header outside doing ids events past none.1 nobodys.1 licensed.1 common in
@@ -108,7 +109,7 @@ common_more header outside doing ids (e ∷ events) past none nobodys licensed c
       object = before.object ∙ sym same.object;
       marks = before.marks ∙ sym marks;
       few = subst (λ (z : ℕ). z + marked_regions header (e ∷ events ++ past) ≤ most_objects) (sym same.object) (subst (λ (z : ℕ). next_object header (events ++ past) + z ≤ most_objects) (sym marks) before.few);
-      homeless = homes_next header outside e (events ++ past) (doing, licensed.0.0) before.homeless;
+      homeless = homes_next header outside e (events ++ past) (doing, cause_of header outside doing e (events ++ past) licensed.0.0) before.homeless;
       settled = record { none_owed = none_owed_behind e (events ++ past) nobodys.0 none.0; shut = nobodys_shut (e ∷ events) past nobodys common.settled.shut };
       replied = nobody_replied e (events ++ past) nobodys.0 before.replied;
     }
@@ -118,7 +119,7 @@ caused : (header : Header) (outside : Outside) (doing : Command) (events past : 
 caused header outside doing [] past each = tt
 caused header outside doing (e ∷ events) past each = ((each.0.cause, each.0.enters), caused header outside doing events past each.1)
 
-module _ (header : Header) (outside : Outside) (doing : Command) (hosts : HostTable) (events past : List Event) (all : AllRest header hosts past) (none : EachOf MakesNoControl events) (nobodys : EachOf IsNobodys events) (licensed : AllLicensed header outside doing events past) where
+module _ (header : Header) (outside : Outside) (doing : Command) (hosts : HostTable) (events past : List Event) (all : AllRest header hosts past) (none : EachOf MakesNoControl events) (nobodys : EachOf IsNobodys events) (licensed : AllInTurn header outside doing events past) where
   abroad : (h : ℕ) → EachIn (IsAbroad header outside h) events past
   abroad h = nobodys_abroad header outside doing h events past nobodys licensed (common_all header hosts past all).settled.shut
 

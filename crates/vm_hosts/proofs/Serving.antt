@@ -1,6 +1,7 @@
 -- The hosts serve their frame queues, by rising number.
-use Rattle.vm_hosts.proofs.Common.{AllRest, Command, Event, EventsFollow, HasQueue, Header, HostTable, Ids, LegalEvents, List, Outside, Parts, PromptAt, Rests, Served, Suffice, Went, [], ap, append_assoc, arith, length, refl, slice_get_within, subst, sym, ℕ, ◌++◌, ◌+◌, ◌<◌, ◌∙◌, ◌≡◌, ◌≢◌, ◌≤◌}
-use Rattle.vm_hosts.proofs.Acting.{Acts, SeenTo, acting_rests, acting_seen, acting_stretch, makes_all}
+use Rattle.vm_hosts.proofs.Common.{AllRest, Command, Down, EachIn, EndsInTurn, Event, EventsFollow, HasQueue, Header, HostTable, Ids, IsOnlyOfHost, LegalEvents, List, NextServes, NoneServed, Outside, PartInTurn, Parts, PromptAt, Rests, ServeInTurn, Served, Suffice, Went, [], add-one, ap, append-nil, append_assoc, arith, length, refl, slice_get_within, subst, sym, ℕ, ◌++◌, ◌+◌, ◌<◌, ◌∙◌, ◌∷◌, ◌≡◌, ◌≢◌}
+use Rattle.vm_model.specs.declared.event.Event.TheVariants as event
+use Rattle.vm_hosts.proofs.Acting.{Acts, SeenTo, acting_rests, acting_seen, acting_stretch, makes_all, only_of}
 use Rattle.vm_hosts.proofs.Stretches.{follows_both, follows_none}
 use Rattle.vm_hosts.proofs.Tables.{all_suffice, kernel_of, put}
 
@@ -22,10 +23,11 @@ pub record Serving (header : Header) (outside : Outside) (doing : Command) (past
   pub more : List Event
   pub is : new ≡ more ++ old
   pub follows : EventsFollow header outside doing (old ++ past) more
+  pub turns : ServeInTurn header (old ++ past) n more
 
 pub serving_start : (header : Header) (outside : Outside) (doing : Command) (past old : List Event) (hosts : HostTable) → AllRest header hosts (old ++ past) → Serving header outside doing past old 0 hosts old
 serving_start header outside doing past old hosts all =
-    record { rests = all; seen = λ g k less found. absurd (omega arith); more = []; is = refl; follows = follows_none header outside doing (old ++ past) }
+    record { rests = all; seen = λ g k less found. absurd (omega arith); more = []; is = refl; follows = follows_none header outside doing (old ++ past); turns = NoneServed }
 
 -- the next one serves its own
 serving_next : (header : Header) (outside : Outside) (doing : Command) (past old mid new : List Event) (n : ℕ) (hosts : HostTable) (k : Parts) (ids : Ids) → n < length hosts.kernels → Serving header outside doing past old n hosts mid
@@ -49,6 +51,9 @@ serving_next header outside doing past old mid new n hosts k ids within was serv
           follows_both header outside doing (old ++ past) was.more goes.more was.follows
           (subst (λ (z : List Event). EventsFollow header outside doing z goes.more) before
           (follows_goes header n outside doing past mid new known (λ g apart. all_suffice header hosts (mid ++ past) was.rests g) goes));
+      turns =
+          subst (λ (z : ℕ). ServeInTurn header (old ++ past) z (goes.more ++ was.more)) (sym (add-one n))
+          (NextServes n was.more goes.more was.turns (subst (λ (z : List Event). EachIn (IsOnlyOfHost header n) goes.more z) before (only_of header n goes.more (mid ++ past) goes.mine)));
     }
 
 pub serving_more : (header : Header) (outside : Outside) (doing : Command) (past old mid new : List Event) (n h : ℕ) (hosts : HostTable) (k : Parts) (ids : Ids) → h ≡ n → n < length hosts.kernels → Serving header outside doing past old n hosts mid
@@ -56,7 +61,7 @@ pub serving_more : (header : Header) (outside : Outside) (doing : Command) (past
 serving_more header outside doing past old mid new n h hosts k ids same within was served =
     serving_next header outside doing past old mid new n hosts k ids within was (subst (λ (z : ℕ). Served header z outside doing past mid k ids new) same served)
 
-pub serving_done : (header : Header) (outside : Outside) (doing : Command) (past old new : List Event) (n : ℕ) (hosts : HostTable) → length hosts.kernels ≤ n → Serving header outside doing past old n hosts new → Went header outside doing past old hosts new
+pub serving_done : (header : Header) (outside : Outside) (doing : Command) (past old new : List Event) (n : ℕ) (hosts : HostTable) → length hosts.kernels ≡ n → Serving header outside doing past old n hosts new → Went header outside doing past old hosts new
 serving_done header outside doing past old new n hosts all was = record {
   ended =
       record {
@@ -69,4 +74,15 @@ serving_done header outside doing past old new n hosts all was = record {
   more = was.more;
   is = was.is;
   follows = was.follows;
+  turns = subst (λ (z : ℕ). ServeInTurn header (old ++ past) z was.more) (sym all ∙ was.rests.count) was.turns;
 }
+
+-- behind what one host did
+pub turns_went : (header : Header) (outside : Outside) (doing : Command) (h : ℕ) (past events : List Event) (hosts : HostTable) (new : List Event) → EachIn (IsOnlyOfHost header h) events past → Went header outside doing past events hosts new
+    → EndsInTurn header h past new
+turns_went header outside doing h past events hosts new own went = record { front = events; served = went.more; is = went.is; own = own; turns = went.turns }
+
+-- behind nothing
+pub turns_part : (header : Header) (past events : List Event) → ServeInTurn header past (length header.frames.items) events → PartInTurn header past events
+turns_part header (event.Taken (Down host object control) m ∷ past) events turns = record { front = []; served = events; is = sym (append-nil events); own = tt; turns = turns }
+turns_part header past events turns = turns

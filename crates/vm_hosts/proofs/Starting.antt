@@ -1,6 +1,7 @@
 -- A command's step.
-use Rattle.vm_hosts.proofs.Common.{AllRest, Began, Command, Event, Header, Heads, HostTable, Ids, InRange, IsDone, IsLined, List, None, Outside, Parts, Ran, Starts, Went, [], acts_on, ap, done_more, kernel_runs, length, paid_of, refl, refusal, subst, sym, true, ℕ, ◌++◌, ◌<◌, ◌∙◌, ◌≡◌}
-use Rattle.vm_hosts.proofs.Acting.{Acts, acting_rests, acting_stretch, makes_all}
+use Rattle.vm_hosts.proofs.Common.{ActsOn, AllRest, Began, Command, Event, Header, Heads, HostTable, Ids, InRange, IsDoneInTurn, IsLined, List, None, Outside, Parts, Ran, Starts, Went, [], acts_on, ap, done_more, kernel_runs, length, paid_of, refl, refusal, subst, sym, true, ℕ, ◌++◌, ◌<◌, ◌∙◌, ◌≡◌}
+use Rattle.vm_hosts.proofs.Acting.{Acts, acting_rests, acting_stretch, makes_all, only_of}
+use Rattle.vm_hosts.proofs.Serving.{turns_went}
 use Rattle.vm_hosts.proofs.Stretches.{heads_more}
 use Rattle.vm_hosts.proofs.Tables.{Found, all_suffice, common_all, put}
 
@@ -42,14 +43,18 @@ pub rests_ran : (header : Header) (outside : Outside) (doing : Command) (past ev
 rests_ran header outside doing past events hosts h g k ids same known all ran = ran_rests header outside doing past events hosts h k ids known all (subst (λ (z : ℕ). Ran header z outside doing past k ids events) same ran)
 
 -- the hosts have served their queues behind it
-pub began : (header : Header) (outside : Outside) (doing : Command) (past events : List Event) (hosts : HostTable) (h g : ℕ) (k : Parts) (ids : Ids) (last : HostTable) (new : List Event) → g ≡ h → h < length header.frames.items → AllRest header hosts past
+pub began : (header : Header) (outside : Outside) (doing : Command) (past events : List Event) (hosts : HostTable) (h g : ℕ) (k : Parts) (ids : Ids) (last : HostTable) (new : List Event) → g ≡ h → ActsOn header h doing past → AllRest header hosts past
     → Ran header g outside doing past k ids events → kernel_runs doing ≡ true → IsLined past → Went header outside doing past events last new → Began header outside doing past last new
-began header outside doing past events hosts h g k ids last new same known all ran built lined went =
-    let heads = heads_more header outside doing past events went.more (ran_heads header outside doing past events hosts h k ids known all (subst (λ (z : ℕ). Ran header z outside doing past k ids events) same ran)) went.follows in
+began header outside doing past events hosts h g k ids last new same acts all ran built lined went =
+    let mine : Ran header h outside doing past k ids events = subst (λ (z : ℕ). Ran header z outside doing past k ids events) same ran in
+    let heads = heads_more header outside doing past events went.more (ran_heads header outside doing past events hosts h k ids acts.known all mine) went.follows in
     let whole : Heads header outside doing past new = subst (Heads header outside doing past) (sym went.is) heads in
     record {
       ended = went.ended;
       heads = whole;
-      done = subst (λ (z : List Event). IsDone header doing z past) (sym went.is) (done_more header doing past events went.more built went.follows.stretch.inner ran.done);
+      done = subst (λ (z : List Event). IsDoneInTurn header doing z past) (sym went.is) (done_more header doing past events went.more built went.follows.stretch.inner ran.done);
       paid = paid_of header past new lined whole.stretch.inner (common_all header last (new ++ past) went.ended.rests).settled.none_owed;
+      host = h;
+      acts = acts;
+      turns = turns_went header outside doing h past events last new (only_of header h events past mine.grows.mine) went;
     }

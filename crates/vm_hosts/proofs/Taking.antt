@@ -1,18 +1,19 @@
 -- A step that began with a taking.
-use Rattle.vm_hosts.proofs.Common.{AllInner, AllRest, Command, Down, EndsAll, Event, EventsFollow, Header, HostId, HostTable, Ids, IsAbsencePaid, IsErrorPaid, IsLockPaid, LegalEvents, Licensed, List, Message, MomentsIn, ObjectId, Outside, Parts, Passed, Rests, Suffice, WaitsAt, Went, [], absence_more, ap, append-nil, append_assoc, before_more, before_step, error_more, fails_task, frames_abroad, frames_free, length, lock_more, locked_more, paid_more, since_more, subst, sym, zeroes, ℕ, ◌++◌, ◌<◌, ◌∙◌, ◌∷◌, ◌≡◌, ◌≢◌}
+use Rattle.vm_hosts.proofs.Common.{AllInner, AllRest, Command, Down, EndsAll, EndsInTurn, Event, EventsFollow, Header, HostId, HostTable, Ids, IsAbsencePaid, IsErrorPaid, IsLockPaid, LegalEvents, LicensedInTurn, List, Message, MomentsIn, ObjectId, Outside, PartInTurn, Parts, Passed, Rests, ServeInTurn, Suffice, Went, [], absence_more, ap, append-nil, append_assoc, frames_abroad, length, lock_more, locked_more, paid_more, since_more, subst, sym, zeroes, ℕ, ◌++◌, ◌<◌, ◌∙◌, ◌∷◌, ◌≡◌, ◌≢◌}
 use Rattle.vm_model.specs.declared.event.Event.TheVariants as event
 use Rattle.vm_hosts.specs.Steps as steps
-use Rattle.vm_hosts.proofs.Acting.{Acts, acting_rests, acts_both, acts_one, others}
-use Rattle.vm_hosts.proofs.Serving.{acts_goes, follows_goes}
-use Rattle.vm_hosts.proofs.Stretches.{follows_both}
+use Rattle.vm_hosts.proofs.Acting.{Acts, acting_rests, acts_both, acts_one, only_of, others}
+use Rattle.vm_hosts.proofs.Serving.{acts_goes, follows_goes, turns_part, turns_went}
+use Rattle.vm_hosts.proofs.Stretches.{follows_both, follows_none}
 use Rattle.vm_hosts.proofs.Tables.{all_suffice, put, same_number}
+use Rattle.vm_legal.proofs.Paying.{ends_more}
 
 -- the events of a kernel alone, behind nothing
 goes_alone : (header : Header) (h : ℕ) (outside : Outside) (doing : Command) (past events : List Event) → (goes : LegalEvents header h outside doing past [] events) → events ≡ goes.more
 goes_alone header h outside doing past events goes = goes.is ∙ append-nil goes.more
 
 module _ (header : Header) (outside : Outside) (doing : Command) (past front events : List Event) (hosts : HostTable) (host : HostId) (object : ObjectId) (control : ℕ) (m : Message) (k : Parts) (ids : Ids) (known : host.0 < length header.frames.items) (all : AllRest header hosts past)
-    (licensed : Licensed header outside doing (event.Taken (Down host object control) m) past) (is : front ≡ event.Taken (Down host object control) m ∷ []) (passed : Passed header host.0 outside doing (front ++ past) k ids events) where
+    (licensed : LicensedInTurn header outside doing (event.Taken (Down host object control) m) past) (is : front ≡ event.Taken (Down host object control) m ∷ []) (passed : Passed header host.0 outside doing (front ++ past) k ids events) where
   taking : Acts header host.0 outside doing past front
   taking = subst (Acts header host.0 outside doing past) (sym is) (acts_one header hosts host.0 outside doing past (event.Taken (Down host object control) m) all known licensed (same_number host.0) tt tt tt)
 
@@ -38,22 +39,28 @@ module _ (header : Header) (outside : Outside) (doing : Command) (past front eve
   pub taken_follows : EventsFollow header outside doing (front ++ past) events
   taken_follows = subst (EventsFollow header outside doing (front ++ past)) (sym alone) (follows_goes header host.0 outside doing (front ++ past) [] events known suffice passed.goes)
 
+  -- all hosts serve behind what this one did
+  pub taken_turns : (last : HostTable) (new : List Event) → Went header outside doing (front ++ past) events last new → PartInTurn header (front ++ past) new
+  taken_turns last new went =
+      let own = only_of header host.0 events (front ++ past) acts.mine in
+      let ends : EndsInTurn header host.0 (front ++ past) new = turns_went header outside doing host.0 (front ++ past) events last new own went in
+      let one : PartInTurn header ((event.Taken (Down host object control) m ∷ []) ++ past) new = subst (λ (z : List Event). EndsInTurn header host.0 (z ++ past) new) is ends in
+      subst (λ (z : List Event). PartInTurn header (z ++ past) new) (sym is) one
+
 -- the rest of the step serves the queues
-pub passed_on : (header : Header) (outside : Outside) (doing : Command) (past events : List Event) (hosts : HostTable) (new : List Event) → EventsFollow header outside doing past events → Went header outside doing past events hosts new → steps.HostsPart header outside doing past hosts new
-passed_on header outside doing past events hosts new follows went =
-    record { ended = went.ended; follows = subst (EventsFollow header outside doing past) (sym went.is) (follows_both header outside doing past events went.more follows went.follows) }
+pub passed_on : (header : Header) (outside : Outside) (doing : Command) (past events : List Event) (hosts : HostTable) (new : List Event) → EventsFollow header outside doing past events → PartInTurn header past new → Went header outside doing past events hosts new → steps.HostsPart header outside doing past hosts new
+passed_on header outside doing past events hosts new follows turns went =
+    record { ended = went.ended; follows = subst (EventsFollow header outside doing past) (sym went.is) (follows_both header outside doing past events went.more follows went.follows); turns = turns }
+
+-- all of it, where nothing stands before
+pub passed_alone : (header : Header) (outside : Outside) (doing : Command) (past events : List Event) (hosts : HostTable) (new : List Event) → events ≡ [] → Went header outside doing past events hosts new → steps.HostsPart header outside doing past hosts new
+passed_alone header outside doing past events hosts new none was =
+    let went : Went header outside doing past [] hosts new = subst (λ (z : List Event). Went header outside doing past z hosts new) none was in
+    let same : new ≡ went.more = went.is ∙ append-nil went.more in
+    let turns : ServeInTurn header past (length header.frames.items) new = subst (λ (z : List Event). ServeInTurn header past (length header.frames.items) z) (sym same) went.turns in
+    passed_on header outside doing past [] hosts new (follows_none header outside doing past) (turns_part header past new turns) went
 
 -- what an error owes stays paid
-
-ends_more : (header : Header) (more past : List Event) → AllInner more → EndsAll header past → EndsAll header (more ++ past)
-ends_more header more past inner ends = λ host object page is task stops frees.
-    since_more (fails_task task object page) more past inner
-    (ends host object page (sym (error_more header.size more past inner) ∙ is) task
-    (subst (λ (z : List Event). WaitsAt header host task object page z) before stops)
-    (subst (λ (z : List Event). frames_free header host z ≡ 0 → ⊥) before frees))
-  where
-    before : before_step (more ++ past) ≡ before_step past
-    before = before_more more past inner
 
 -- behind what the hosts served
 goes_behind : (P : List Event → Type 0) (past old new more : List Event) → new ≡ more ++ old → P (more ++ (old ++ past)) → P (new ++ past)

@@ -1,22 +1,24 @@
 -- What the hosts do in a step.
-use Rattle.std.specs.Prelude.{ℕ, ◌≡◌, ◌<◌, Bool, true, List, [], ◌∷◌, ◌++◌, length, reverse, Some}
+use Rattle.std.specs.Prelude.{ℕ, suc, ◌≡◌, ◌<◌, Bool, true, List, [], ◌∷◌, ◌++◌, length, reverse, Some}
 use Rattle.vm_base.specs.declared.ids.HostId.{HostId}
 use Rattle.vm_base.specs.declared.ids.ObjectId.{ObjectId}
 use Rattle.vm_model.specs.declared.command.Command.{Command}
 use Rattle.vm_model.specs.declared.event.Event.{Event}
 use Rattle.vm_model.specs.declared.event.Event.TheVariants as event
-use Rattle.vm_model.specs.declared.message.Channel.TheVariants.{Up}
+use Rattle.vm_model.specs.declared.message.Channel.TheVariants.{Up, Down}
 use Rattle.vm_model.specs.declared.message.Message.{Message}
 use Rattle.vm_model.specs.declared.script.Header.{Header}
 use Rattle.vm_legal.specs.Bytes.{OwnBytes}
 use Rattle.vm_legal.specs.Debts.{IsPaid}
-use Rattle.vm_legal.specs.Follows.{IsConsequence, IsDone, head}
+use Rattle.vm_legal.specs.Follows.{IsConsequence, head}
+use Rattle.vm_legal.specs.InTurn.{IsDoneInTurn}
 use Rattle.vm_legal.specs.Frames.{FramesSuffice, returns_out}
 use Rattle.vm_legal.specs.Homes.{gives_frame}
-use Rattle.vm_legal.specs.Licences.{AllLicensed}
+use Rattle.vm_legal.specs.InTurn.{AllInTurn}
 use Rattle.vm_legal.specs.Outside.{Outside}
 use Rattle.vm_legal.specs.Prompt.{Prompt}
 use Rattle.vm_legal.specs.Stretches.{AllInner, EachIn, EachOf, MomentsIn}
+use Rattle.vm_abroad.specs.Whose.{IsOnlyOfHost}
 use Rattle.vm_kernel.specs.Abroad.{IsNobodys}
 use Rattle.vm_kernel.specs.Begun.{SomeKernelSays, acts_on}
 use Rattle.vm_hosts.specs.Hosts.{AllQueued, AllRest, HostTable}
@@ -30,7 +32,7 @@ pub record Step : Type 0 where
 
 -- events of one step, which some kernels said: each has its cause and its bytes, and the frames suffice at every moment
 pub record Stretch (header : Header) (outside : Outside) (doing : Command) (past events : List Event) : Type 0 where
-  pub licensed : AllLicensed header outside doing events past
+  pub licensed : AllInTurn header outside doing events past
   pub own_bytes : EachIn (OwnBytes header) events past
   pub frames : MomentsIn (FramesSuffice header) events past
   pub inner : AllInner events
@@ -56,17 +58,45 @@ pub record StepHasEnded (header : Header) (hosts : HostTable) (past : List Event
   pub queues : AllQueued header hosts past
   pub prompt : Prompt header past
 
+-- The hosts below a number have served their frame queues, by rising number: the events of each stand together, behind those of the
+-- hosts below it.
+pub data ServeInTurn (header : Header) (past : List Event) : ℕ → List Event → Type 0 where
+  NoneServed : ServeInTurn header past 0 []
+  NextServes : (h : ℕ) → (events more : List Event) → ServeInTurn header past h events → EachIn (IsOnlyOfHost header h) more (events ++ past) → ServeInTurn header past (suc h) (more ++ events)
+
+-- what one host did, and then all hosts served their queues by rising number
+pub record EndsInTurn (header : Header) (host : ℕ) (past events : List Event) : Type 0 where
+  pub front : List Event
+  pub served : List Event
+  pub is : events ≡ served ++ front
+  pub own : EachIn (IsOnlyOfHost header host) front past
+  pub turns : ServeInTurn header (front ++ past) (length header.frames.items) served
+
+-- behind a message that a host has just taken stands what it did of it, and then all hosts serve; else they serve at once
+abbrev pub PartInTurn : Header → List Event → List Event → Type 0
+PartInTurn header (event.Taken (Down host object control) m ∷ past) events = EndsInTurn header host.0 (event.Taken (Down host object control) m ∷ past) events
+PartInTurn header past events = ServeInTurn header past (length header.frames.items) events
+
+-- the command acts on a host of the header
+pub record ActsOn (header : Header) (h : ℕ) (doing : Command) (past : List Event) : Type 0 where
+  pub known : h < length header.frames.items
+  pub acts : acts_on h doing past ≡ true
+
 -- a command's step was run
 pub record Began (header : Header) (outside : Outside) (doing : Command) (past : List Event) (hosts : HostTable) (events : List Event) : Type 0 where
   pub ended : StepHasEnded header hosts (events ++ past)
   pub heads : Heads header outside doing past events
-  pub done : IsDone header doing events past
+  pub done : IsDoneInTurn header doing events past
   pub paid : IsPaid header (events ++ past)
+  pub host : ℕ
+  pub acts : ActsOn header host doing past
+  pub turns : EndsInTurn header host past events
 
 -- the hosts' part of a step was run that began with a taking, or with a command that is no host's
 pub record HostsPart (header : Header) (outside : Outside) (doing : Command) (past : List Event) (hosts : HostTable) (events : List Event) : Type 0 where
   pub ended : StepHasEnded header hosts (events ++ past)
   pub follows : EventsFollow header outside doing past events
+  pub turns : PartInTurn header past events
 
 -- A pager of the host took a message, and said what it did of it; where the message returns a page that the host didn't keep, a return
 -- was out.
@@ -80,7 +110,7 @@ pub record PagerStep (header : Header) (outside : Outside) (doing : Command) (ho
   pub out : washed ≡ true → 0 < returns_out host.0 past
   pub nobodys : EachOf IsNobodys told
   pub inner : AllInner told
-  pub licensed : AllLicensed header outside doing front past
+  pub licensed : AllInTurn header outside doing front past
 
 -- what is told of a step that goes on behind a taking: the history in front of it, and what of the step stands
 pub record Going : Type 0 where
@@ -90,14 +120,10 @@ pub record Going : Type 0 where
   pub past : List Event
   pub front : List Event
 
--- the command acts on a host of the header
-pub record ActsOn (header : Header) (h : ℕ) (doing : Command) (past : List Event) : Type 0 where
-  pub known : h < length header.frames.items
-  pub acts : acts_on h doing past ≡ true
-
--- all hosts have served their queues behind what a step did
+-- all hosts have served their queues behind what a step did, by rising number
 pub record Went (header : Header) (outside : Outside) (doing : Command) (past old : List Event) (hosts : HostTable) (new : List Event) : Type 0 where
   pub ended : StepHasEnded header hosts (new ++ past)
   pub more : List Event
   pub is : new ≡ more ++ old
   pub follows : EventsFollow header outside doing (old ++ past) more
+  pub turns : ServeInTurn header (old ++ past) (length header.frames.items) more

@@ -8,12 +8,13 @@ ghost use Rattle.vm_model.specs.Controls.{live_control};
 ghost use Rattle.vm_model.specs.Ranges.{InRange};
 ghost use Rattle.vm_model.specs.Tasks.{host_of};
 ghost use Rattle.vm_model.specs.Waiting.{waiting};
-ghost use Rattle.vm_legal.specs.Licences.{Licensed};
+ghost use Rattle.vm_legal.specs.InTurn.{LicensedInTurn};
 ghost use Rattle.vm_legal.specs.Refusal.{is_elsewhere, refusal};
 ghost use Rattle.vm_kernel.specs.Begun.{IsLined, targets_here};
 ghost use Rattle.vm_kernel.specs.Built.{kernel_runs};
 ghost use Rattle.vm_kernel.specs.Matches.{IsRanged};
-ghost use Rattle.vm_kernel.specs.Taking.{EndsAll, IsAbsencePaid, IsErrorPaid, IsLockPaid, IsWord};
+ghost use Rattle.vm_kernel.specs.Taking.{IsAbsencePaid, IsErrorPaid, IsLockPaid, IsWord};
+ghost use Rattle.vm_legal.specs.InTurn.{EndsAll};
 ghost use Rattle.vm_kernel.specs.Refusing.{maps_elsewhere, takes_name};
 ghost use Rattle.vm_hosts.specs.Hosts.{AllQueued, AllRest, AreNew, knows_file};
 ghost use Rattle.vm_objects.specs.Objects.{object_at};
@@ -99,7 +100,7 @@ impl Hosts {
         requires queues { AllQueued given.header self.old given.past }
         requires host { host.0 < length given.header.frames.items }
         requires word { IsWord given.header.size message.now }
-        requires licensed { Licensed given.header given.outside given.command (event.Taken (channels.Down host object control) message.now) given.past }
+        requires licensed { LicensedInTurn given.header given.outside given.command (event.Taken (channels.Down host object control) message.now) given.past }
         ensures passed { IfOk result (λ events. HostsPart given.header given.outside given.command (event.Taken (channels.Down host object control) message.now ∷ given.past) self.new events.items) }
         ensures failed { IfOk result (λ events. IsErrorPaid given.header (events.items ++ event.Taken (channels.Down host object control) message.now ∷ given.past)) }
         ensures zeroed { IfOk result (λ events. IsAbsencePaid given.header (events.items ++ event.Taken (channels.Down host object control) message.now ∷ given.past)) }
@@ -137,7 +138,7 @@ impl Hosts {
         requires host { host.0 < length given.header.frames.items }
         requires front { given.front ≡ event.Taken (channels.Down host object control) message.now ∷ [] }
         requires word { IsWord given.header.size message.now }
-        requires licensed { Licensed given.header given.outside given.command (event.Taken (channels.Down host object control) message.now) given.past }
+        requires licensed { LicensedInTurn given.header given.outside given.command (event.Taken (channels.Down host object control) message.now) given.past }
         ensures passed { IfOk result (λ events. HostsPart given.header given.outside given.command (given.front ++ given.past) self.new events.items) }
         ensures failed { IfOk result (λ events. IsErrorPaid given.header (events.items ++ (given.front ++ given.past))) }
         ensures zeroed { IfOk result (λ events. IsAbsencePaid given.header (events.items ++ (given.front ++ given.past))) }

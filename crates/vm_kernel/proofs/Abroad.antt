@@ -1,5 +1,5 @@
 -- What is no event of a host leaves what its kernel stands for.
-use Rattle.vm_kernel.proofs.Common.{AllLicensed, AllRows, ApartElsewhere, BeganInOrder, Below, Bool, Command, Down, EachIn, EachOf, EntersNext, Entry, Event, HasCause, HasControls, HasFrames, HasLaundry, HasOrder, HasPages, HasQueue, HasRegions, HasTasks, HasUse, HasWaits, Header, Ids, IfSome, IsAbroad, IsAmong, IsCommon, IsHeldOn, IsInside, IsMine, IsNobodys, IsOfHost, IsRegionOf, IsShut, IsUsed, Knows, List, Matches, MomentsIn, None, Option, Outside, Parts, PromptAt, RegionRow, Rests, SameFacts, SameForHost, Some, Sound, Suffice, Up, Waiting, [], all_tasks, ap, apart_abroad, arith, backing_of, begun_at, copy_target, entries_in, entries_of, entry, eqb_tells, false, fills, frames_free, frames_held, frames_used, frames_wired, has_entry, has_region, holds, home_of, homes_stay, host_of, in_use, inl, inr, is_among, is_home, is_ready, is_some, is_used, last_control, live_control, lives_on, local, named, nat_lt, nat_tests, next_object, next_region, pages_abroad, place_of, refl, region_at, region_of, returns_out, reverse, rows_in, rows_map, slice_get, sound_next, stays, subst, suc, swept_now, sym, tasks, true, unwrap_or, use_of, use_same, used_of, vain_now, zero, ℕ, ◌++◌, ◌<◌, ◌==◌, ◌∙◌, ◌∷◌, ◌≡◌, ◌≤◌, ◌⊎◌}
+use Rattle.vm_kernel.proofs.Common.{AllInTurn, AllRows, ApartElsewhere, BeganInOrder, Below, Bool, Command, Down, EachIn, EachOf, EntersNext, Entry, Event, HasCause, HasControls, HasFrames, HasLaundry, HasOrder, HasPages, HasQueue, HasRegions, HasTasks, HasUse, HasWaits, Header, Ids, IfSome, IsAbroad, IsAmong, IsCommon, IsHeldOn, IsInside, IsMine, IsNobodys, IsOfHost, IsRegionOf, IsShut, IsUsed, Knows, List, Matches, MomentsIn, None, Option, Outside, Parts, PromptAt, RegionRow, Rests, SameFacts, SameForHost, Some, Sound, Suffice, Up, Waiting, [], all_tasks, ap, apart_abroad, arith, backing_of, begun_at, copy_target, entries_in, entries_of, entry, eqb_tells, false, fills, frames_free, frames_held, frames_used, frames_wired, has_entry, has_region, holds, home_of, homes_stay, host_of, in_use, inl, inr, is_among, is_home, is_ready, is_some, is_used, last_control, leads_now, live_control, lives_on, local, named, nat_lt, nat_tests, next_object, next_region, pages_abroad, place_of, refl, region_at, region_of, returns_out, reverse, rows_in, rows_map, slice_get, sound_next, stays, subst, suc, swept_now, sym, tasks, true, unwrap_or, use_of, use_same, used_of, vain_now, zero, ℕ, ◌++◌, ◌<◌, ◌==◌, ◌∙◌, ◌∷◌, ◌≡◌, ◌≤◌, ◌⊎◌}
 use Rattle.vm_kernel.proofs.Filled.{row_use}
 use Rattle.vm_kernel.proofs.Uses.{fills_here, paged_file, waits_some}
 use Rattle.vm_state.proofs.Filling.{used_told}
@@ -26,6 +26,7 @@ use Rattle.vm_kernel.proofs.Terminating.{declared_chain, entry_there, used_there
 use Rattle.vm_supply.specs.declared.woken.Woken.TheVariants as woken
 use Rattle.std.proofs.lemmas.Bool.{or_right}
 use Rattle.std.proofs.Math.Bool.{and-false}
+use Rattle.vm_legal.proofs.Turns.{cause_of}
 
 -- what a kernel says of all hosts
 
@@ -300,7 +301,7 @@ module _ (header : Header) (outside : Outside) (h : ℕ) (k : Parts) (ids : Ids)
   pub prompt_abroad : PromptAt header h past → PromptAt header h (events ++ past)
   prompt_abroad prompt =
       let knows = knows_of header h k ids past rests in
-      record { waits = vain_now header h past (events ++ past) sound knows stay.same prompt.waits; swept = swept_now header h past (events ++ past) sound knows stay.same rests.matches.settled.shut prompt.swept }
+      record { leads = leads_now header h past (events ++ past) sound knows stay.same prompt.leads; waits = vain_now header h past (events ++ past) sound knows stay.same prompt.waits; swept = swept_now header h past (events ++ past) sound knows stay.same rests.matches.settled.shut prompt.swept }
 
 suffice_next : (header : Header) (h : ℕ) (e : Event) (past : List Event) → is_home header h e past ≡ false → Suffice header h past → Suffice header h (e ∷ past)
 suffice_next header h e past foreign suffices =
@@ -321,10 +322,10 @@ frames_abroad header outside h (e ∷ events) past abroad suffices =
 
 -- what a kernel says is its host's
 
-pub of_host : (header : Header) (outside : Outside) (doing : Command) (g : ℕ) (events past : List Event) → AllLicensed header outside doing events past → EachIn (IsMine header g) events past → EachIn (IsOfHost header outside g) events past
+pub of_host : (header : Header) (outside : Outside) (doing : Command) (g : ℕ) (events past : List Event) → AllInTurn header outside doing events past → EachIn (IsMine header g) events past → EachIn (IsOfHost header outside g) events past
 of_host header outside doing g [] past licensed mine = tt
 of_host header outside doing g (e ∷ events) past licensed mine =
-    (record { cause = (doing, licensed.0.0); enters = mine.0.enters; own = mine.0.own }, of_host header outside doing g events past licensed.1 mine.1)
+    (record { cause = (doing, cause_of header outside doing e (events ++ past) licensed.0.0); enters = mine.0.enters; own = mine.0.own }, of_host header outside doing g events past licensed.1 mine.1)
 
 -- regions stay on one host each, whoever adds events with their causes
 
@@ -357,12 +358,12 @@ pub nobodys_shut : (events past : List Event) → EachOf IsNobodys events → Is
 nobodys_shut [] past nobodys shut = shut
 nobodys_shut (e ∷ events) past nobodys shut = nobody_shut e (events ++ past) nobodys.0
 
-pub nobodys_abroad : (header : Header) (outside : Outside) (doing : Command) (h : ℕ) (events past : List Event) → EachOf IsNobodys events → AllLicensed header outside doing events past → IsShut past → EachIn (IsAbroad header outside h) events past
+pub nobodys_abroad : (header : Header) (outside : Outside) (doing : Command) (h : ℕ) (events past : List Event) → EachOf IsNobodys events → AllInTurn header outside doing events past → IsShut past → EachIn (IsAbroad header outside h) events past
 nobodys_abroad header outside doing h [] past nobodys licensed shut = tt
 nobodys_abroad header outside doing h (e ∷ events) past nobodys licensed shut =
     let closed = nobodys_shut events past nobodys.1 shut in (
       record {
-        cause = (doing, licensed.0.0);
+        cause = (doing, cause_of header outside doing e (events ++ past) licensed.0.0);
         enters = λ region opened. absurd (let bad : true ≡ false = sym opened ∙ closed region in cc);
         foreign = no_home header h e (events ++ past) nobodys.0;
       },

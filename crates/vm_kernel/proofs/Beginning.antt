@@ -1,5 +1,5 @@
 -- A load or store begins: its task waits, and the access is to be run.
-use Rattle.vm_kernel.proofs.Common.{Access, AllUsed, Asker, BeganInOrder, Bool, ChainTable, Code, Command, EndsNext, Entry, Event, FindsPage, Grows, HasWaiters, Header, Ids, IsAllowed, IsDone, IsLined, IsNextAccess, IsOfNumber, IsSizedWant, LegalEvents, List, Mapped, Matches, None, ObjectTable, On, Option, Outside, Parts, PutsEntry, Ran, Reason, ResidentTable, Rests, RunsFirst, Some, Starts, TaskId, WaitTable, Waiting, Want, Works, [], access_in, access_refusal, acting, acts_on, address_in, allows, ap, arith, begun_at, code_where, copies_to, copy_target, count_again, entries_in, entries_of, entry, entry_at, eqb_tells, false, fills_in, host_of, if◌then◌else◌, inl, inr, is_none, is_some, is_woken, length, lives_on, need_in, next_page, none_again, not, puts_cases, puts_elsewhere, refl, refusal, rows_in, some_is, subst, sym, true, waiting, waiting_in, ℕ, ◌%◌, ◌++◌, ◌+◌, ◌<◌, ◌==◌, ◌∙◌, ◌∷◌, ◌≡◌}
+use Rattle.vm_kernel.proofs.Common.{Access, AllUsed, Asker, BeganInOrder, Bool, ChainTable, Code, Command, EndsNext, Entry, Event, FindsPage, Grows, HasWaiters, Header, Ids, IsAllowed, IsDoneInTurn, IsLined, IsNextAccess, IsOfNumber, IsSizedWant, LegalEvents, List, Mapped, Matches, None, ObjectTable, On, Option, Outside, Parts, PutsEntry, Ran, Reason, ResidentTable, Rests, RunsFirst, Some, Starts, TaskId, WaitTable, Waiting, Want, Works, [], access_in, access_refusal, acting, acts_on, address_in, allows, ap, arith, begun_at, code_where, copies_to, copy_target, count_again, entries_in, entries_of, entry, entry_at, eqb_tells, false, fills_in, host_of, if◌then◌else◌, inl, inr, is_none, is_some, is_woken, length, lives_on, need_in, next_page, none_again, not, puts_cases, puts_elsewhere, refl, refusal, rows_in, some_is, subst, sym, true, waiting, waiting_in, ℕ, ◌%◌, ◌++◌, ◌+◌, ◌<◌, ◌==◌, ◌∙◌, ◌∷◌, ◌≡◌}
 use Rattle.vm_state.proofs.Filling.{SameFills, copies_put, fills_put, regions_filled, uses_refilled}
 use Rattle.vm_state.specs.Filling.{FitsCopy}
 use Rattle.vm_base.specs.declared.code.Code.TheVariants as code
@@ -283,7 +283,7 @@ begun_next task what rows new idle one puts =
           (λ apart old. absurd (let bad : false ≡ true = sym (none_again rows t w idle old) ∙ on_again in cc));
     }
 
-begun_done : (header : Header) (task : TaskId) (what : Number) (past events : List Event) → (FindsPage header task.0 (begun task what ∷ past) → EndsNext task.0 (begun task what ∷ []) events) → IsDone header (asks task what) events past
+begun_done : (header : Header) (task : TaskId) (what : Number) (past events : List Event) → (FindsPage header task.0 (begun task what ∷ past) → EndsNext task.0 (begun task what ∷ []) events) → IsDoneInTurn header (asks task what) events past
 begun_done header task (Loads address size) past events ends = ends
 begun_done header task (Stores address size value) past events ends = ends
 
@@ -301,5 +301,5 @@ begun_ran header h outside doing task what past k new ids ids2 before log after 
     record {
       rests = rests;
       grows = grows_goes header h outside doing past log after grows goes;
-      done = subst (λ (z : Command). IsDone header z after past) (sym is) (begun_done header task what past after ends);
+      done = subst (λ (z : Command). IsDoneInTurn header z after past) (sym is) (begun_done header task what past after ends);
     }

@@ -14,7 +14,7 @@ use Rattle.vm_fault.specs.Walks.{is_copying, is_storing, wanted_number}
 use Rattle.vm_fault.specs.declared.step.FaultStep.{FaultStep}
 use Rattle.vm_fault.specs.declared.step.FaultStep.TheVariants as step
 use Rattle.vm_frames.specs.Frames.{free}
-use Rattle.vm_legal.specs.Follows.{IsEnd}
+use Rattle.vm_legal.specs.InTurn.{IsEnd}
 use Rattle.vm_maps.specs.Maps.{Mapped}
 use Rattle.vm_model.specs.Waiting.{Access}
 use Rattle.vm_model.specs.declared.event.Event.{Event}

@@ -13,7 +13,7 @@ pub use Rattle.vm_abroad.proofs.Facts.{stays, use_same}
 pub use Rattle.vm_abroad.proofs.Home.{home_entered, home_stays, homes_next, homes_stay}
 pub use Rattle.vm_abroad.proofs.Pages.{pages_abroad}
 pub use Rattle.vm_abroad.proofs.Sounds.{both_left, one_home, sound_next, use_of, used_of}
-pub use Rattle.vm_abroad.proofs.Waits.{swept_now, vain_now}
+pub use Rattle.vm_abroad.proofs.Waits.{leads_now, swept_now, vain_now}
 pub use Rattle.vm_abroad.specs.Home.{HaveHomes, home_of, object_home}
 pub use Rattle.vm_abroad.specs.Same.{SameFacts, SameForHost}
 pub use Rattle.vm_abroad.specs.Sound.{IsAbroad, IsAmong, IsHeldOn, IsRegionOf, Knows, Sound, holds}
@@ -43,11 +43,14 @@ pub use Rattle.vm_legal.proofs.Locks.{no_request, none_locked}
 pub use Rattle.vm_legal.proofs.Stretched.{each_both, inner_both, licensed_both, moments_both, of_both}
 pub use Rattle.vm_legal.specs.Accesses.{Comes, FindsPage, HasPlace, Nowhere, ToRead, ToWrite, Waits, Wants, WantsFrame, begun_at, is_ready, page_of}
 pub use Rattle.vm_legal.specs.Bytes.{OwnBytes}
-pub use Rattle.vm_legal.specs.Debts.{IsPaid, WaitsAt}
-pub use Rattle.vm_legal.specs.Follows.{EndsNext, IsConsequence, IsDone, IsEnd, head}
+pub use Rattle.vm_legal.specs.Debts.{IsPaid}
+pub use Rattle.vm_legal.specs.InTurn.{WaitsAt}
+pub use Rattle.vm_legal.specs.Follows.{IsConsequence, head}
+pub use Rattle.vm_legal.specs.InTurn.{EndsNext, IsDoneInTurn, IsEnd}
 pub use Rattle.vm_legal.specs.Frames.{Suffice, frames_free, frames_held, frames_used, frames_wired, returns_out}
 pub use Rattle.vm_legal.specs.Homes.{EntersNext, begins_here, is_home, is_used, starts_copy}
-pub use Rattle.vm_legal.specs.Licences.{AllLicensed, Caused, Created, Creates, Enters, Fails, GivesBack, HasCause, Licensed, ReturnCause, ReturnsOn, Unreached, desired_access, owed}
+pub use Rattle.vm_legal.specs.Licences.{Created, Creates, Enters, Fails, GivesBack, HasCause, ReturnCause, ReturnsOn, Unreached, desired_access, owed}
+pub use Rattle.vm_legal.specs.InTurn.{AllInTurn, CausedInTurn, LicensedInTurn}
 pub use Rattle.vm_legal.specs.Living.{lives_on, tasks}
 pub use Rattle.vm_legal.specs.Outside.{Outside}
 pub use Rattle.vm_legal.specs.Prompt.{AReady, AnAnswer, Awaits, HostIsFull, IsExhausted, IsSwept, NoneInVain, PromptAt, WaitsForPager}
@@ -134,7 +137,8 @@ pub use Rattle.vm_kernel.specs.Plays.{AnswerBrings, DepartsFrom, Does, IsVictim,
 pub use Rattle.vm_kernel.specs.Refusing.{IsForHere, acting_in, code_of, is_marked, object_total, takes_name}
 pub use Rattle.vm_kernel.specs.Serving.{Attempts, FreesOrReturns, HasQueue, IsHere, IsNextAccess, JoinsQueue, QueueIsServed, RunsFirst}
 pub use Rattle.vm_kernel.specs.Sweeping.{EndsObject, EndsOnly, EndsRegion, IsAmid, IsEnding, IsWhole, OnlyLoses, PutsEntries, Raised, Sweeps, cut_at, cut_at_ends}
-pub use Rattle.vm_kernel.specs.Taking.{EachGone, EndsAll, EndsEach, EndsNobody, FailsNow, HasAsker, HasEnded, HasFailed, IsAbsencePaid, IsAnswered, IsErrorPaid}
+pub use Rattle.vm_kernel.specs.Taking.{EachGone, EndsEach, EndsNobody, FailsNow, HasAsker, HasEnded, HasFailed, IsAbsencePaid, IsAnswered, IsErrorPaid}
+pub use Rattle.vm_legal.specs.InTurn.{EndsAll}
 pub use Rattle.vm_kernel.specs.Turns.{ClaimsInTurn, Did, ForAsked, ForZeros, Found, Goes, IsBrought, Joins, KeepsOthers, LeavesInTurn, Nothing, QueueAfter, QueueIsStill, Restarted, Restarts, RunsNobody, RunsNone, RunsNoneYet, RunsOnce, Start}
 pub use Rattle.vm_state.specs.Waiters.{Asker, BeganInOrder, HasWaiters, IsAsked, IsPagerTold, IsPlaceOf, LeadsTo, Reason, access_in, copies_to, is_woken, waiting_in}
 pub use Rattle.vm_fault.specs.Walks.{IsAt, IsUnder}

@@ -1,5 +1,5 @@
 -- A slow copy begins: its region is there at once, over an object of its own, and its task waits.
-use Rattle.vm_kernel.proofs.Common.{AllUsed, BeganInOrder, Bool, ChainTable, Command, EachOf, Entry, Event, Grows, HasEntries, HasRegions, HasUse, HasWaiters, HaveHomes, Header, Ids, InOrder, IsAllowed, IsDone, IsFilledIn, IsInUse, IsInside, IsLined, LegalEvents, List, MadeRange, Mapped, Matches, None, ObjectId, ObjectRow, Option, Outside, PageRow, Parts, Place, PutsEntry, PutsRegion, QueueIsStill, Ran, RegionId, RegionRow, Rests, RunsNone, Some, Starts, TaskId, WaitTable, Waiting, Works, [], all_tasks, ap, arith, backing_of, begun_at, copy_target, count_by, entries_in, entries_of, entry, entry_at, eqb_tells, false, fills, fills_in, has_entry, head, holds, home_of, homes_next, homes_stay, host_of, if◌then◌else◌, in_use, inl, inr, is_on, is_range, is_ready, is_some, is_woken, last_control, length, live_control, lives_on, local, made_here, marked_regions, named, nat_le, nat_lt, nat_tests, next_object, next_page, next_region, object_at, object_home, page_at, place_at, place_of, puts_cases, refl, region_at, region_of, row_at, rows_in, rows_map, some_is, subst, suc, sym, tasks, true, waiting, with_entries, zero, ℕ, ◌%◌, ◌&&◌, ◌*◌, ◌++◌, ◌+◌, ◌/◌, ◌<◌, ◌==◌, ◌^◌, ◌||◌, ◌∙◌, ◌∷◌, ◌≡◌, ◌≤◌, ◌⊎◌}
+use Rattle.vm_kernel.proofs.Common.{AllUsed, BeganInOrder, Bool, ChainTable, Command, EachOf, Entry, Event, Grows, HasEntries, HasRegions, HasUse, HasWaiters, HaveHomes, Header, Ids, InOrder, IsAllowed, IsDoneInTurn, IsFilledIn, IsInUse, IsInside, IsLined, LegalEvents, List, MadeRange, Mapped, Matches, None, ObjectId, ObjectRow, Option, Outside, PageRow, Parts, Place, PutsEntry, PutsRegion, QueueIsStill, Ran, RegionId, RegionRow, Rests, RunsNone, Some, Starts, TaskId, WaitTable, Waiting, Works, [], all_tasks, ap, arith, backing_of, begun_at, copy_target, count_by, entries_in, entries_of, entry, entry_at, eqb_tells, false, fills, fills_in, has_entry, head, holds, home_of, homes_next, homes_stay, host_of, if◌then◌else◌, in_use, inl, inr, is_on, is_range, is_ready, is_some, is_woken, last_control, length, live_control, lives_on, local, made_here, marked_regions, named, nat_le, nat_lt, nat_tests, next_object, next_page, next_region, object_at, object_home, page_at, place_at, place_of, puts_cases, refl, region_at, region_of, row_at, rows_in, rows_map, some_is, subst, suc, sym, tasks, true, waiting, with_entries, zero, ℕ, ◌%◌, ◌&&◌, ◌*◌, ◌++◌, ◌+◌, ◌/◌, ◌<◌, ◌==◌, ◌^◌, ◌||◌, ◌∙◌, ◌∷◌, ◌≡◌, ◌≤◌, ◌⊎◌}
 use Rattle.std.proofs.Math.Nat.{div-add-mod', mul-lt-mul_of_pos_right}
 use Rattle.std.proofs.lemmas.Bool.{or_parts}
 use Rattle.std.specs.Prelude.{IsSome}
@@ -575,7 +575,7 @@ module _ (header : Header) (h : ℕ) (outside : Outside) (task : TaskId) (addres
 pub record HasBegun (header : Header) (h : ℕ) (outside : Outside) (doing : Command) (past : List Event) (k : Parts) (ids : Ids) (log : List Event) : Type 0 where
   pub works : Works header h k ids woken.Nobody (log ++ past)
   pub grows : Grows header h outside doing past log
-  pub done : (events : List Event) → IsDone header doing events past
+  pub done : (events : List Event) → IsDoneInTurn header doing events past
 
 -- what the code did is that
 pub record BeginsCopy (doing : Command) (task : TaskId) (address bytes to pages : ℕ) (k k2 : Parts) (ids : Ids) (before mid log : List Event) (reserved waits : WaitTable) : Type 0 where
@@ -628,7 +628,7 @@ has_begun {doing = doing} {task = task} {address = address} {bytes = bytes} {to 
           (subst (λ (z : Parts). Works header h z (ids_after ids) woken.Nobody (events ++ past)) (sym same) (works_now header h outside task address bytes to past k k3 ids waits s.rests may made puts pushed s.begins));
       grows = subst (λ (z : Command). Grows header h outside z past log) (sym b.is)
           (subst (λ (z : List Event). Grows header h outside (command.Copy task address bytes task to) past z) (sym told) (grows_now header h outside task address bytes to past k k3 ids waits s.rests may made puts));
-      done = λ events. subst (λ (z : Command). IsDone header z events past) (sym b.is) tt;
+      done = λ events. subst (λ (z : Command). IsDoneInTurn header z events past) (sym b.is) tt;
     }
 
 pub copy_ran : {header : Header} {h : ℕ} {outside : Outside} {doing : Command} {past log after : List Event} {k new : Parts} {ids ids2 : Ids} → HasBegun header h outside doing past k ids log → Rests header h new ids2 (after ++ past) → LegalEvents header h outside doing past log after

@@ -1,10 +1,10 @@
 -- What a command owes is still done when its step goes on.
-use Rattle.vm_kernel.proofs.Common.{AllInner, Command, Event, Header, IsDone, List, [], ap, append_assoc, false, kernel_runs, sym, true, ◌++◌, ◌∙◌, ◌∷◌, ◌≡◌}
+use Rattle.vm_kernel.proofs.Common.{AllInner, Command, Event, Header, IsDoneInTurn, List, [], ap, append_assoc, false, kernel_runs, sym, true, ◌++◌, ◌∙◌, ◌∷◌, ◌≡◌}
 use Rattle.vm_model.specs.declared.event.Event.TheVariants as event
 use Rattle.vm_model.specs.declared.command.Command.TheVariants as command
 use Rattle.vm_kernel.proofs.Finding.{next_more}
 
-pub done_more : (header : Header) (doing : Command) (past events more : List Event) → kernel_runs doing ≡ true → AllInner more → IsDone header doing events past → IsDone header doing (more ++ events) past
+pub done_more : (header : Header) (doing : Command) (past events more : List Event) → kernel_runs doing ≡ true → AllInner more → IsDoneInTurn header doing events past → IsDoneInTurn header doing (more ++ events) past
 done_more header (command.Pageout host count) past events more built inner done =
     record {
       later = more ++ done.later;

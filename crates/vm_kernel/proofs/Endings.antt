@@ -1,5 +1,5 @@
 -- Tasks end, and ranges are unmapped.
-use Rattle.vm_kernel.proofs.Common.{Access, AllRows, Bool, ChainTable, ChangesOnly, Command, Entry, Event, HasTasks, HasUse, HasWaiters, Header, Ids, IsDone, IsShared, List, MapChange, Mapped, None, ObjectTable, On, Option, Outside, Parts, Raised, Ran, ResidentTable, Rests, Some, Starts, Sweeps, TaskId, Waiting, [], ap, cut_at_ends, entries_in, entries_of, eqb_tells, false, holds, host_of, if◌then◌else◌, in_use, inl, inr, is_on, is_woken, named, next_region, parts_for, parts_in, refl, removal, removed, rows_in, rows_rewritten, subst, sym, true, unwrap_or, waiting, ℕ, ◌++◌, ◌==◌, ◌∙◌, ◌∷◌, ◌≡◌}
+use Rattle.vm_kernel.proofs.Common.{Access, AllRows, Bool, ChainTable, ChangesOnly, Command, Entry, Event, HasTasks, HasUse, HasWaiters, Header, Ids, IsDoneInTurn, IsShared, List, MapChange, Mapped, None, ObjectTable, On, Option, Outside, Parts, Raised, Ran, ResidentTable, Rests, Some, Starts, Sweeps, TaskId, Waiting, [], ap, cut_at_ends, entries_in, entries_of, eqb_tells, false, holds, host_of, if◌then◌else◌, in_use, inl, inr, is_on, is_woken, named, next_region, parts_for, parts_in, refl, removal, removed, rows_in, rows_rewritten, subst, sym, true, unwrap_or, waiting, ℕ, ◌++◌, ◌==◌, ◌∙◌, ◌∷◌, ◌≡◌}
 use Rattle.std.proofs.Common.{is_some}
 use Rattle.vm_abroad.proofs.Home.{homes_next, object_stays}
 use Rattle.vm_kernel.proofs.After.{controls_stay, regions_moved}
@@ -175,7 +175,7 @@ sweeps_removed header h outside task address bytes past events k ids maps chains
     }
 
 -- once all that has gone is swept
-pub ran_swept : (header : Header) (h : ℕ) (outside : Outside) (doing : Command) (past events : List Event) (k : Parts) (ids : Ids) → Sweeps header h outside doing past k ids [] events → IsDone header doing events past → Ran header h outside doing past k ids events
+pub ran_swept : (header : Header) (h : ℕ) (outside : Outside) (doing : Command) (past events : List Event) (k : Parts) (ids : Ids) → Sweeps header h outside doing past k ids [] events → IsDoneInTurn header doing events past → Ran header h outside doing past k ids events
 ran_swept header h outside doing past events k ids s done =
     let rests : Rests header h k ids (events ++ past) = record { matches = s.runs.matches; used = s.used; referred = s.referred; waits = s.runs.waits; order = s.runs.order; idle = s.runs.idle } in
     record { rests = rests; grows = s.runs.grows; done = done }

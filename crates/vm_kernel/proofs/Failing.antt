@@ -17,12 +17,14 @@ use Rattle.vm_waits.specs.declared.waiting.On.TheVariants as on
 use Rattle.vm_kernel.proofs.After.{controls_stay, regions_moved}
 use Rattle.vm_kernel.proofs.Growing.{goes_both, goes_more, suffices}
 use Rattle.vm_kernel.proofs.Ordering.{PutsInOrder, oldest_first}
-use Rattle.vm_kernel.proofs.Shown.{place_at, want_address}
+use Rattle.vm_kernel.proofs.Shown.{page_left, place_at, want_address}
 use Rattle.vm_kernel.proofs.Own.{lives_here, rows_here}
 use Rattle.vm_state.proofs.Waited.{AreTold}
 use Rattle.vm_kernel.proofs.Mine.{own_lives}
 use Rattle.vm_kernel.proofs.Replied.{replied_behind}
 use Rattle.vm_state.proofs.Filling.{copies_next}
+use Rattle.vm_base.specs.Pages.{page_positive}
+use Rattle.vm_legal.specs.InTurn.{FailsInTurn}
 
 -- who waits for the page
 pub waits_for : (key : PageKey) (reason : On) → woken_page key reason ≡ true → reason ≡ on.Page key
@@ -51,30 +53,32 @@ abbrev pub EndsBefore : PageKey → List Waiting → List Event → Type 0
 EndsBefore key rows past = (u t : ℕ) (w : Waiting) → since (fails_task u key.object.0 key.page.0) past ≡ true → entry rows t ≡ Some w → woken_page key w.on ≡ true → begun_at u past < begun_at t past
 
 fails_cause : (header : Header) (h : ℕ) (k : Parts) (ids : Ids) (past : List Event) (key : PageKey) (w : Waiting) → Works header h k ids (who.Fails key) past → FailsNow header h (who.Fails key) past
-    → entry k.waits.rows w.task.0 ≡ Some w → w.on ≡ on.Page key → EndsBefore key k.waits.rows past → Fails header w.task.0 key.object.0 key.page.0 past
+    → entry k.waits.rows w.task.0 ≡ Some w → w.on ≡ on.Page key → EndsBefore key k.waits.rows past → Fails header w.task.0 key.object.0 key.page.0 past × FailsInTurn w.task.0 key.object.0 key.page.0 past
 fails_cause header h k ids past key w works fails found waits before =
     let was = works.matches in
     let place = works.waits.aims w.task.0 w key found waits in
     let at = place.at in
     let allowed = works.waits.allowed w.task.0 w found in
-    let agrees = copies_next works.used.copies w.task.0 w found in
-    record {
-      access = access_in k.maps.size (copies_to w.destination) w.want;
-      waits =
-          record {
-            waits = works.waits.is w.task.0 (ap is_some allowed.lives) ∙ ap (waiting_in k.maps.size) found;
-            at =
-                record {
-                  host = h;
-                  entry = at.entry;
-                  lives = lives_here was.tasks allowed.lives;
-                  found = ap (λ z. entry_at z (entries_of header.size w.task.0 past)) (want_address k.maps.size header.size (next_page w.task.0 past) (copies_to w.destination) w.want was.tasks.sized agrees) ∙ (ap (entry_at (address_in k.maps.size w.want)) (rows_here was.tasks allowed.lives) ∙ at.found);
-                };
-          };
-      error = fails;
-      place = place_at was (copies_to w.destination) agrees place;
-      order = λ other ended. before other w.task.0 w ended found (ap (woken_page key) waits ∙ itself key);
-    }
+    let agrees = copies_next works.used.copies w.task.0 w found in (
+      record {
+        access = access_in k.maps.size (copies_to w.destination) w.want;
+        waits =
+            record {
+              waits = works.waits.is w.task.0 (ap is_some allowed.lives) ∙ ap (waiting_in k.maps.size) found;
+              at =
+                  record {
+                    host = h;
+                    entry = at.entry;
+                    lives = lives_here was.tasks allowed.lives;
+                    found = ap (λ z. entry_at z (entries_of header.size w.task.0 past)) (want_address k.maps.size header.size (next_page w.task.0 past) (copies_to w.destination) w.want was.tasks.sized agrees) ∙ (ap (entry_at (address_in k.maps.size w.want)) (rows_here was.tasks allowed.lives) ∙ at.found);
+                  };
+              left = page_left k.maps.size header.size (next_page w.task.0 past) (copies_to w.destination) w.want was.tasks.sized (page_positive header.size was.ranged.size) (works.waits.sized w.task.0 w found) agrees;
+            };
+        error = fails;
+        place = place_at was (copies_to w.destination) agrees place;
+      },
+      λ other ended. before other w.task.0 w ended found (ap (woken_page key) waits ∙ itself key),
+    )
 
 -- the table without its row
 waits_less : (maps : Mapped) (task : ℕ) (rows rows2 : List Waiting) (past : List Event) → AreTold maps rows (λ t. waiting t past) → PutsEntry task None rows rows2
@@ -204,7 +208,7 @@ failed_one header h outside doing past old events key k ids w waits f found pass
           uses = uses_failed header h k ids moment key w.task waits.rows f.works (fills_here {past = e ∷ moment} has2 copies)
               (λ r filled. record { task = filled.task; fills = (fills_apart w.task.0 filled.task r rows waits.rows puts filled.fills).1 }) (has.allowed w.task.0 w found).lives;
           controls = controls_stay (λ o held. object_stays o h e moment held) was.controls;
-          homeless = homes_next header outside e moment (doing, cause) was.homeless;
+          homeless = homes_next header outside e moment (doing, cause.0) was.homeless;
           homes = was.homes;
           files = was.files;
           settled = record { none_owed = refl; shut = λ region. refl };

@@ -17,7 +17,8 @@ use Rattle.vm_kernel.proofs.Ordering.{PutsInOrder}
 use Rattle.vm_kernel.proofs.Own.{lives_here, own_host}
 use Rattle.vm_kernel.proofs.Pages.{bytes_now, frames_changed, itself, laundry_changed, pages_moved, shown_as, shown_here}
 use Rattle.vm_kernel.proofs.Replied.{replied_behind}
-use Rattle.vm_kernel.proofs.Shown.{shown_at}
+use Rattle.vm_kernel.proofs.Shown.{page_left, shown_at}
+use Rattle.vm_legal.specs.Accesses.{HasPageLeft}
 use Rattle.vm_kernel.proofs.Untold.{matches_with}
 use Rattle.vm_kernel.specs.Serving.{runs_now}
 use Rattle.vm_legal.specs.Outside.{is_wild}
@@ -317,6 +318,7 @@ copied_follows header h outside doing past k ids task what top at address pages 
         waits = record {
           waits = to.waits ∙ ap (λ z. Some (access_in k.maps.size to.destination z)) is;
           at = record { host = h; entry = at.entry; lives = to.lives; found = ap (λ z. entry_at z (entries_of header.size task.0 past)) (sym now_at) ∙ to.found };
+          left = subst (λ (z : Want). HasPageLeft header.size (access_in k.maps.size to.destination z) (next_page task.0 past)) is (page_left k.maps.size header.size (next_page task.0 past) to.destination what to.sized to.some to.shape to.agrees);
         };
         next = sym slow.next;
         declared = subst (λ (z : Entry). z.region.0 < named header) one slow.range.declared;

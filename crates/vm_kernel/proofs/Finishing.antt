@@ -184,6 +184,7 @@ page_leaves header h outside doing past who k ids rest object known page row old
     goes : GoesToPager header base key known row memory laundry
     goes = record {
       declared = declared;
+      first = first;
       found = found;
       live = live declared;
       here = here;

@@ -6,10 +6,9 @@ use Rattle.vm_fault.specs.Walks.{keeps_out}
 use Rattle.vm_state.proofs.Locks.{free_number, open_number, storing_is}
 use Rattle.vm_kernel.proofs.Leading.{Leads, it_waits, top_at}
 use Rattle.vm_kernel.proofs.Mine.{own_lives, own_named}
-use Rattle.vm_legal.specs.Licences.{HasPageLeft}
 use Rattle.vm_legal.specs.Walks.{IsTop}
 use Rattle.vm_model.specs.Regions.{Region}
-use Rattle.vm_model.specs.Waiting.{Loading, Storing, next_page}
+use Rattle.vm_model.specs.Waiting.{Loading, Storing}
 use Rattle.vm_model.specs.declared.event.Event.TheVariants as event
 use Rattle.vm_model.specs.declared.message.Message.TheVariants as message
 use Rattle.vm_objects.specs.declared.row.PagerState.TheVariants as state
@@ -19,10 +18,6 @@ use Rattle.vm_state.proofs.Shown.{IsShown, may_ask, shows_row}
 use Rattle.vm_state.proofs.Walks.{sinks_of, walks_of}
 use Rattle.vm_waits.specs.declared.waiting.Want.TheVariants as want
 use Rattle.std.specs.Prelude.{◌⊎◌}
-use Rattle.vm_state.proofs.Filling.{AgreesNext}
-use Rattle.std.proofs.Math.Nat.{mul-div_cancel}
-use Rattle.vm_waits.specs.Wants.{IsSizedWant}
-use Rattle.std.specs.Prelude.{◌*◌, ◌/◌, ◌<◌}
 
 -- a load, and a store, as the history has it
 
@@ -32,6 +27,7 @@ load_waits header h past k task what top at address size to is =
     record {
       waits = to.waits ∙ ap (λ z. Some (access_in k.maps.size to.destination z)) is;
       at = record { host = h; entry = at.entry; lives = to.lives; found = ap (λ z. entry_at (address_in k.maps.size z) (entries_of header.size task past)) (sym is) ∙ to.found };
+      left = tt;
     }
 
 abbrev pub store_waits : (header : Header) (h : ℕ) (past : List Event) (k : Parts) (task : ℕ) (what : Want) (top : PageKey) (at : IsAt k.maps k.chains task what top) (address size value : ℕ) → Leads header h past k task what top at → what ≡ want.Store address size value
@@ -40,6 +36,7 @@ store_waits header h past k task what top at address size value to is =
     record {
       waits = to.waits ∙ ap (λ z. Some (access_in k.maps.size to.destination z)) is;
       at = record { host = h; entry = at.entry; lives = to.lives; found = ap (λ z. entry_at (address_in k.maps.size z) (entries_of header.size task past)) (sym is) ∙ to.found };
+      left = tt;
     }
 
 -- the top place of its page
@@ -216,11 +213,6 @@ asks_for size to (want.Store address n value) (suc steps) = ap (λ b. if b then 
     later : (n : ℕ) → (suc n == 0) ≡ false
     later n = grind (arith, nat_tests)
 
-asks_left : (size other next to : ℕ) (what : Want) → size ≡ other → 0 < other → IsSizedWant size what → AgreesNext what next → HasPageLeft other (access_in size to what) next
-asks_left size other next to (want.Load address bytes) same some sized agrees = tt
-asks_left size other next to (want.Store address bytes value) same some sized agrees = tt
-asks_left size other next to (want.CopyTo address pages target page) same some sized agrees = rw (same, agrees) (let whole : pages * other / other ≡ pages = mul-div_cancel pages some in let left = sized.1 in omega (arith, whole, left))
-
 -- a page is asked for
 pub request_follows : (header : Header) (h : ℕ) (outside : Outside) (doing : Command) (past : List Event) (k : Parts) (task : ℕ) (what : Want) (top : PageKey) (at : IsAt k.maps k.chains task what top) (steps : ℕ) (key : PageKey) (object : ObjectRow)
     → Leads header h past k task what top at → IsShown header h k.memory k.chains past → (is_storing what ≡ true → at.row.marked ≡ false) → MayCome k.memory k.chains steps top key object → object.state ≡ state.Ready
@@ -243,7 +235,6 @@ request_follows header h outside doing past k task what top at steps key object 
         away = may.away;
         unasked = may.unasked;
         known = may.known;
-        left = asks_left k.maps.size header.size (next_page task past) to.destination what to.sized to.some to.shape to.agrees;
       };
       own_bytes = tt;
       frames = frames;

@@ -1,5 +1,5 @@
 -- A command's events grow by one that has its cause, carries the right bytes and finds its frame.
-use Rattle.vm_kernel.proofs.Common.{AllInner, AllLicensed, Caused, Command, CreatesHere, EachIn, Err, Event, FrameTable, Grows, HasFrames, Header, IfSome, IsConsequence, IsInner, IsLined, IsMine, IsOnlyOfHost, IsPaid, IsSettled, KernelSays, LegalEvents, Licensed, List, MomentsIn, None, Ok, OnOk, Option, Outside, OwnBytes, Result, Suffice, [], absence_more, absence_taken, ap, append_assoc, arith, each_both, error_more, error_taken, frames_free, frames_held, frames_used, frames_wired, free, inner_both, licensed_both, moments_both, no_request, none_locked, none_of, of_both, owed, refl, reverse, slice_get, subst, sym, taken_letter, taken_more, unwrap_or, ℕ, ◌++◌, ◌-◌, ◌∙◌, ◌∷◌, ◌≡◌, ◌≤◌}
+use Rattle.vm_kernel.proofs.Common.{AllInner, AllInTurn, CausedInTurn, Command, CreatesHere, EachIn, Err, Event, FrameTable, Grows, HasFrames, Header, IfSome, IsConsequence, IsInner, IsLined, IsMine, IsOnlyOfHost, IsPaid, IsSettled, KernelSays, LegalEvents, LicensedInTurn, List, MomentsIn, None, Ok, OnOk, Option, Outside, OwnBytes, Result, Suffice, [], absence_more, absence_taken, ap, append_assoc, arith, each_both, error_more, error_taken, frames_free, frames_held, frames_used, frames_wired, free, inner_both, licensed_both, moments_both, no_request, none_locked, none_of, of_both, owed, refl, reverse, slice_get, subst, sym, taken_letter, taken_more, unwrap_or, ℕ, ◌++◌, ◌-◌, ◌∙◌, ◌∷◌, ◌≡◌, ◌≤◌}
 use Rattle.std.specs.Prelude.{IfOk}
 use Rattle.vm_legal.proofs.Owing.{behind_none}
 use Rattle.vm_kernel.proofs.Mine.{mine_of}
@@ -12,13 +12,13 @@ pub free_is : (header : Header) (h : ℕ) (fs : FrameTable) (past : List Event) 
 free_is header h fs past has = ap (λ z. unwrap_or z 0 - frames_used header.size h past) has.total ∙ omega (arith, has.held, has.wired)
 
 -- nothing is owed in front
-pub licensed : (header : Header) (outside : Outside) (doing : Command) (e : Event) (past : List Event) → owed past ≡ None → Caused header outside doing e past → Licensed header outside doing e past
+pub licensed : (header : Header) (outside : Outside) (doing : Command) (e : Event) (past : List Event) → owed past ≡ None → CausedInTurn header outside doing e past → LicensedInTurn header outside doing e past
 licensed header outside doing e past none cause = (cause, behind_none e past none)
 
 -- what holds of an event that follows from a command's head
 pub record Follows (header : Header) (h : ℕ) (outside : Outside) (doing : Command) (e : Event) (past : List Event) : Type 0 where
   pub consequence : IsConsequence e past
-  pub cause : Caused header outside doing e past
+  pub cause : CausedInTurn header outside doing e past
   pub own_bytes : OwnBytes header e past
   pub frames : Suffice header h (e ∷ past)
   pub inner : IsInner e
@@ -57,7 +57,7 @@ goes_more header h outside doing past old events e goes settled all =
       more = e ∷ goes.more;
       is = ap (λ z. e ∷ z) goes.is;
       follows = (subst (λ (z : List Event). IsConsequence e z) same all.consequence, goes.follows);
-      licensed = (subst (λ (z : List Event). Licensed header outside doing e z) same (licensed header outside doing e (events ++ past) settled.none_owed all.cause), goes.licensed);
+      licensed = (subst (λ (z : List Event). LicensedInTurn header outside doing e z) same (licensed header outside doing e (events ++ past) settled.none_owed all.cause), goes.licensed);
       own_bytes = (subst (λ (z : List Event). OwnBytes header e z) same all.own_bytes, goes.own_bytes);
       frames = (subst (λ (z : List Event). Suffice header h (e ∷ z)) same all.frames, goes.frames);
       inner = (all.inner, goes.inner);
@@ -77,7 +77,7 @@ goes_both header h outside doing past old mid new one two =
       more = two.more ++ one.more;
       is = two.is ∙ (ap (λ z. two.more ++ z) one.is ∙ sym (append_assoc two.more one.more old));
       follows = each_both IsConsequence two.more one.more (old ++ past) (subst (λ (z : List Event). EachIn IsConsequence two.more z) same two.follows) one.follows;
-      licensed = licensed_both header outside doing two.more one.more (old ++ past) (subst (λ (z : List Event). AllLicensed header outside doing two.more z) same two.licensed) one.licensed;
+      licensed = licensed_both header outside doing two.more one.more (old ++ past) (subst (λ (z : List Event). AllInTurn header outside doing two.more z) same two.licensed) one.licensed;
       own_bytes = each_both (OwnBytes header) two.more one.more (old ++ past) (subst (λ (z : List Event). EachIn (OwnBytes header) two.more z) same two.own_bytes) one.own_bytes;
       frames = moments_both (Suffice header h) two.more one.more (old ++ past) (subst (λ (z : List Event). MomentsIn (Suffice header h) two.more z) same two.frames) one.frames;
       inner = inner_both two.more one.more two.inner one.inner;

@@ -1,5 +1,5 @@
 -- A command whose events are those of its head.
-use Rattle.vm_kernel.proofs.Common.{AllInner, AllLicensed, Bool, Caused, Code, Command, CreatesHere, EachIn, EachOf, Event, Grows, Header, Ids, IsDone, IsInner, IsMine, IsOnlyOfHost, IsSettled, KernelSays, List, MomentsIn, None, Option, Outside, OwnBytes, Parts, Ran, Rests, Some, Suffice, [], code_where, false, head, refl, reverse, true, ℕ, ◌++◌, ◌∷◌, ◌≡◌}
+use Rattle.vm_kernel.proofs.Common.{AllInner, AllInTurn, Bool, CausedInTurn, Code, Command, CreatesHere, EachIn, EachOf, Event, Grows, Header, Ids, IsDoneInTurn, IsInner, IsMine, IsOnlyOfHost, IsSettled, KernelSays, List, MomentsIn, None, Option, Outside, OwnBytes, Parts, Ran, Rests, Some, Suffice, [], code_where, false, head, refl, reverse, true, ℕ, ◌++◌, ◌∷◌, ◌≡◌}
 use Rattle.vm_kernel.proofs.Growing.{licensed}
 use Rattle.vm_kernel.proofs.Mine.{mine_of}
 
@@ -10,7 +10,7 @@ passed false why later none = (refl, none)
 
 -- what holds of each event of a command's head
 pub record Heads (header : Header) (h : ℕ) (outside : Outside) (doing : Command) (past events : List Event) : Type 0 where
-  pub licensed : AllLicensed header outside doing events past
+  pub licensed : AllInTurn header outside doing events past
   pub own_bytes : EachIn (OwnBytes header) events past
   pub frames : MomentsIn (Suffice header h) events past
   pub inner : AllInner events
@@ -36,7 +36,7 @@ grows_head header h outside doing past events first is same all =
 -- what holds of a command's one event
 pub record IsOne (header : Header) (h : ℕ) (outside : Outside) (doing : Command) (past : List Event) (e : Event) : Type 0 where
   pub settled : IsSettled past
-  pub cause : Caused header outside doing e past
+  pub cause : CausedInTurn header outside doing e past
   pub own_bytes : OwnBytes header e past
   pub frames : Suffice header h (e ∷ past)
   pub inner : IsInner e
@@ -59,5 +59,5 @@ pub grows_one : (header : Header) (h : ℕ) (outside : Outside) (doing : Command
 grows_one header h outside doing past e first is = grows_head header h outside doing past (e ∷ []) (e ∷ []) first refl (heads_one header h outside doing past e is)
 
 pub ran_head : (header : Header) (h : ℕ) (outside : Outside) (doing : Command) (past : List Event) (k : Parts) (ids : Ids) (events first : List Event) → head header past doing ≡ Some first → events ≡ reverse first
-    → Heads header h outside doing past events → IsDone header doing events past → Rests header h k ids (events ++ past) → Ran header h outside doing past k ids events
+    → Heads header h outside doing past events → IsDoneInTurn header doing events past → Rests header h k ids (events ++ past) → Ran header h outside doing past k ids events
 ran_head header h outside doing past k ids events first is same all done rests = record { rests = rests; grows = grows_head header h outside doing past events first is same all; done = done }

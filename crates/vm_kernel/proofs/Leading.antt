@@ -11,7 +11,7 @@ use Rattle.vm_state.proofs.Marks.{marked_some}
 use Rattle.vm_state.proofs.Referring.{objects_below, refers_region, small_region}
 use Rattle.vm_state.proofs.Walks.{top_of}
 use Rattle.vm_terminate.specs.Finishes.{IsReferred}
-use Rattle.vm_kernel.proofs.Shown.{shown_at, want_address}
+use Rattle.vm_kernel.proofs.Shown.{page_left, shown_at, want_address}
 use Rattle.vm_waits.specs.declared.waiting.Want.TheVariants as want
 use Rattle.vm_state.proofs.Filling.{AgreesNext, copies_next}
 use Rattle.vm_base.specs.Pages.{page_positive}
@@ -166,6 +166,7 @@ it_waits header h past k task what top at to =
         lives = to.lives;
         found = ap (λ z. entry_at z (entries_of header.size task past)) (want_address k.maps.size header.size (next_page task past) to.destination what to.sized to.agrees) ∙ to.found;
       };
+      left = page_left k.maps.size header.size (next_page task past) to.destination what to.sized to.some to.shape to.agrees;
     }
 
 pub top_at : (header : Header) (h : ℕ) (past : List Event) (k : Parts) (task : ℕ) (what : Want) (top : PageKey) (at : IsAt k.maps k.chains task what top) → (to : Leads header h past k task what top at)

@@ -1,5 +1,5 @@
 -- The pages of a lock request's range obey one after another, and the pager is told.
-use Rattle.vm_kernel.proofs.Common.{AllInner, Bool, Caused, Command, EachOf, Event, FrameTable, Header, HostParts, Ids, IsInner, LegalEvents, List, Local, None, ObjectId, ObjectRow, Option, Outside, PageKey, PageNo, PageRow, Parts, Plays, PutsRow, ResidentTable, RunsNone, Some, Still, Then, [], absent_at, ap, append-nil, arith, before_more, false, host_id, if◌then◌else◌, inl, inr, live_in, local, local_of_row, nat_lt, nat_tests, not, object_at, page_in, page_on, paging, place_of, refl, row_at, row_cases, row_put, or_true, since, some_is, subst, suc, sym, true, zero, ℕ, ◌++◌, ◌+◌, ◌<◌, ◌==◌, ◌&&◌, ◌||◌, ◌∙◌, ◌∷◌, ◌≡◌, ◌≤◌, ◌⊎◌, nat_le, eqb_tells, Works}
+use Rattle.vm_kernel.proofs.Common.{AllInner, Bool, CausedInTurn, Command, EachOf, Event, FrameTable, Header, HostParts, Ids, IsInner, LegalEvents, List, Local, None, ObjectId, ObjectRow, Option, Outside, PageKey, PageNo, PageRow, Parts, Plays, PutsRow, ResidentTable, RunsNone, Some, Still, Then, [], absent_at, ap, append-nil, arith, before_more, false, host_id, if◌then◌else◌, inl, inr, live_in, local, local_of_row, nat_lt, nat_tests, not, object_at, page_in, page_on, paging, place_of, refl, row_at, row_cases, row_put, or_true, since, some_is, subst, suc, sym, true, zero, ℕ, ◌++◌, ◌+◌, ◌<◌, ◌==◌, ◌&&◌, ◌||◌, ◌∙◌, ◌∷◌, ◌≡◌, ◌≤◌, ◌⊎◌, nat_le, eqb_tells, Works}
 use Rattle.std.specs.Prelude.{option_map}
 use Rattle.vm_kernel.proofs.Finishing.{changes_beside}
 use Rattle.vm_kernel.proofs.Growing.{Follows, goes_more, goes_none, suffices}
@@ -649,7 +649,7 @@ completed_rests r k past rests =
       waits = rests.waits;
     })
 
-completed_cause : (r : Request) (s : LockState) → IsTaken r → AllObeyed r s → r.reply ≡ true → Caused r.header r.outside r.command (completed r.host r.object r.known.control r.page r.count) (s.events ++ r.past)
+completed_cause : (r : Request) (s : LockState) → IsTaken r → AllObeyed r s → r.reply ≡ true → CausedInTurn r.header r.outside r.command (completed r.host r.object r.known.control r.page r.count) (s.events ++ r.past)
 completed_cause r s t all wanted =
     let o = all.obeyed in
     let m = mid_all r s all in

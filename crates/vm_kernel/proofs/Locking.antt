@@ -1,5 +1,5 @@
 -- A page obeys a lock request: what the kernel stands for behind that.
-use Rattle.vm_kernel.proofs.Common.{AllReferred, AreShared, Bool, Caused, ChainTable, Changes, Command, Discards, Does, Drops, Elsewhere, Event, Fit, HasControls, HasEntries, HasFrames, HasHomes, HasKinds, HasLaundry, HasOrder, HasPages, HasRegions, HasTasks, HasUse, HasWaiters, HasWaits, HaveHomes, Header, HostParts, Ids, IfSome, IsRanged, IsReferred, IsSettled, LaundryList, List, Local, LocalEffect, None, ObjectId, ObjectRow, ObjectTable, Option, Outside, PageKey, PageNo, PageRow, Parts, PartsFit, PutsAbsent, Queues, ResidentTable, Returns, SameObjects, Some, Suffice, Up, UsesAll, Works, [], absent_at, ap, arith, away, backing_of, entries_of, false, fit_objects, frame_count, frame_here, frames_held, frames_wired, holds, home_of, host_id, host_of, if◌then◌else◌, in_use, inl, inr, is_on, is_ready, is_some, is_woken, last_control, length, live_control, live_in, local, local_after, local_of_row, marked_regions, named, nat_tests, next_object, next_page, next_region, not, object_at, object_home, page_in, pages_of_row, paging, place_of, queues_except, ready_in, refl, region_of, returns_out, reverse, row_at, slice_get, some_is, subst, sym, true, waiting, ℕ, ◌&&◌, ◌++◌, ◌+◌, ◌-◌, ◌<◌, ◌==◌, ◌||◌, ◌∙◌, ◌∷◌, ◌≡◌}
+use Rattle.vm_kernel.proofs.Common.{AllReferred, AreShared, Bool, CausedInTurn, ChainTable, Changes, Command, Discards, Does, Drops, Elsewhere, Event, Fit, HasControls, HasEntries, HasFrames, HasHomes, HasKinds, HasLaundry, HasOrder, HasPages, HasRegions, HasTasks, HasUse, HasWaiters, HasWaits, HaveHomes, Header, HostParts, Ids, IfSome, IsRanged, IsReferred, IsSettled, LaundryList, List, Local, LocalEffect, None, ObjectId, ObjectRow, ObjectTable, Option, Outside, PageKey, PageNo, PageRow, Parts, PartsFit, PutsAbsent, Queues, ResidentTable, Returns, SameObjects, Some, Suffice, Up, UsesAll, Works, [], absent_at, ap, arith, away, backing_of, entries_of, false, fit_objects, frame_count, frame_here, frames_held, frames_wired, holds, home_of, host_id, host_of, if◌then◌else◌, in_use, inl, inr, is_on, is_ready, is_some, is_woken, last_control, length, live_control, live_in, local, local_after, local_of_row, marked_regions, named, nat_tests, next_object, next_page, next_region, not, object_at, object_home, page_in, pages_of_row, paging, place_of, queues_except, ready_in, refl, region_of, returns_out, reverse, row_at, slice_get, some_is, subst, sym, true, waiting, ℕ, ◌&&◌, ◌++◌, ◌+◌, ◌-◌, ◌<◌, ◌==◌, ◌||◌, ◌∙◌, ◌∷◌, ◌≡◌}
 use Rattle.vm_state.proofs.Filling.{KeepsAway, away_put, used_away, used_told}
 use Rattle.vm_state.specs.Stands.{KnowsFiles}
 use Rattle.vm_kernel.proofs.After.{Leaves, controls_after, homeless_after, regions_after}
@@ -339,8 +339,8 @@ comes_dropped header h outside doing ids k memory key row past returns rests loc
     clean : gives_back returns (local header.size h (place_of o p) past).dirty (local header.size h (place_of o p) past).precious ≡ false
     clean = ap (λ z. gives_back returns z (local header.size h (place_of o p) past).precious) seen.dirty ∙ (ap (gives_back returns row.dirty) seen.precious ∙ spared)
 
-    cause : Caused header outside doing (drops h key) past
-    cause = record { here = seen.here; why = Flushed returns locked clean }
+    cause : CausedInTurn header outside doing (drops h key) past
+    cause = (record { here = seen.here; why = Flushed returns locked clean }, tt)
 
 -- the request is taken
 abbrev pub asks : ℕ → ObjectId → ℕ → PageNo → ℕ → ℕ → Bool → ℕ → Bool → Event
@@ -411,15 +411,18 @@ given_follows header h outside doing ids k key row known keep flush past returns
     due : gives_back returns (local header.size h (place_of o p) past).dirty (local header.size h (place_of o p) past).precious ≡ true
     due = ap (λ z. gives_back returns z (local header.size h (place_of o p) past).precious) seen.dirty ∙ (ap (gives_back returns row.dirty) seen.precious ∙ wanted)
 
-    cause : Caused header outside doing (gives h key known.control row.dirty keep (page_in k.memory.frames row.frame.0)) past
-    cause = record {
-      live = m.controls.live o ∙ (ap live_in object ∙ ap (λ b. if b then Some known.control else None) live);
-      here = seen.here;
-      due = changed_due returns _ _ due;
-      same = sym seen.bytes_are;
-      flag = sym seen.dirty;
-      why = Wanted returns flush locked due kept;
-    }
+    cause : CausedInTurn header outside doing (gives h key known.control row.dirty keep (page_in k.memory.frames row.frame.0)) past
+    cause = (
+      record {
+        live = m.controls.live o ∙ (ap live_in object ∙ ap (λ b. if b then Some known.control else None) live);
+        here = seen.here;
+        due = changed_due returns _ _ due;
+        same = sym seen.bytes_are;
+        flag = sym seen.dirty;
+        why = Wanted returns flush locked due kept;
+      },
+      tt,
+    )
 
 -- it is returned, and goes
 pub comes_returned : (header : Header) (h : ℕ) (outside : Outside) (doing : Command) (ids : Ids) (k : Parts) (memory : HostParts) (laundry : LaundryList) (key : PageKey) (row : PageRow) (known : ObjectRow) (past : List Event) (returns : ℕ) → Mid header h k ids past

@@ -1,5 +1,5 @@
 -- A pageout reclaims pages, one after another.
-use Rattle.vm_kernel.proofs.Common.{Command, EachGone, EachOf, Event, FreesOrReturns, Grows, Header, Ids, IfSome, IsDone, IsReclaim, LegalEvents, List, None, Option, Outside, PageKey, Parts, Ran, Reclaim, ReclaimsOnly, Rests, Some, Starts, [], ap, departures, eqb_tells, head, host_id, inl, inr, of_both, page_key, refl, some_is, subst, sym, ℕ, ◌++◌, ◌+◌, ◌∙◌, ◌∷◌, ◌≡◌, ◌⊎◌}
+use Rattle.vm_kernel.proofs.Common.{Command, EachGone, EachOf, Event, FreesOrReturns, Grows, Header, Ids, IfSome, IsDoneInTurn, IsReclaim, LegalEvents, List, None, Option, Outside, PageKey, Parts, Ran, Reclaim, ReclaimsOnly, Rests, Some, Starts, [], ap, departures, eqb_tells, head, host_id, inl, inr, of_both, page_key, refl, some_is, subst, sym, ℕ, ◌++◌, ◌+◌, ◌∙◌, ◌∷◌, ◌≡◌, ◌⊎◌}
 use Rattle.vm_model.specs.declared.command.Command.TheVariants as command
 use Rattle.vm_model.specs.declared.event.Event.TheVariants as event
 use Rattle.vm_pageout.specs.declared.answer.Reclaim.TheVariants as reclaim
@@ -106,7 +106,7 @@ ran_out header h outside doing count done first spared past k k2 ids answer even
     record {
       rests = rests;
       grows = grows_goes header h outside doing past events after r.grows goes;
-      done = subst (λ (z : Command). IsDone header z after past) (sym r.is) (record { later = []; front = after; is = refl; reclaims = all; enough = inr (exhausted header h k2 ids spared past (after ++ past) rests was (reclaimed.nothing nothing).1) });
+      done = subst (λ (z : Command). IsDoneInTurn header z after past) (sym r.is) (record { later = []; front = after; is = refl; reclaims = all; enough = inr (exhausted header h k2 ids spared past (after ++ past) rests was (reclaimed.nothing nothing).1) });
     }
   where
     all : EachOf (IsReclaim h) after
@@ -119,5 +119,5 @@ paged_out header h outside doing count first past k ids events r =
     record {
       rests = r.rests;
       grows = r.grows;
-      done = subst (λ (z : Command). IsDone header z events past) (sym r.is) (record { later = []; front = events; is = refl; reclaims = r.reclaims; enough = inl r.went });
+      done = subst (λ (z : Command). IsDoneInTurn header z events past) (sym r.is) (record { later = []; front = events; is = refl; reclaims = r.reclaims; enough = inl r.went });
     }

@@ -17,6 +17,8 @@ use Rattle.vm_supply.specs.declared.woken.Woken.TheVariants as woken
 use Rattle.vm_waits.specs.declared.waiting.On.TheVariants as on
 use Rattle.vm_kernel.proofs.Own.{own_host}
 use Rattle.vm_kernel.proofs.Shown.{shown_at, waiting_place}
+use Rattle.vm_kernel.proofs.Sparing.{here_waits}
+use Rattle.vm_legal.specs.Prompt.{EachLeads}
 use Rattle.vm_state.proofs.Filling.{AgreesNext, copies_next}
 use Rattle.vm_model.specs.Waiting.{next_page}
 
@@ -43,6 +45,12 @@ has_row k past task access has here waits = go (entry k.waits.rows task) refl
 -- a task that waits on the host is in its maps
 pub at_home : (header : Header) (h : ℕ) (k : Parts) (ids : Ids) (past : List Event) (task : ℕ) (access : Access) → Matches header h k ids [] past → (waits : Waits header task access past) → waits.at.host ≡ h → is_some (entries_in task k.maps) ≡ true
 at_home header h k ids past task access m waits home = sym (m.tasks.hosts task) ∙ (ap (is_on h) (waits.at.lives ∙ ap Some home) ∙ own_host h)
+
+-- whoever waits on the host has a page left, and an entry that leads to it
+each_leads : (header : Header) (h : ℕ) (k : Parts) (ids : Ids) (past : List Event) → Rests header h k ids past → EachLeads header h past
+each_leads header h k ids past rests task access waits lives =
+    let row = has_row k past task access rests.waits (sym (rests.matches.tasks.hosts task) ∙ lives) waits in
+    subst (λ (z : Access). Waits header task z past) (sym row.is) (here_waits header h k ids past task row.row rests.matches rests.waits rests.used.copies row.found)
 
 -- what an access waits for that isn't to be run again
 waits_for : (header : Header) (h : ℕ) (k : Parts) (ids : Ids) (past : List Event) (task to : ℕ) (what : Want) (why : On) → AgreesNext what (next_page task past) → Matches header h k ids [] past → Reason k.maps k.chains k.memory.resident k.memory.objects task what why → is_again why ≡ false → (is_frame why ≡ true → HostIsFull header h past)
@@ -165,4 +173,4 @@ queue_of header h k past (inl empty) = inl empty
 queue_of header h k past (inr full) = inr full.none
 
 pub prompt_of : (header : Header) (h : ℕ) (k : Parts) (ids : Ids) (past : List Event) → Rests header h k ids past → QueueIsServed header h k past → PromptAt header h past
-prompt_of header h k ids past rests served = record { waits = none_in_vain header h k ids past rests served; swept = swept header h k ids past rests }
+prompt_of header h k ids past rests served = record { leads = each_leads header h k ids past rests; waits = none_in_vain header h k ids past rests served; swept = swept header h k ids past rests }

@@ -1,5 +1,5 @@
 -- A range is allocated: a region over a new object, and an entry on the whole of it.
-use Rattle.vm_kernel.proofs.Common.{AllLicensed, AllReferred, Bool, ChainTable, ChangesOnly, EachIn, Enters, Entry, Event, Fit, HasCause, HasEntries, HasHomes, HasRegions, HasSlow, HasUse, HasWaits, HaveHomes, Header, HostParts, Ids, IfSome, IsFilledIn, IsInside, IsLined, IsMine, IsUsed, List, MadeRange, MapChange, Mapped, None, ObjectId, ObjectRow, ObjectTable, Option, Outside, Parts, PutsObject, PutsRegion, Ran, Region, RegionId, RegionRow, Rests, Some, Starts, TaskId, Waiting, [], all_tasks, ap, arith, backing_of, begins_copy, begins_here, both_left, code_where, copy_target, count_by, entered, entering, entries_in, entries_of, entry, eqb_tells, false, fills, fit_within, got, has_entry, head, holds, home_entered, home_of, homes_next, homes_stay, host_of, if◌then◌else◌, in_use, inl, inr, is_none, is_on, is_range, is_ready, is_some, last_control, length, length_entered, live_control, lives_on, local, made_here, marked_regions, meets_range, most_entries, nat_le, nat_tests, next_object, next_region, object_at, object_home, one_case, page_below, pages_in, pages_of_row, place_of, refl, region_at, region_of, region_pages, rows_entered, rows_in, rows_map, some_is, starts_copy, subst, sym, tasks, true, waiting, waiting_in, whole_entry, ℕ, ◌%◌, ◌++◌, ◌+◌, ◌-◌, ◌/◌, ◌<◌, ◌==◌, ◌^◌, ◌||◌, ◌∙◌, ◌∷◌, ◌≡◌, ◌≢◌, ◌≤◌, ◌⊎◌}
+use Rattle.vm_kernel.proofs.Common.{AllInTurn, AllReferred, Bool, ChainTable, ChangesOnly, EachIn, Enters, Entry, Event, Fit, HasCause, HasEntries, HasHomes, HasRegions, HasSlow, HasUse, HasWaits, HaveHomes, Header, HostParts, Ids, IfSome, IsFilledIn, IsInside, IsLined, IsMine, IsUsed, List, MadeRange, MapChange, Mapped, None, ObjectId, ObjectRow, ObjectTable, Option, Outside, Parts, PutsObject, PutsRegion, Ran, Region, RegionId, RegionRow, Rests, Some, Starts, TaskId, Waiting, [], all_tasks, ap, arith, backing_of, begins_copy, begins_here, both_left, code_where, copy_target, count_by, entered, entering, entries_in, entries_of, entry, eqb_tells, false, fills, fit_within, got, has_entry, head, holds, home_entered, home_of, homes_next, homes_stay, host_of, if◌then◌else◌, in_use, inl, inr, is_none, is_on, is_range, is_ready, is_some, last_control, length, length_entered, live_control, lives_on, local, made_here, marked_regions, meets_range, most_entries, nat_le, nat_tests, next_object, next_region, object_at, object_home, one_case, page_below, pages_in, pages_of_row, place_of, refl, region_at, region_of, region_pages, rows_entered, rows_in, rows_map, some_is, starts_copy, subst, sym, tasks, true, waiting, waiting_in, whole_entry, ℕ, ◌%◌, ◌++◌, ◌+◌, ◌-◌, ◌/◌, ◌<◌, ◌==◌, ◌^◌, ◌||◌, ◌∙◌, ◌∷◌, ◌≡◌, ◌≢◌, ◌≤◌, ◌⊎◌}
 use Rattle.vm_supply.specs.declared.woken.Woken.TheVariants as woken
 use Rattle.vm_kernel.proofs.Filled.{free_unfilled, put_filled, same_waiting, unknown_unfilled}
 use Rattle.vm_kernel.proofs.Uses.{ApartFrom, fills_here, holds_rows, unfilled, uses_entered}
@@ -293,7 +293,7 @@ range_enters header h task address bytes past k ids lined rests may =
     }
 
 range_licensed : (header : Header) (h : ℕ) (outside : Outside) (task : TaskId) (address bytes : ℕ) (past : List Event) (k : Parts) (ids : Ids) → IsLined past → Rests header h k ids past → MayRange header.size k ids task.0 address bytes
-    → AllLicensed header outside (command.Allocate task address bytes) (ranged task ids address bytes (bytes / header.size)) past
+    → AllInTurn header outside (command.Allocate task address bytes) (ranged task ids address bytes (bytes / header.size)) past
 range_licensed header h outside task address bytes past k ids lined rests may =
     let m = rests.matches in
     let n = ids.next_region in

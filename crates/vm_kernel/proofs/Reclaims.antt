@@ -37,6 +37,7 @@ use Rattle.vm_kernel.proofs.Replied.{replied_behind}
 use Rattle.vm_kernel.proofs.Sparing.{waits_unlocked}
 use Rattle.vm_kernel.specs.Matches.{IsReplied}
 use Rattle.vm_legal.specs.Accesses.{WaitsUnlocked}
+use Rattle.vm_legal.specs.InTurn.{ReturnsInTurn}
 
 -- all but what a reclaim changes is as it was, and what it changes fits
 pub record Beside (k k2 : Parts) : Type 0 where
@@ -159,7 +160,7 @@ took_freed header h outside doing past ids skip k k2 before after rests beside l
     rw (own_host h) (frames_changed (slice_get (reverse header.frames.items) h) key row.frame _ _ _ _ _ (looked k.memory) k2.memory (frames_held header.size h moment) (frames_held header.size h moment - 1) (frames_wired h moment) m.frames page (λ held. let less = page.claims in omega arith)) in
     let drops : Drops header doing h o p moment = record { here = seen.here; why = ForFrames (seen.dirty ∙ freed.clean) (seen.precious ∙ freed.plain) (may_take header h doing o p moment (seen.unlocking ∙ none) may) } in
     let follows : Follows header h outside doing e moment =
-    record { consequence = tt; cause = drops; own_bytes = tt; frames = suffices header h k2.memory.frames (e ∷ moment) frames; inner = tt; said = tt; own = own_named h; creates = tt } in
+    record { consequence = tt; cause = (drops, tt); own_bytes = tt; frames = suffices header h k2.memory.frames (e ∷ moment) frames; inner = tt; said = tt; own = own_named h; creates = tt } in
     let fit = fit_touched k.memory (queues_after_search k.memory.queues) m.fits.parts keeps refl in
     subst (λ (z : List Event). Took header h outside doing past ids reclaim.Freed skip k k2 before z) (sym log)
     (record {
@@ -318,14 +319,14 @@ either dirty precious one other is = rw (one, other) is
 
 -- a return has its cause, and its bytes are those of the page
 back_follows : (header : Header) (h : ℕ) (outside : Outside) (doing : Command) (ids : Ids) (k : Parts) (key : PageKey) (row : PageRow) (f control : ℕ) (past moment : List Event) → Matches header h k ids [] past → row_at k.memory.resident key.object.0 key.page.0 ≡ Some row → row.frame.0 ≡ f
-    → IsSeen (known_local header key.object.0 key.page.0 (local header.size h (place_of key.object.0 key.page.0) moment)) row (page_in k.memory.frames row.frame.0) → (row.dirty || row.precious) ≡ true → live_control h key.object.0 moment ≡ Some control → ReturnCause header doing h key.object.0 key.page.0 false moment
+    → IsSeen (known_local header key.object.0 key.page.0 (local header.size h (place_of key.object.0 key.page.0) moment)) row (page_in k.memory.frames row.frame.0) → (row.dirty || row.precious) ≡ true → live_control h key.object.0 moment ≡ Some control → (why : ReturnCause header doing h key.object.0 key.page.0 false moment) → ReturnsInTurn header doing h key.object.0 key.page.0 false moment why
     → HasFrames (slice_get (reverse header.frames.items) h) k.memory.frames (frames_held header.size h moment) (frames_wired h moment) → Follows header h outside doing (returning h key control row.dirty (page_in k.memory.frames f)) moment
-back_follows header h outside doing ids k key row f control past moment m found framed seen wanted live why frames =
+back_follows header h outside doing ids k key row f control past moment m found framed seen wanted live why turn frames =
     let back : GivesBack header doing h control key.object.0 key.page.0 row.dirty false (page_in k.memory.frames f) moment =
     record { live = live; here = seen.here; due = either row.dirty row.precious seen.dirty seen.precious wanted; same = ap (page_in k.memory.frames) (sym framed) ∙ sym seen.bytes_are; flag = sym seen.dirty; why = why } in
     let inside : f < frame_count k.memory.frames = mark_there k.memory.frames.claims f (subst (λ (z : ℕ). is_claimed k.memory.frames z ≡ true) framed (m.fits.parts.held key.object.0 key.page.0 row found)) in
     let long : length (page_in k.memory.frames f) ≡ header.size = m.fits.parts.all_sized f inside ∙ (m.fits.buffers ∙ m.size) in
-    record { consequence = tt; cause = back; own_bytes = tt; frames = suffices header h k.memory.frames (returning h key control row.dirty (page_in k.memory.frames f) ∷ moment) frames; inner = tt; said = (refl, long); own = own_named h; creates = tt }
+    record { consequence = tt; cause = (back, turn); own_bytes = tt; frames = suffices header h k.memory.frames (returning h key control row.dirty (page_in k.memory.frames f) ∷ moment) frames; inner = tt; said = (refl, long); own = own_named h; creates = tt }
 
 -- what is said where a page goes back
 abbrev sent_back : PageKey → Bool → ObjectRow → List ℕ → List Event → ℕ → PagerState → HostId → List Event
@@ -351,7 +352,7 @@ took_told header h outside doing past ids skip k k2 before after rests beside lo
     let kind = m.kinds.kinds o is.object is.known in
     let lives : live_control h o moment ≡ Some is.object.control = m.controls.live o ∙ (ap live_in is.known ∙ ap (λ b. if b then Some is.object.control else None) (kind.lives ∙ paged)) in
     let why : ReturnCause header doing h o p false moment = ForFrames refl (may_take header h doing o p moment (seen.unlocking ∙ none) may) in
-    let follows = back_follows header h outside doing ids k key row is.row.frame.0 is.object.control moment moment m page.found refl seen is.wanted lives why m.frames in
+    let follows = back_follows header h outside doing ids k key row is.row.frame.0 is.object.control moment moment m page.found refl seen is.wanted lives why tt m.frames in
     let b : Before header h k ids moment = record { tasks = m.tasks; regions = m.regions; pages = m.pages; uses = m.uses; homeless = m.homeless; homes = m.homes; files = m.files; laundry = m.laundry; frames = m.frames; replied = m.replied; waits = rests.waits; order = rests.order; used = rests.used } in
     let controls = controls_same k.memory.objects k2.memory.objects _ _ _ m.controls (controls_told k.memory.objects k2.memory.objects o is.object is.known same is.objects) in
     subst (λ (z : List Event). Took header h outside doing past ids reclaim.Returned skip k k2 before z) (sym log)
@@ -396,7 +397,7 @@ took_first header h outside doing past ids skip k k2 before after rests beside l
     let controls : HasControls (named header) h k2.memory.objects (λ o. last_control h o moment) (λ o. live_control h o moment) (λ o. is_ready h o moment) (λ o. object_home o moment) = controls_stay (λ o is. object_stays o h e1 h0 is) begun in
     let lives : live_control h o moment ≡ Some control = if_true o (Some control) (live_control h o h0) (live_control h o moment) (rw (own_host h) refl) in
     let why : ReturnCause header doing h o p false moment = Created control header.size h0 refl refl (may_take header h doing o p h0 (seen0.unlocking ∙ unlocked) may) in
-    let follows = back_follows header h outside doing ids k key row is.row.frame.0 control h0 moment m page.found refl seen is.wanted lives why m.frames in
+    let follows = back_follows header h outside doing ids k key row is.row.frame.0 control h0 moment m page.found refl seen is.wanted lives why tt m.frames in
     let creates : Creates header h control o header.size h0 =
     record { number = ap (λ z. z + 1) none; sized = refl; temporary = temporary; never = m.controls.last o ∙ (ap last_in is.known ∙ none); page = p; here = seen0.here } in
     let b : Before header h k ids moment =

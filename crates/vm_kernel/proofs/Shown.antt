@@ -1,5 +1,10 @@
 -- What a kernel's tables show of its history's walks, and of the places of an access.
 use Rattle.vm_kernel.proofs.Common.{Entry, Event, HasPlace, Header, Ids, IsPlaceOf, LeadsTo, List, Matches, PageKey, Parts, Some, Waits, Want, access_in, address_in, address_of, ap, entries_in, entries_of, entry_at, is_some, next_page, page_at, page_of, refl, rows_in, some_is, subst, sym, true, ℕ, ◌*◌, ◌+◌, ◌∙◌, ◌≡◌}
+use Rattle.std.proofs.Common.{arith}
+use Rattle.std.proofs.Math.Nat.{mul-div_cancel}
+use Rattle.std.specs.Prelude.{◌/◌, ◌<◌}
+use Rattle.vm_legal.specs.Accesses.{HasPageLeft}
+use Rattle.vm_waits.specs.Wants.{IsSizedWant}
 use Rattle.vm_waits.specs.declared.waiting.Want.TheVariants as want
 use Rattle.vm_state.proofs.Filling.{AgreesNext}
 use Rattle.vm_state.proofs.Referring.{refers_region, refers_shadow}
@@ -26,6 +31,12 @@ pub want_address : (size other next to : ℕ) (what : Want) → size ≡ other �
 want_address size other next to (want.Load address n) sized agrees = refl
 want_address size other next to (want.Store address n value) sized agrees = refl
 want_address size other next to (want.CopyTo address pages target page) sized agrees = ap (λ z. address + z * other) agrees ∙ ap (λ z. address + page * z) (sym sized)
+
+-- it has a page left, which of a slow copy is its next one
+pub page_left : (size other next to : ℕ) (what : Want) → size ≡ other → 0 < other → IsSizedWant size what → AgreesNext what next → HasPageLeft other (access_in size to what) next
+page_left size other next to (want.Load address bytes) same some sized agrees = tt
+page_left size other next to (want.Store address bytes value) same some sized agrees = tt
+page_left size other next to (want.CopyTo address pages target page) same some sized agrees = rw (same, agrees) (let whole : pages * other / other ≡ pages = mul-div_cancel pages some in let left = sized.1 in omega (arith, whole, left))
 
 -- so it is about the same page of its entry's region
 pub page_of_want : {header : Header} {h : ℕ} {k : Parts} {ids : Ids} {lost : List Entry} {past : List Event} (task to : ℕ) (what : Want) (entry : Entry) → Matches header h k ids lost past → AgreesNext what (next_page task past)

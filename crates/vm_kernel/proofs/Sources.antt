@@ -15,8 +15,9 @@ use Rattle.vm_kernel.proofs.Own.{lives_here, rows_here}
 use Rattle.vm_state.proofs.Filling.{copies_next}
 use Rattle.vm_state.proofs.Shown.{shows_row}
 use Rattle.vm_state.proofs.Walks.{comes_of}
-use Rattle.vm_kernel.proofs.Shown.{page_of_want, shown_at, want_address}
+use Rattle.vm_kernel.proofs.Shown.{page_left, page_of_want, shown_at, want_address}
 use Rattle.vm_kernel.proofs.Regions.{region_row}
+use Rattle.vm_base.specs.Pages.{page_positive}
 
 -- an access that an entry allows can be followed down its chain
 pub walks_down : (header : Header) (h : ℕ) (k : Parts) (ids : Ids) (past : List Event) (lost : List Entry) (task : ℕ) (what : Want) → Matches header h k ids lost past → IsAllowed k.maps task (address_in k.maps.size what) (need_in what) → IsSizedWant k.maps.size what → CanWalk k.maps k.memory k.chains task what
@@ -67,6 +68,7 @@ source_is header h k ids past who task w source key row steps m waits copies fou
           lives = lives_here m.tasks lives;
           found = ap (λ z. entry_at z (entries_of header.size task past)) (want_address size header.size (next_page task past) to what m.tasks.sized agrees) ∙ (ap (entry_at (address_in size what)) (rows_here m.tasks lives) ∙ at.found);
         };
+        left = page_left size header.size (next_page task past) to what m.tasks.sized (page_positive header.size m.ranged.size) (waits.sized task w found) agrees;
       };
       on_host = refl;
       comes = comes;

@@ -4,7 +4,8 @@ use Rattle.std.proofs.lemmas.Bool.{or_right}
 use Rattle.vm_base.specs.declared.ids.FrameNo.{FrameNo}
 use Rattle.vm_kernel.proofs.Own.{lives_here, rows_here}
 use Rattle.vm_kernel.proofs.Pages.{itself}
-use Rattle.vm_kernel.proofs.Shown.{shown_at, waiting_place, want_address}
+use Rattle.vm_base.specs.Pages.{page_positive}
+use Rattle.vm_kernel.proofs.Shown.{page_left, shown_at, waiting_place, want_address}
 use Rattle.vm_kernel.specs.Plays.{AreSpared, frame_here}
 use Rattle.vm_kernel.specs.Serving.{FreesBut, IsHere, IsToCopy, SkipLocked, frame_spared, frames_locked, frames_spared, option_list}
 use Rattle.vm_kernel.specs.Taking.{page_waited}
@@ -34,6 +35,7 @@ here_waits header h k ids past task w m waits copies found =
         lives = lives_here m.tasks allowed.lives;
         found = ap (λ z. entry_at z (entries_of header.size task past)) (want_address k.maps.size header.size (next_page task past) (copies_to w.destination) w.want m.tasks.sized (copies_next copies task w found)) ∙ (ap (entry_at (address_in k.maps.size w.want)) (rows_here m.tasks allowed.lives) ∙ allowed.found);
       };
+      left = page_left k.maps.size header.size (next_page task past) (copies_to w.destination) w.want m.tasks.sized (page_positive header.size m.ranged.size) (waits.sized task w found) (copies_next copies task w found);
     }
 
 -- a page is asked, or not

@@ -1,5 +1,5 @@
 -- An object to which nothing refers: its pages go, its control ends, where one lives, and what stood under it has one reference less.
-use Rattle.vm_kernel.proofs.Common.{AllEntriesInside, Below, Bool, Caused, ChainTable, Changes, Command, Does, Drops, Elsewhere, EndsObject, Entry, Event, Fit, FrameTable, HasControls, HasEntries, HasFrames, HasKinds, HasPages, HasSlow, HasWaiters, HaveHomes, Header, HostParts, Ids, Inside, IsAmid, IsInside, IsOfKind, IsReferred, IsWhole, LaundryList, LegalEvents, List, Local, LocalEffect, Mapped, Matches, None, ObjectId, ObjectRow, ObjectTable, Option, Outside, PageKey, PageRow, Parts, PutsAbsent, PutsObject, Reach, Region, RegionRow, ResidentTable, ReturnCause, Returns, SameMarks, SameObjects, Some, Unreached, Up, UsesAll, Woken, [], absent_at, all_tasks, ap, arith, away, backing_of, entries_in, entries_of, eqb_tells, false, fit_objects, frames_held, frames_wired, has_entry, has_region, home_of, host_id, if◌then◌else◌, in_use, inl, inr, is_control, is_ready, is_some, is_woken, last_control, last_in, length, live_control, live_in, local, local_after, local_of_row, marked_regions, named, nat_tests, next_object, next_region, not, object_at, one_case, page_in, pages_in, pages_of_row, paging, place_of, queues_except, ready_in, refl, region_at, region_of, returns_out, reverse, row_at, row_cases, rows_in, rows_map, same_pages, slice_get, some_is, subst, suc, sym, true, waiting, without_control, zero, ℕ, ◌&&◌, ◌++◌, ◌+◌, ◌-◌, ◌<◌, ◌==◌, ◌^◌, ◌||◌, ◌∙◌, ◌∷◌, ◌≡◌, ◌≤◌, ◌⊎◌}
+use Rattle.vm_kernel.proofs.Common.{AllEntriesInside, Below, Bool, CausedInTurn, ChainTable, Changes, Command, Does, Drops, Elsewhere, EndsObject, Entry, Event, Fit, FrameTable, HasControls, HasEntries, HasFrames, HasKinds, HasPages, HasSlow, HasWaiters, HaveHomes, Header, HostParts, Ids, Inside, IsAmid, IsInside, IsOfKind, IsReferred, IsWhole, LaundryList, LegalEvents, List, Local, LocalEffect, Mapped, Matches, None, ObjectId, ObjectRow, ObjectTable, Option, Outside, PageKey, PageRow, Parts, PutsAbsent, PutsObject, Reach, Region, RegionRow, ResidentTable, ReturnCause, Returns, SameMarks, SameObjects, Some, Unreached, Up, UsesAll, Woken, [], absent_at, all_tasks, ap, arith, away, backing_of, entries_in, entries_of, eqb_tells, false, fit_objects, frames_held, frames_wired, has_entry, has_region, home_of, host_id, if◌then◌else◌, in_use, inl, inr, is_control, is_ready, is_some, is_woken, last_control, last_in, length, live_control, live_in, local, local_after, local_of_row, marked_regions, named, nat_tests, next_object, next_region, not, object_at, one_case, page_in, pages_in, pages_of_row, paging, place_of, queues_except, ready_in, refl, region_at, region_of, returns_out, reverse, row_at, row_cases, rows_in, rows_map, same_pages, slice_get, some_is, subst, suc, sym, true, waiting, without_control, zero, ℕ, ◌&&◌, ◌++◌, ◌+◌, ◌-◌, ◌<◌, ◌==◌, ◌^◌, ◌||◌, ◌∙◌, ◌∷◌, ◌≡◌, ◌≤◌, ◌⊎◌}
 use Rattle.std.proofs.lemmas.Bool.{or_parts}
 use Rattle.vm_kernel.specs.Fits.{ArePlain}
 use Rattle.vm_legal.specs.Licences.{DropCause, Ended, IsUnheld}
@@ -42,6 +42,7 @@ use Rattle.vm_state.specs.Filling.{filled_row}
 use Rattle.vm_kernel.proofs.Filled.{dropped_filled}
 use Rattle.vm_state.specs.Places.{known_local}
 use Rattle.vm_state.specs.References.{is_live_in}
+use Rattle.vm_legal.specs.InTurn.{DropsInTurn}
 
 -- no region that is in use leads to it
 
@@ -176,11 +177,16 @@ ends_lost header h outside doing past who k ids rest key row memory events e fir
     why : DropCause header doing h o p (local header.size h (place_of o p) (events ++ past)) (events ++ past)
     why = elim (kind_cases header o) [
       | inl declared ↦ Ended (seen.dirty ∙ (or_parts row.dirty row.precious (clean declared)).0) (seen.precious ∙ (or_parts row.dirty row.precious (clean declared)).1) declared (unheld header h k ids rest (events ++ past) o e.row m e.known e.none declared)
-      | inr temporary ↦ Unreached temporary (unreached header h k ids rest (events ++ past) o e.row m e.used.copies e.known e.none temporary) least
+      | inr temporary ↦ Unreached temporary (unreached header h k ids rest (events ++ past) o e.row m e.used.copies e.known e.none temporary)
     ]
 
-    cause : Caused header outside doing (event.Dropped (host_id h) key.object key.page) (events ++ past)
-    cause = record { here = seen.here; why = why }
+    turn : (cause : DropCause header doing h o p (local header.size h (place_of o p) (events ++ past)) (events ++ past)) → DropsInTurn header doing h o p (local header.size h (place_of o p) (events ++ past)) (events ++ past) cause
+    turn (Unreached temporary unreached) = least
+    turn (Ended clean plain declared unheld) = least
+    turn other = tt
+
+    cause : CausedInTurn header outside doing (event.Dropped (host_id h) key.object key.page) (events ++ past)
+    cause = (record { here = seen.here; why = why }, turn why)
 
     plain2 : ArePlain memory.resident
     plain2 o2 p2 row2 found = elim (row_cases o p None k.memory.resident memory.resident c.row o2 p2) [
@@ -258,6 +264,7 @@ put_same o row os os2 same found = record {
 -- A changed or precious page of a declared object that ends has gone to the pager, which has its control still.
 pub record GoesToPager (header : Header) (k : Parts) (key : PageKey) (known : ObjectRow) (row : PageRow) (memory : HostParts) (laundry : LaundryList) : Type 0 where
   pub declared : key.object.0 < named header
+  pub first : (q : ℕ) → q < key.page.0 → row_at k.memory.resident key.object.0 q ≡ None
   pub found : object_at k.memory.objects key.object.0 ≡ Some known
   pub live : known.live ≡ true
   pub here : row.here ≡ true
@@ -352,15 +359,21 @@ ends_returned header h outside doing past who k ids rest key known row memory la
     why : ReturnCause header doing h o p false (events ++ past)
     why = Ended refl goes.declared (unheld header h k ids rest (events ++ past) o e.row m e.known e.none goes.declared)
 
-    cause : Caused header outside doing (going_back h key known row (page_in k.memory.frames row.frame.0)) (events ++ past)
-    cause = record {
-      live = m.controls.live o ∙ (ap live_in goes.found ∙ ap (λ b. if b then Some known.control else None) goes.live);
-      here = seen.here;
-      due = due;
-      same = sym seen.bytes_are;
-      flag = sym seen.dirty;
-      why = why;
-    }
+    least : (q : ℕ) → q < p → (local header.size h (place_of o q) (events ++ past)).here ≡ false
+    least q low = ap (λ z. z.here) (m.pages.shown o q ∙ ap (λ z. local_of_row k.memory.frames z (absent_at k.memory.objects o q)) (goes.first q low))
+
+    cause : CausedInTurn header outside doing (going_back h key known row (page_in k.memory.frames row.frame.0)) (events ++ past)
+    cause = (
+      record {
+        live = m.controls.live o ∙ (ap live_in goes.found ∙ ap (λ b. if b then Some known.control else None) goes.live);
+        here = seen.here;
+        due = due;
+        same = sym seen.bytes_are;
+        flag = sym seen.dirty;
+        why = why;
+      },
+      least,
+    )
 
     long : length (page_in k.memory.frames row.frame.0) ≡ header.size
     long = m.fits.parts.all_sized row.frame.0 c.inside ∙ (m.fits.buffers ∙ m.size)
@@ -569,7 +582,7 @@ ends_told header h outside doing past who k ids rest object events row objects s
     bare : (p : ℕ) → known_local header object.0 p (local header.size h (place_of object.0 p) (events ++ past)) ≡ local_of_row k.memory.frames None (absent_at k.memory.objects object.0 p)
     bare p = m.pages.shown object.0 p ∙ ap (λ z. local_of_row k.memory.frames z (absent_at k.memory.objects object.0 p)) (none p)
 
-    cause : Caused header outside doing (event.Sent (Up (host_id h) object) (message.Terminate row.control)) (events ++ past)
+    cause : CausedInTurn header outside doing (event.Sent (Up (host_id h) object) (message.Terminate row.control)) (events ++ past)
     cause = record {
       live = alive;
       unreached = unreached header h k ids rest (events ++ past) object.0 row m s.used.copies found unreferred;

@@ -1,5 +1,5 @@
 -- Frames are wired, or wired no more.
-use Rattle.vm_kernel.proofs.Common.{All, Bool, Command, Event, Fit, FrameNo, FrameTable, HasFrames, HasLaundry, HasPages, Header, HostParts, Ids, IsDone, IsWashed, LaundryList, List, Local, None, ObjectTable, Option, Outside, PageRow, Parts, Ran, ResidentTable, Rests, Some, Starts, [], absent_at, ap, arith, claimed, false, frame_count, frames_free, frames_held, frames_wired, free, head, host_id, if◌then◌else◌, local, local_of_row, nat_le, nat_tests, place_of, refl, returns_out, reverse, row_at, slice_get, subst, sym, true, ℕ, ◌+◌, ◌-◌, ◌∙◌, ◌∷◌, ◌≡◌, ◌≤◌}
+use Rattle.vm_kernel.proofs.Common.{All, Bool, Command, Event, Fit, FrameNo, FrameTable, HasFrames, HasLaundry, HasPages, Header, HostParts, Ids, IsDoneInTurn, IsWashed, LaundryList, List, Local, None, ObjectTable, Option, Outside, PageRow, Parts, Ran, ResidentTable, Rests, Some, Starts, [], absent_at, ap, arith, claimed, false, frame_count, frames_free, frames_held, frames_wired, free, head, host_id, if◌then◌else◌, local, local_of_row, nat_le, nat_tests, place_of, refl, returns_out, reverse, row_at, slice_get, subst, sym, true, ℕ, ◌+◌, ◌-◌, ◌∙◌, ◌∷◌, ◌≡◌, ◌≤◌}
 use Rattle.std.proofs.Common.{nat_lt}
 use Rattle.vm_base.specs.declared.code.Code.TheVariants as code
 use Rattle.vm_model.specs.declared.event.Event.TheVariants as event
@@ -46,7 +46,7 @@ pages_wired fs rs os local_at wired has = record { shown = λ o p. has.shown o p
 
 -- so many frames are wired now, and that was told
 ran_wired : (header : Header) (h : ℕ) (outside : Outside) (doing : Command) (past : List Event) (k : Parts) (ids : Ids) (wired : ℕ) → Rests header h k ids past → claimed k.memory.frames + wired ≤ frame_count k.memory.frames → head header past doing ≡ Some (event.Wired (host_id h) wired ∷ [])
-    → IsDone header doing (event.Wired (host_id h) wired ∷ []) past → Ran header h outside doing past (record k { memory = record k.memory { frames = with_wired k.memory.frames wired } }) ids (event.Wired (host_id h) wired ∷ [])
+    → IsDoneInTurn header doing (event.Wired (host_id h) wired ∷ []) past → Ran header h outside doing past (record k { memory = record k.memory { frames = with_wired k.memory.frames wired } }) ids (event.Wired (host_id h) wired ∷ [])
 ran_wired header h outside doing past k ids wired rests few first done =
     let m = rests.matches in
     let leaves : Leaves header past (event.Wired (host_id h) wired ∷ past) = record { regions_made = refl; objects_made = refl; region = λ r. refl; backing = λ o. refl; home = λ r. refl; made_for = λ o. refl; used = λ g r. refl; target = λ task. refl } in

@@ -9,10 +9,11 @@ use Rattle.vm_model.specs.declared.message.Message.TheVariants as message
 use Rattle.vm_model.specs.declared.script.Header.{Header}
 use Rattle.vm_model.specs.Ranges.{InRange}
 use Rattle.vm_legal.specs.Bytes.{OwnBytes}
-use Rattle.vm_legal.specs.Follows.{IsConsequence, IsDone, head}
+use Rattle.vm_legal.specs.Follows.{IsConsequence, head}
+use Rattle.vm_legal.specs.InTurn.{IsDoneInTurn}
 use Rattle.vm_legal.specs.Frames.{Suffice}
 use Rattle.vm_legal.specs.Homes.{EntersNext}
-use Rattle.vm_legal.specs.Licences.{AllLicensed}
+use Rattle.vm_legal.specs.InTurn.{AllInTurn}
 use Rattle.vm_legal.specs.Living.{lives_on}
 use Rattle.vm_legal.specs.Outside.{Outside, is_file}
 use Rattle.vm_legal.specs.Prompt.{PromptAt}
@@ -109,7 +110,7 @@ pub record Grows (header : Header) (h : ℕ) (outside : Outside) (doing : Comman
   pub head : head header past doing ≡ Some first
   pub is : events ≡ more ++ reverse first
   pub follows : EachIn IsConsequence more (reverse first ++ past)
-  pub licensed : AllLicensed header outside doing events past
+  pub licensed : AllInTurn header outside doing events past
   pub own_bytes : EachIn (OwnBytes header) events past
   pub frames : MomentsIn (Suffice header h) events past
   pub inner : AllInner events
@@ -158,7 +159,7 @@ pub record Starts (header : Header) (h : ℕ) (doing : Command) (past : List Eve
 pub record Ran (header : Header) (h : ℕ) (outside : Outside) (doing : Command) (past : List Event) (k : Parts) (ids : Ids) (events : List Event) : Type 0 where
   pub rests : Rests header h k ids (events ++ past)
   pub grows : Grows header h outside doing past events
-  pub done : IsDone header doing events past
+  pub done : IsDoneInTurn header doing events past
 
 -- inside a command's step, with some entries that have just gone among the counts
 pub record IsInStep (header : Header) (h : ℕ) (outside : Outside) (doing : Command) (past : List Event) (k : Parts) (ids : Ids) (gone : List Entry) (events : List Event) : Type 0 where
@@ -174,7 +175,7 @@ pub record LegalEvents (header : Header) (h : ℕ) (outside : Outside) (doing : 
   pub more : List Event
   pub is : new ≡ more ++ old
   pub follows : EachIn IsConsequence more (old ++ past)
-  pub licensed : AllLicensed header outside doing more (old ++ past)
+  pub licensed : AllInTurn header outside doing more (old ++ past)
   pub own_bytes : EachIn (OwnBytes header) more (old ++ past)
   pub frames : MomentsIn (Suffice header h) more (old ++ past)
   pub inner : AllInner more

@@ -8,7 +8,7 @@ use Rattle.vm_frames.specs.Frames.{claimed, free}
 use Rattle.vm_model.specs.declared.event.Event.{Event}
 use Rattle.vm_model.specs.declared.script.Header.{Header}
 use Rattle.vm_legal.specs.Accesses.{FindsPage, Wants}
-use Rattle.vm_legal.specs.Follows.{EndsNext}
+use Rattle.vm_legal.specs.InTurn.{EndsNext}
 use Rattle.vm_legal.specs.Frames.{frames_free, returns_out}
 use Rattle.vm_legal.specs.Prompt.{HostIsFull, IsSource}
 use Rattle.vm_legal.specs.Steps.{departures}

@@ -7,7 +7,7 @@ use Rattle.vm_model.specs.declared.message.Message.{Message}
 use Rattle.vm_model.specs.declared.message.Message.TheVariants as message
 use Rattle.vm_model.specs.declared.script.Header.{Header}
 use Rattle.vm_model.specs.Named.{named}
-use Rattle.vm_legal.specs.Debts.{EndsWaiters, HasLocked}
+use Rattle.vm_legal.specs.Debts.{HasLocked}
 use Rattle.vm_legal.specs.Outside.{Outside}
 use Rattle.vm_legal.specs.Licences.{LockRequest, lock_taken, zeroes}
 use Rattle.vm_legal.specs.Steps.{absence_taken, error_taken, fails_access, fails_task, since}
@@ -139,7 +139,3 @@ pub record EachGone (h : ℕ) (old new : List Event) : Type 0 where
   pub more : List Event
   pub is : new ≡ more ++ old
   pub each : EachOf (IsReclaim h) more
-
--- and in the words of the history
-abbrev pub EndsAll : Header → List Event → Type 0
-EndsAll header past = (host object page : ℕ) → error_taken header.size past ≡ Some (record { host = host; object = object; page = page }) → EndsWaiters header host object page past

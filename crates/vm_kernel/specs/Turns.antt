@@ -10,7 +10,7 @@ use Rattle.vm_base.specs.declared.ids.RegionId.{RegionId}
 use Rattle.vm_base.specs.declared.ids.TaskId.{TaskId}
 use Rattle.vm_fault.specs.Walks.{wanted_number}
 use Rattle.vm_legal.specs.Accesses.{Wants, begun_at}
-use Rattle.vm_legal.specs.Follows.{IsEnd}
+use Rattle.vm_legal.specs.InTurn.{IsEnd}
 use Rattle.vm_legal.specs.Frames.{frames_free}
 use Rattle.vm_legal.specs.Stretches.{EachOf}
 use Rattle.vm_model.specs.declared.event.Event.{Event}

@@ -16,7 +16,8 @@ ghost use Rattle.vm_supply.specs.Answers.{outcome_of};
 ghost use Rattle.vm_state.specs.Stands.{HasTasks};
 ghost use Rattle.vm_kernel.specs.Matches.{IsRanged, Rests, first_ids, host_id};
 ghost use Rattle.vm_kernel.specs.Refusing.{maps_elsewhere, takes_name};
-ghost use Rattle.vm_kernel.specs.Taking.{EndsAll, IsAbsencePaid, IsErrorPaid, IsLockPaid, IsWord};
+ghost use Rattle.vm_kernel.specs.Taking.{IsAbsencePaid, IsErrorPaid, IsLockPaid, IsWord};
+ghost use Rattle.vm_legal.specs.InTurn.{EndsAll};
 ghost use Rattle.vm_kernel.specs.Turns.{KeepsOthers, LeavesInTurn, Restarted};
 
 use crate::parts::Parts;

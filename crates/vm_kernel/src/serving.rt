@@ -2,7 +2,7 @@
 ghost use Rattle.std.specs.Prelude.{◌≡◌, ◌+◌, ◌++◌, true, false, IfOk, IfSome, OnOk, Some};
 ghost use Rattle.vm_frames.specs.Frames.{claimed, free};
 ghost use Rattle.vm_legal.specs.Accesses.{FindsPage, Wants};
-ghost use Rattle.vm_legal.specs.Follows.{EndsNext};
+ghost use Rattle.vm_legal.specs.InTurn.{EndsNext};
 ghost use Rattle.vm_legal.specs.Prompt.{HostIsFull, PromptAt};
 ghost use Rattle.vm_supply.specs.declared.woken.Woken.TheVariants as woken;
 ghost use Rattle.vm_waits.specs.Waits.{entry};

@@ -27,7 +27,7 @@ returns g c =
     let at = found given.header hosts given.past c.in-Some.host.0 c.index_mut.result.now all c.in-Some.ensures.known c.index_mut.ensures.value in
     record {
       began =
-          began given.header given.outside c.args.command.now given.past c.in_ok-log.log.items hosts c.in-Some.host.0 c.index_mut.result.now.host.0 c.begin.new.self c.begin.new.ids c.serve.new.self c.serve.new.log.items at.number c.in-Some.ensures.known
+          began given.header given.outside c.args.command.now given.past c.in_ok-log.log.items hosts c.in-Some.host.0 c.index_mut.result.now.host.0 c.begin.new.self c.begin.new.ids c.serve.new.self c.serve.new.log.items at.number c.in-Some.ensures
           all c.in_ok-log.ensures.ran c.requires.1.1.1.0 c.requires.1.1.1.1.1
           (subst (λ (z : Command). Went given.header given.outside z given.past c.in_ok-log.log.items c.serve.new.self c.serve.new.log.items) c.requires.1.0 c.in_ok-serve.ensures.went);
     }

@@ -1,4 +1,4 @@
-use Rattle.vm_hosts.proofs.Common.{AllRest, HostTable, Parts, arith, length, length-set, refl, subst, sym, ◌++◌, ◌<◌, ◌∙◌, ◌≤◌}
+use Rattle.vm_hosts.proofs.Common.{AllRest, HostTable, Parts, arith, length, length-set, refl, subst, sym, ◌++◌, ◌<◌, ◌∙◌, ◌≡◌}
 use Rattle.vm_hosts.proofs.Serving.{serving_done, serving_more, serving_start}
 use Rattle.vm_hosts.proofs.Tables.{found}
 use Rattle.vm_hosts.proofs.hosts.Hosts.serve.Goals as goal
@@ -40,5 +40,5 @@ returns g c =
     let given = g.given in
     let hosts : HostTable = record { kernels = c.hosts.self-inside.kernels.items; ids = c.hosts.self-inside.ids } in
     let same = c.hosts.invariant.same in
-    let all : length c.hosts.self-inside.kernels.items ≤ c.hosts.host = omega (arith, same) in
+    let all : length c.hosts.self-inside.kernels.items ≡ c.hosts.host = omega (arith, same) in
     record { went = serving_done given.header given.outside given.command given.past c.args.log.now.items c.hosts.log.items c.hosts.host hosts all c.hosts.invariant.serving }

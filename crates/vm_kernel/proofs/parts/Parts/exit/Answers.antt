@@ -1,4 +1,4 @@
-use Rattle.vm_kernel.proofs.Common.{Command, Event, IsDone, List, Parts, Starts, Sweeps, ap, by_address, refl, subst, sym, ◌∙◌, ◌∷◌}
+use Rattle.vm_kernel.proofs.Common.{Command, Event, IsDoneInTurn, List, Parts, Starts, Sweeps, ap, by_address, refl, subst, sym, ◌∙◌, ◌∷◌}
 use Rattle.vm_kernel.proofs.Playing.{plays_both, plays_told}
 use Rattle.vm_model.specs.declared.command.Command.TheVariants as command
 use Rattle.vm_model.specs.declared.event.Event.TheVariants as event
@@ -20,7 +20,7 @@ pub returns-clause-ran : goal.returns-clause-ran
 returns-clause-ran g c =
     on_ok c.sweep.result _ _
     (λ is. ran_swept g.given.header g.given.host g.given.outside g.given.command g.given.past c.sweep.new.log.items c.sweep.new.self c.args.ids.now is
-    (subst (λ (z : Command). IsDone g.given.header z c.sweep.new.log.items g.given.past) (sym c.requires.0) tt))
+    (subst (λ (z : Command). IsDoneInTurn g.given.header z c.sweep.new.log.items g.given.past) (sym c.requires.0) tt))
     c.sweep.ensures.sweeps
 
 pub returns-clause-plays : goal.returns-clause-plays
