@@ -1,5 +1,5 @@
 -- A system stands for its history behind the step of a command that takes no message.
-use Rattle.vm_system.proofs.Common.{AllFilesServe, AllInner, AllQueued, AllRest, AllServe, Arming, CanTell, CanTellAll, Channel, Code, Command, Device, DevicesHaveCause, EachOf, Event, FilesAreKept, Header, HostTable, IfOk, IsOrderly, KeepsLegal, Lawful, LeavesBacking, List, Makes, None, Numbered, OnErr, OnOk, Outside, PagingIsKept, Posts, Result, SameHosts, Some, Spares, State, Stretch, SystemStands, Told, Went, [], all_lined, all_nobodys, all_refused, all_suffice, ap, append_assoc, arith, arms, devices, false, get_or, head, inl, inner_both, is_idle, length, none-some, of_both, queued_lined, queued_refused, refl, refusal, same_Some, slice_get, stretch_none, subst, suc, sym, takes_up, true, zero, ℕ, ◌++◌, ◌<◌, ◌∙◌, ◌∷◌, ◌≡◌}
+use Rattle.vm_system.proofs.Common.{AllFilesServe, AllInner, AllQueued, AllRest, AllServe, Arming, CanTell, CanTellAll, Channel, Code, Command, Device, DevicesHaveCause, EachOf, Event, FilesAreKept, Header, HostTable, IfOk, IsOrderly, KeepsCanonical, Lawful, LeavesBacking, List, Makes, None, Numbered, OnErr, OnOk, Outside, PagingIsKept, Posts, Prompt, Result, SameHosts, Some, Spares, State, Stretch, SystemStands, Told, Went, [], all_lined, all_nobodys, all_refused, all_suffice, ap, append_assoc, arith, arms, devices, false, get_or, head, inl, inner_both, is_idle, length, none-some, of_both, queued_lined, queued_refused, refl, refusal, same_Some, slice_get, stretch_none, subst, suc, sym, takes_up, true, zero, ℕ, ◌++◌, ◌<◌, ◌∙◌, ◌∷◌, ◌≡◌}
 use Rattle.std.specs.Prelude.{Ok, Err}
 use Rattle.vm_model.specs.declared.event.Device.TheVariants as device
 use Rattle.vm_model.specs.declared.event.Event.TheVariants as event
@@ -7,13 +7,13 @@ use Rattle.vm_model.specs.declared.command.Command.TheVariants as command
 use Rattle.vm_system.proofs.Agreeing.{IsSpared, carry_spared, content_spared, devices_spared, files_spared, serve_spared, spared_said}
 use Rattle.vm_system.proofs.Cleaning.{IsAsked, asked_fine}
 use Rattle.sms_server.specs.Stands.{IsOther as IsServerOther}
-use Rattle.sms_server.proofs.Acting.{others_serve as served_other, others_stand as server_other}
-use Rattle.vm_system.proofs.Lawfulness.{lawful_line, lawful_more, others_said, served_more, server_more}
+use Rattle.sms_server.proofs.Acting.{others_recall as recalled_other, others_serve as served_other, others_stand as server_other}
+use Rattle.vm_system.proofs.Lawfulness.{lawful_line, lawful_more, others_said, recalled_more, served_more, server_more}
 use Rattle.vm_system.proofs.Letters.{orderly_line}
 use Rattle.vm_system.proofs.Sayings.{can_say, orderly_said}
 use Rattle.vm_system.proofs.Following.{fit_same, kept_at, same_declared, same_files, same_pagers}
 use Rattle.vm_system.proofs.Growth.{front_begun, grew_begun}
-use Rattle.vm_system.proofs.Silent.{all_settled, paid_inner}
+use Rattle.vm_system.proofs.Silent.{all_settled, paid_inner, prompt_code, prompt_line}
 use Rattle.vm_system.proofs.Legal.{head_line, legal_refused, legal_settle}
 
 -- what was told behind a line, and what the hosts are then
@@ -125,15 +125,18 @@ stands_told header outside line events hosts old new stands told same posts grow
       };
       paid = rw grown (paid_inner header line h events told.inner (all_settled header hosts (events ++ past) told.rests));
       served = rw grown (served_more header events past told.silent (served_other header (event.Line line) h tt stands.served));
+      recalled = rw grown (recalled_more header events past told.silent (recalled_other header (event.Line line) h tt stands.recalled));
     }
 
 -- the step of a command is what was told behind the line
 pub makes_told : (header : Header) (outside : Outside) (numbered : Numbered) (events : List Event) (hosts : HostTable) (old new : State) → SystemStands header outside old → IsTold header outside numbered.line events hosts old
-    → KeepsLegal header outside numbered old.history.items (events ++ event.Line numbered.line ∷ old.history.items)
+    → KeepsCanonical header outside numbered old.history.items (events ++ event.Line numbered.line ∷ old.history.items)
+    → (Prompt header old.history.items → Prompt header (events ++ event.Line numbered.line ∷ old.history.items))
     → SameHosts (record old { hosts = hosts }) new → Posts new new.history.items → new.history.items ≡ events ++ event.Line numbered.line ∷ old.history.items → Makes header outside numbered old new
-makes_told header outside numbered events hosts old new stands told legal same posts grown = record {
+makes_told header outside numbered events hosts old new stands told legal prompt same posts grown = record {
   stands = stands_told header outside numbered.line events hosts old new stands told same posts grown;
   legal = rw grown legal;
+  prompt = λ before. rw grown (prompt before);
   grew = grew_begun numbered.line events old.history.items new.history.items grown told.inner;
   front = front_begun numbered.line events old.history.items new.history.items grown told.inner;
 }
@@ -202,7 +205,8 @@ pub makes_refused : (header : Header) (outside : Outside) (numbered : Numbered) 
     → Posts new new.history.items → new.history.items ≡ event.Refused why ∷ event.Line numbered.line ∷ old.history.items → Makes header outside numbered old new
 makes_refused header outside numbered why old new stands refused same posts grown =
     makes_told header outside numbered (event.Refused why ∷ []) old.hosts old new stands (told_code header outside numbered.command why numbered.line old stands)
-    (legal_refused header outside numbered why old.history.items stands.built.supplied refused) same posts grown
+    (legal_refused header outside numbered why old.history.items stands.built.supplied refused)
+    (λ prompt. prompt_code header why (event.Line numbered.line ∷ old.history.items) (prompt_line header numbered.line old.history.items prompt)) same posts grown
 
 pub told_none : (header : Header) (outside : Outside) (doing : Command) (line : ℕ) (s : State) → SystemStands header outside s → IsTold header outside line [] s.hosts s
 told_none header outside doing line s stands =
@@ -213,7 +217,7 @@ pub makes_lined : (header : Header) (outside : Outside) (line count : ℕ) (old 
     → new.history.items ≡ event.Line line ∷ old.history.items → Makes header outside (record { line = line; command = command.Settle count }) old new
 makes_lined header outside line count old new stands same posts grown =
     makes_told header outside (record { line = line; command = command.Settle count }) [] old.hosts old new stands (told_none header outside (command.Settle count) line old stands)
-    (legal_settle header outside line count old.history.items stands.built.supplied) same posts grown
+    (legal_settle header outside line count old.history.items stands.built.supplied) (λ prompt. prompt_line header line old.history.items prompt) same posts grown
 
 -- parts that are as they were are so behind two calls
 pub same_hosts : (old mid new : State) → SameHosts old mid → SameHosts mid new → SameHosts old new

@@ -1,5 +1,5 @@
 -- What a file's pager says for a clean.
-use Rattle.vm_system.proofs.Common.{AllInner, AllLicensed, Bool, CanTellAll, CleanEvents, Command, EachIn, EachOf, Event, FileTable, FramesSuffice, Header, IsKnownAs, IsNobodys, IsOrderly, Known, KnownControl, List, MakesNoControl, MomentsIn, None, ObjectId, Option, Outside, OwnBytes, PageNo, Some, State, SystemStands, [], ap, arith, clean_head, false, head, home_for, inl, inr, is_file, is_idle, is_made, known_below, known_control, length, named, nat_lt, none-some, not, or_known, refl, reverse, same_Some, slice_get, subst, suc, sym, true, up, zero, ℕ, ◌++◌, ◌<◌, ◌||◌, ◌∙◌, ◌∷◌, ◌≡◌, ◌⊎◌, is_shared, refusal, code_where, declared_pages, ◌==◌, ◌+◌}
+use Rattle.vm_system.proofs.Common.{AllInner, AllInTurn, Bool, CanTellAll, CleanEvents, Command, EachIn, EachOf, Event, FileTable, FramesSuffice, Header, IsKnownAs, IsNobodys, IsOrderly, Known, KnownControl, List, MakesNoControl, MomentsIn, None, ObjectId, Option, Outside, OwnBytes, PageNo, Some, State, SystemStands, [], ap, arith, clean_head, false, head, home_for, inl, inr, is_file, is_idle, is_made, known_below, known_control, length, named, nat_lt, none-some, not, or_known, refl, reverse, same_Some, slice_get, subst, suc, sym, true, up, zero, ℕ, ◌++◌, ◌<◌, ◌||◌, ◌∙◌, ◌∷◌, ◌≡◌, ◌⊎◌, is_shared, refusal, code_where, declared_pages, ◌==◌, ◌+◌}
 use Rattle.vm_base.specs.declared.code.Code.TheVariants as code
 use Rattle.vm_legal.proofs.Served.{paged_sends}
 use Rattle.vm_legal.proofs.Unshared.{file_unshared}
@@ -85,7 +85,7 @@ asked_is header outside s object page count flush line pager events stands file 
 -- what is asked behind a line has its cause, is no host's, and can be told
 pub record IsAsked (header : Header) (outside : Outside) (doing : Command) (past asked : List Event) : Type 0 where
   pub back : reverse asked ≡ asked
-  pub licensed : AllLicensed header outside doing asked past
+  pub licensed : AllInTurn header outside doing asked past
   pub own_bytes : EachIn (OwnBytes header) asked past
   pub frames : FramesSuffice header past → MomentsIn (FramesSuffice header) asked past
   pub inner : AllInner asked

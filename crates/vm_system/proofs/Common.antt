@@ -47,7 +47,8 @@ pub use Rattle.vm_kernel.proofs.Growing.{paid_of}
 pub use Rattle.vm_kernel.specs.Abroad.{IsNobodys}
 pub use Rattle.vm_kernel.specs.Begun.{CreatesHere, IsLined, KernelSays, SomeKernelSays}
 pub use Rattle.vm_kernel.specs.Matches.{IsRanged, host_id}
-pub use Rattle.vm_kernel.specs.Taking.{EndsAll, IsAbsencePaid, IsErrorPaid, IsLockPaid, IsWord}
+pub use Rattle.vm_kernel.specs.Taking.{IsAbsencePaid, IsErrorPaid, IsLockPaid, IsWord}
+pub use Rattle.vm_legal.specs.InTurn.{EndsAll}
 pub use Rattle.vm_legal.proofs.Groups.{cut_of, open_of, so_far}
 pub use Rattle.vm_legal.proofs.Inside.{before_more, taken_more, takings_more}
 pub use Rattle.vm_legal.proofs.Locks.{no_request}
@@ -56,11 +57,13 @@ pub use Rattle.vm_legal.proofs.Stretched.{each_both, each_whole, inner_both, lic
 pub use Rattle.vm_legal.specs.Accesses.{Comes, Copies, Elsewhere, HasPlace, Nowhere, Raises, Waits, WaitsUnlocked, WantsFrame, page_of}
 pub use Rattle.vm_legal.specs.Bytes.{CopiesCurrent, FlatBytes, LoadsCurrent, OwnBytes}
 pub use Rattle.vm_legal.specs.Debts.{IsPaid}
-pub use Rattle.vm_legal.specs.Follows.{Follows, FollowsSoFar, IsConsequence, IsDone, IsDoneSoFar, IsGroup, IsRun, IsWholeGroup, IsWholeSoFar, clean_head, head, take_head}
+pub use Rattle.vm_legal.specs.Follows.{IsConsequence, IsDoneSoFar, clean_head, head, take_head}
+pub use Rattle.vm_legal.specs.InTurn.{FollowsInTurn, FollowsSoFarInTurn, IsDoneInTurn, IsGroupInTurn, IsRunInTurn, IsWholeInTurn, IsWholeSoFarInTurn}
 pub use Rattle.vm_legal.specs.Frames.{FramesSuffice, Gives, Suffice, change_where, frames_after, frames_held, frames_used, returns_out, taken_down_change, taken_up_change}
 pub use Rattle.vm_legal.specs.Homes.{gives_frame}
-pub use Rattle.vm_legal.specs.Legal.{HasOneWriter, Holds, IsAtRest, LegalFor}
-pub use Rattle.vm_legal.specs.Licences.{AllLicensed, HasCause, Licensed, MaySendUp, MayTake, ReturnsOn, lock_taken, owed, tells, up}
+pub use Rattle.vm_legal.specs.Legal.{HasOneWriter, Holds, IsAtRest, CanonicalFor}
+pub use Rattle.vm_legal.specs.Licences.{HasCause, MaySendUp, MayTake, ReturnsOn, lock_taken, owed, tells, up}
+pub use Rattle.vm_legal.specs.InTurn.{AllInTurn, LicensedInTurn}
 pub use Rattle.vm_legal.specs.Outside.{Outside, is_file, is_shared, kind_of}
 pub use Rattle.vm_legal.specs.Pagers.{Known, known_after, known_below, known_control, last_return, or_known}
 pub use Rattle.vm_legal.specs.Prompt.{AReady, AnAnswer, AnUnlock, Awaits, HostIsFull, IsExhausted, IsSource, NoneInVain, Prompt, AllServed, WaitsForPager}
@@ -110,7 +113,7 @@ pub use Rattle.vm_system.specs.Refusing.{channel_code, code_at}
 pub use Rattle.vm_system.specs.Sends.{AreFresh, Delivered, made_by, opened}
 pub use Rattle.vm_system.specs.Settling.{DevicesCounted, StaysOpen}
 pub use Rattle.vm_system.specs.Stands.{Agrees, AllFilesServe, AllServe, AllTold, AreEmpty, AreNamedApart, AreNumbered, FilesAreKept, IsSupplied, PagingIsKept, SystemStands}
-pub use Rattle.vm_system.specs.Steps.{DevicesHaveCause, EndsCut, GrowsWithinLimit, HasMore, IsBelowLimit, IsMemoryStop, KeepsLegal, KeepsOpen, LeavesBacking, LegalCut, LegalOpen, MayBegin, MayCut, MayCutOpen, arms, devices, is_device, is_idle, is_kept_in, lined, settles, takes_any, takes_up, took_any, took_up}
+pub use Rattle.vm_system.specs.Steps.{DevicesHaveCause, EndsCut, GrowsWithinLimit, HasMore, IsBelowLimit, IsMemoryStop, KeepsCanonical, KeepsOpen, LeavesBacking, LegalCut, CanonicalOpen, MayBegin, MayCut, MayCutOpen, arms, devices, is_device, is_idle, is_kept_in, lined, settles, takes_any, takes_up, took_any, took_up}
 pub use Rattle.vm_system.specs.Takings.{Followed, MayBeCut, MayTakeFrom, PagerHasAnswered, TakesStep, Took}
 pub use Rattle.vm_system.specs.declared.state.State.{State}
 pub use Rattle.vm_system.specs.declared.stop.SystemStop.{SystemStop}

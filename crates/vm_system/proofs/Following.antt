@@ -2,9 +2,10 @@
 use Rattle.vm_system.proofs.Common.{Agrees, AllFilesServe, AllInner, AllServe, AllServed, AllTold, Bool, CanTellAll, Command, Content, EachIn, Event, FilesAreKept, FilesCarry, Followed, Going, Header, HostId, HostTable, HostsPart, IsOrderly, IsPaid, Lawful, List, Outside, PagerHasAnswered, PagingIsKept, Posts, SameHosts, ServerStands, SlotTable, SlotsFit, Some, SomeKernelSays, Spares, SparesFiles, SparesPaging, State, Stretch, Told, ap, content_of, devices, paid_more, refl, reverse, slice_get, subst, sym, true, ℕ, ◌++◌, ◌∙◌, ◌≡◌, ServerTable}
 use Rattle.vm_model.specs.declared.event.Device.TheVariants.{Files, Paging}
 use Rattle.vm_system.proofs.Agreeing.{carry_spared, content_stays, devices_said, files_spared, serve_said, spared_said}
-use Rattle.vm_system.proofs.Lawfulness.{lawful_more, others_said, served_more, server_more}
+use Rattle.vm_system.proofs.Lawfulness.{lawful_more, others_said, recalled_more, served_more, server_more}
 use Rattle.vm_system.proofs.Sayings.{can_say, orderly_said}
 use Rattle.vm_system.proofs.Silent.{all_settled}
+use Rattle.vm_legal.specs.InTurn.{AllRecalled}
 
 pub same_pagers : (old new : State) → SameHosts old new → new.pagers.items ≡ old.pagers.items
 same_pagers old new same = rw same.pagers refl
@@ -123,6 +124,7 @@ followed given host washed old new events answered passed size pagers files decl
     let lawful : Lawful header given.outside past = subst (λ (z : List Event). Lawful header given.outside z) answered.is answered.agrees.lawful in
     let owed : IsPaid header past = subst (λ (z : List Event). IsPaid header z) answered.is answered.paid in
     let served : AllServed header past = subst (λ (z : List Event). AllServed header z) answered.is answered.served in
+    let recalled : AllRecalled header past = subst (λ (z : List Event). AllRecalled header z) answered.is answered.recalled in
     record {
       stands = record {
         built = answered.built;
@@ -132,6 +134,7 @@ followed given host washed old new events answered passed size pagers files decl
             (orderly_said header given.outside given.command past events answered.built.supplied orderly stretch.licensed stretch.said stretch.inner) serve filed heard lawful (declared ∙ answered.agrees.declared) stretch (size ∙ answered.agrees.size) now posts;
         paid = rw now (paid_more header events past stretch.inner owed (all_settled header new.hosts (events ++ past) passed.ended.rests));
         served = rw now (served_more header events past (others_said header events past stretch.said) served);
+        recalled = rw now (recalled_more header events past (others_said header events past stretch.said) recalled);
       };
       more = events;
       is = now;

@@ -1,18 +1,20 @@
 -- A history stays lawful with each part of a step, and in what is no matter of the server it stands for it as before.
-use Rattle.vm_system.proofs.Common.{AllInner, AllLicensed, AllServed, Channel, Command, Down, EachEvent, EachIn, EachOf, Event, HasCause, Header, IsPaid, Lawful, Licensed, List, Message, ObjectId, Outside, OwnBytes, ServerStands, ServerTable, SomeKernelSays, Up, [], each_whole, false, is_shared, steps_whole, subst, sym, ◌++◌, ◌∷◌, ◌≡◌, ℕ}
+use Rattle.vm_system.proofs.Common.{AllInner, AllInTurn, AllServed, Channel, Command, Down, EachEvent, EachIn, EachOf, Event, HasCause, Header, IsPaid, Lawful, LicensedInTurn, List, Message, ObjectId, Outside, OwnBytes, ServerStands, ServerTable, SomeKernelSays, Up, [], each_whole, false, is_shared, steps_whole, subst, sym, ◌++◌, ◌∷◌, ◌≡◌, ℕ}
 use Rattle.vm_model.specs.declared.command.Command.TheVariants as command
 use Rattle.vm_model.specs.declared.event.Event.TheVariants as event
 use Rattle.sms_server.specs.Stands.{IsOther as IsServerOther}
 use Rattle.vm_system.proofs.Apart.{IsAbout}
-use Rattle.sms_server.proofs.Acting.{others_serve as served_other, others_stand as server_other}
+use Rattle.sms_server.proofs.Acting.{others_recall as recalled_other, others_serve as served_other, others_stand as server_other}
+use Rattle.vm_legal.proofs.Turns.{cause_of}
+use Rattle.vm_legal.specs.InTurn.{AllRecalled}
 
 -- the history
 
-causes_more : (header : Header) (outside : Outside) (doing : Command) (events past : List Event) → AllLicensed header outside doing events past → EachEvent (HasCause header outside) past → EachEvent (HasCause header outside) (events ++ past)
+causes_more : (header : Header) (outside : Outside) (doing : Command) (events past : List Event) → AllInTurn header outside doing events past → EachEvent (HasCause header outside) past → EachEvent (HasCause header outside) (events ++ past)
 causes_more header outside doing [] past licences old = old
-causes_more header outside doing (e ∷ events) past licences old = ((doing, licences.0.0), causes_more header outside doing events past licences.1 old)
+causes_more header outside doing (e ∷ events) past licences old = ((doing, cause_of header outside doing e (events ++ past) licences.0.0), causes_more header outside doing events past licences.1 old)
 
-pub lawful_more : (header : Header) (outside : Outside) (doing : Command) (events past : List Event) → AllLicensed header outside doing events past → EachIn (OwnBytes header) events past → AllInner events → Lawful header outside past
+pub lawful_more : (header : Header) (outside : Outside) (doing : Command) (events past : List Event) → AllInTurn header outside doing events past → EachIn (OwnBytes header) events past → AllInner events → Lawful header outside past
     → Lawful header outside (events ++ past)
 lawful_more header outside doing events past licences own inner old = record {
   causes = causes_more header outside doing events past licences old.causes;
@@ -27,7 +29,7 @@ lawful_line header outside line past paid old = record {
   paid = (paid, old.paid);
 }
 
-pub lawful_taken : (header : Header) (outside : Outside) (doing : Command) (channel : Channel) (m : Message) (past : List Event) → Licensed header outside doing (event.Taken channel m) past → IsPaid header past → Lawful header outside past
+pub lawful_taken : (header : Header) (outside : Outside) (doing : Command) (channel : Channel) (m : Message) (past : List Event) → LicensedInTurn header outside doing (event.Taken channel m) past → IsPaid header past → Lawful header outside past
     → Lawful header outside (event.Taken channel m ∷ past)
 lawful_taken header outside doing channel m past licence paid old = record {
   causes = ((doing, licence.0), old.causes);
@@ -44,6 +46,10 @@ server_more header table (e ∷ events) past other stands = server_other header 
 pub served_more : (header : Header) (events past : List Event) → EachOf (IsServerOther header) events → AllServed header past → AllServed header (events ++ past)
 served_more header [] past other served = served
 served_more header (e ∷ events) past other served = served_other header e (events ++ past) other.0 (served_more header events past other.1 served)
+
+pub recalled_more : (header : Header) (events past : List Event) → EachOf (IsServerOther header) events → AllRecalled header past → AllRecalled header (events ++ past)
+recalled_more header [] past other recalled = recalled
+recalled_more header (e ∷ events) past other recalled = recalled_other header e (events ++ past) other.0 (recalled_more header events past other.1 recalled)
 
 -- it has no part in what is about an object that isn't shared
 

@@ -3,7 +3,7 @@ use Rattle.std.proofs.Common.{zero, suc, length, refl, ap, ℕ, Some, None, Opti
 use Rattle.vm_base.specs.declared.ids.ObjectId.{ObjectId}
 use Rattle.vm_base.specs.declared.ids.TaskId.{TaskId}
 use Rattle.vm_legal.specs.Follows.{clean_head, map_head}
-use Rattle.vm_system.proofs.Common.{AllInner, AllLicensed, AllServed, Began, Bool, Code, Command, EachEvent, EachIn, EachOf, Entry, Event, FlatBytes, FollowsSoFar, FramesSuffice, HasCause, Header, Holds, HostTable, IfNone, IsAtRest, IsConsequence, IsDone, IsDoneSoFar, IsGroup, IsPaid, IsRun, IsWholeGroup, IsWholeSoFar, KeepsLegal, List, MomentsIn, None, Numbered, Option, Outside, OwnBytes, Prompt, Some, Went, [], acting, answers, ap, code_where, copies, copies_from, copy_refusal, each_both, each_whole, entries_of, entry_at, false, has_copy_mark, head, host_of, if◌then◌else◌, inl, inner_both, is_copied, is_copy_full, is_elsewhere, is_fork_full, is_full, is_idle, is_none, is_range, is_some, length, licensed_both, marked_below, marked_regions, meets_range, moment_last, moments_both, moments_whole, most_entries, nat_le, new_marks, next_object, next_region, not, of_both, refl, refusal, region_of, reverse, settles, so_far, steps_whole, subst, suc, sym, takings_more, true, waiting, zero, ℕ, ◌++◌, ◌+◌, ◌/◌, ◌∙◌, ◌∷◌, ◌≡◌, AllSupplied}
+use Rattle.vm_system.proofs.Common.{AllInner, AllInTurn, AllServed, Began, Bool, Code, Command, EachEvent, EachIn, EachOf, Entry, Event, FlatBytes, FollowsSoFarInTurn, FramesSuffice, HasCause, Header, Holds, HostTable, IfNone, IsAtRest, IsConsequence, IsDoneInTurn, IsDoneSoFar, IsGroupInTurn, IsPaid, IsRunInTurn, IsWholeInTurn, IsWholeSoFarInTurn, KeepsCanonical, List, MomentsIn, None, Numbered, Option, Outside, OwnBytes, Prompt, Some, Went, [], acting, answers, ap, code_where, copies, copies_from, copy_refusal, each_both, each_whole, entries_of, entry_at, false, has_copy_mark, head, host_of, if◌then◌else◌, inl, inner_both, is_copied, is_copy_full, is_elsewhere, is_fork_full, is_full, is_idle, is_none, is_range, is_some, length, licensed_both, marked_below, marked_regions, meets_range, moment_last, moments_both, moments_whole, most_entries, nat_le, new_marks, next_object, next_region, not, of_both, refl, refusal, region_of, reverse, settles, so_far, steps_whole, subst, suc, sym, takings_more, true, waiting, zero, ℕ, ◌++◌, ◌+◌, ◌/◌, ◌∙◌, ◌∷◌, ◌≡◌, AllSupplied}
 use Rattle.std.proofs.Common.{◌||◌, ◌&&◌, nat_lt}
 use Rattle.vm_base.specs.declared.code.Code.TheVariants as code
 use Rattle.vm_model.specs.declared.event.Event.TheVariants as event
@@ -14,9 +14,14 @@ use Rattle.sms_server.specs.Stands.{IsOther as IsServerOther}
 use Rattle.vm_shared.proofs.Currents.{copies_current, loads_current}
 use Rattle.vm_system.proofs.Sharing.{writers as one_writer}
 use Rattle.vm_shared.proofs.Pages.{legal as pages_legal}
-use Rattle.sms_server.proofs.Acting.{others_serve as served_other}
-use Rattle.vm_system.proofs.Lawfulness.{others_said, served_more}
+use Rattle.sms_server.proofs.Acting.{others_recall as recalled_other, others_serve as served_other}
+use Rattle.vm_system.proofs.Lawfulness.{others_said, recalled_more, served_more}
 use Rattle.vm_system.proofs.Sharing.{none_temporary}
+use Rattle.vm_legal.proofs.Turns.{so_far_of as weak_so_far}
+use Rattle.vm_legal.specs.Follows.{SoFarBy}
+use Rattle.vm_legal.specs.InTurn.{AllRecalled, EndsAll}
+use Rattle.vm_model.specs.Moments.{BeforeSteps}
+use Rattle.vm_system.proofs.Silent.{ends_lined}
 
 -- a line in front changes no refusal and no head
 
@@ -105,36 +110,40 @@ head_line header line h other = refl
 served_said : (header : Header) (line : ℕ) (h events : List Event) → EachOf (IsServerOther header) events → AllServed header h → AllServed header (events ++ event.Line line ∷ h)
 served_said header line h events silent served = served_more header events (event.Line line ∷ h) silent (served_other header (event.Line line) h tt served)
 
+recalled_said : (header : Header) (line : ℕ) (h events : List Event) → EachOf (IsServerOther header) events → AllRecalled header h → AllRecalled header (events ++ event.Line line ∷ h)
+recalled_said header line h events silent recalled = recalled_more header events (event.Line line ∷ h) silent (recalled_other header (event.Line line) h tt recalled)
+
 -- where each load answers from its own host's page it answers the flat map's bytes
 pub flat_of : (header : Header) (outside : Outside) (h : List Event) → AllSupplied header → EachEvent (HasCause header outside) h → EachEvent (OwnBytes header) h → EachEvent (FlatBytes header outside) h
 flat_of header outside h supplied causes own = answers header outside h causes own (copies_current header outside h (none_temporary header supplied) causes own) (loads_current header outside h causes own)
 
 -- a command that is no settle is whole so far, where it is whole
-so_far_of : (header : Header) (c : Numbered) (h events : List Event) → (settles c.command ≡ None → IsWholeGroup header h c events) → IsWholeSoFar header h c events
+so_far_of : (header : Header) (c : Numbered) (h events : List Event) → (settles c.command ≡ None → IsWholeInTurn header h c events) → IsWholeSoFarInTurn header h c events
 so_far_of header c h events whole = by_command (refusal header h c.command) c.command whole
   where
-    by_command : (refused : Option Code) (doing : Command) → (settles doing ≡ None → IfNone refused (IsDone header doing events (event.Line c.line ∷ h))) → IfNone refused (IsDoneSoFar header doing events (event.Line c.line ∷ h))
+    by_command : (refused : Option Code) (doing : Command) → (settles doing ≡ None → IfNone refused (IsDoneInTurn header doing events (event.Line c.line ∷ h))) → IfNone refused (SoFarBy (IsDoneInTurn header) doing events (event.Line c.line ∷ h))
     by_command (Some code) doing whole = tt
     by_command None (command.Settle count) whole = tt
     by_command None other whole = whole refl
 
 -- the events behind the line of a command are a step of it that takes no message
 pub record IsStep (header : Header) (outside : Outside) (c : Numbered) (h events : List Event) : Type 0 where
-  pub made : IsGroup header outside h c events
-  pub whole : settles c.command ≡ None → IsWholeGroup header h c events
+  pub made : IsGroupInTurn header outside h c events
+  pub whole : settles c.command ≡ None → IsWholeInTurn header h c events
   pub own_bytes : EachIn (OwnBytes header) events (event.Line c.line ∷ h)
   pub frames : FramesSuffice header h → MomentsIn (FramesSuffice header) events (event.Line c.line ∷ h)
   pub inner : AllInner events
   pub rests : IsAtRest header h → IsAtRest header (events ++ event.Line c.line ∷ h)
+  pub recalls : AllRecalled header h → AllRecalled header (events ++ event.Line c.line ∷ h)
 
 pub legal_step : (header : Header) (outside : Outside) (c : Numbered) (h events : List Event) → AllSupplied header → IsStep header outside c h events
-    → KeepsLegal header outside c h (events ++ event.Line c.line ∷ h)
+    → KeepsCanonical header outside c h (events ++ event.Line c.line ∷ h)
 legal_step header outside c h events supplied step run legal =
     let past = event.Line c.line ∷ h in
     let now = moment_last (FramesSuffice header) h legal.holds.frames in
-    let follows : FollowsSoFar header outside (c ∷ run) (events ++ past) = (h, events, refl, step.made, so_far_of header c h events step.whole, legal.follows) in
+    let follows : FollowsSoFarInTurn header outside (c ∷ run) (events ++ past) = (h, events, refl, step.made, so_far_of header c h events step.whole, legal.follows) in
     let own : EachEvent (OwnBytes header) (events ++ past) = each_whole (OwnBytes header) events past step.own_bytes (tt, legal.holds.own_bytes) in
-    let causes = so_far header outside (c ∷ run) (events ++ past) follows in
+    let causes = so_far header outside (c ∷ run) (events ++ past) (weak_so_far header outside (c ∷ run) (events ++ past) follows) in
     let holds : Holds header outside (events ++ past) = record {
       own_bytes = own;
       flat_bytes = flat_of header outside (events ++ past) supplied causes own;
@@ -146,15 +155,18 @@ legal_step header outside c h events supplied step run legal =
       pages = pages_legal header outside (events ++ past) causes own;
     } in
     let rests = step.rests legal.rests in
+    let ended : BeforeSteps (EndsAll header) (events ++ past) = steps_whole (EndsAll header) events past step.inner (legal.last, legal.ended) in
+    let recalled : BeforeSteps (AllRecalled header) (events ++ past) = steps_whole (AllRecalled header) events past step.inner (legal.recalls, legal.recalled) in
+    let last : EndsAll header (events ++ past) = ends_lined header c.line events h step.inner in
     record {
-      so_far = record { follows = follows; holds = holds; rests = rests };
-      whole = λ none. record { follows = (h, events, refl, step.made, step.whole none, legal.follows); holds = holds; rests = rests };
+      so_far = record { follows = follows; holds = holds; rests = rests; ended = ended; last = last; recalled = recalled; recalls = step.recalls legal.recalls };
+      whole = λ none. record { follows = (h, events, refl, step.made, step.whole none, legal.follows); holds = holds; rests = rests; ended = ended; last = last; recalled = recalled; recalls = step.recalls legal.recalls };
       none = inl (takings_more events past step.inner);
     }
 
 -- a refused command adds its line and its code
 pub legal_refused : (header : Header) (outside : Outside) (c : Numbered) (why : Code) (h : List Event) → AllSupplied header
-    → refusal header h c.command ≡ Some why → KeepsLegal header outside c h (event.Refused why ∷ event.Line c.line ∷ h)
+    → refusal header h c.command ≡ Some why → KeepsCanonical header outside c h (event.Refused why ∷ event.Line c.line ∷ h)
 legal_refused header outside c why h supplied refused = legal_step header outside c h (event.Refused why ∷ []) supplied (record {
   made = rw refused refl;
   whole = λ none. rw refused tt;
@@ -166,16 +178,17 @@ legal_refused header outside c why h supplied refused = legal_step header outsid
     paid = paid_inner header c.line h (event.Refused why ∷ []) (tt, tt) refl;
     served = served_more header (event.Refused why ∷ event.Line c.line ∷ []) h (tt, (tt, tt)) rests.served;
   };
+  recalls = λ recalled. recalled_more header (event.Refused why ∷ event.Line c.line ∷ []) h (tt, (tt, tt)) recalled;
 })
 
 -- a command's head, and what follows from it
 pub legal_began : (header : Header) (outside : Outside) (c : Numbered) (h events : List Event) (hosts : HostTable) → AllSupplied header
-    → refusal header h c.command ≡ None → Began header outside c.command (event.Line c.line ∷ h) hosts events → KeepsLegal header outside c h (events ++ event.Line c.line ∷ h)
+    → refusal header h c.command ≡ None → Began header outside c.command (event.Line c.line ∷ h) hosts events → KeepsCanonical header outside c h (events ++ event.Line c.line ∷ h)
 legal_began header outside c h events hosts supplied fine began =
     let heads = began.heads in
     let stretch = heads.stretch in
     let is : head header h c.command ≡ Some heads.first = sym (head_line header c.line h c.command) ∙ heads.head in
-    let made : IsRun header outside h c heads.first events = record { more = heads.more; is = heads.is; follows = heads.follows; licensed = stretch.licensed } in
+    let made : IsRunInTurn header outside h c heads.first events = record { more = heads.more; is = heads.is; follows = heads.follows; licensed = stretch.licensed } in
     legal_step header outside c h events supplied (record {
       made = rw (fine, is) made;
       whole = λ none. rw fine began.done;
@@ -183,9 +196,10 @@ legal_began header outside c h events hosts supplied fine began =
       frames = λ now. stretch.frames;
       inner = stretch.inner;
       rests = λ rests. record { prompt = began.ended.prompt; paid = began.paid; served = served_said header c.line h events (others_said header events (event.Line c.line ∷ h) stretch.said) rests.served };
+      recalls = λ recalled. recalled_said header c.line h events (others_said header events (event.Line c.line ∷ h) stretch.said) recalled;
     })
 
-idle_done : (header : Header) (group past : List Event) (doing : Command) → is_idle doing ≡ true → IsDone header doing group past
+idle_done : (header : Header) (group past : List Event) (doing : Command) → is_idle doing ≡ true → IsDoneInTurn header doing group past
 idle_done header group past (command.FailFiles count) is = tt
 idle_done header group past (command.FailPaging count) is = tt
 idle_done header group past (command.Clean object page count flush) is = tt
@@ -194,18 +208,18 @@ idle_done header group past other is = absurd (let bad : false ≡ true = is in 
 -- a command that is no host's: what is asked for it, and what the hosts do behind that
 pub legal_passed : (header : Header) (outside : Outside) (c : Numbered) (h asked events : List Event) (hosts : HostTable) → AllSupplied header
     → is_idle c.command ≡ true → refusal header h c.command ≡ None → head header h c.command ≡ Some asked → IsAsked header outside c.command (event.Line c.line ∷ h) asked
-    → Went header outside c.command (event.Line c.line ∷ h) asked hosts events → KeepsLegal header outside c h (events ++ event.Line c.line ∷ h)
+    → Went header outside c.command (event.Line c.line ∷ h) asked hosts events → KeepsCanonical header outside c h (events ++ event.Line c.line ∷ h)
 legal_passed header outside c h asked events hosts supplied idle fine is says went =
     let past = event.Line c.line ∷ h in
     let more = went.more in
     let stretch = went.follows.stretch in
     let both : events ≡ more ++ reverse asked = went.is ∙ ap (λ z. more ++ z) (sym says.back) in
     let inner : AllInner events = subst AllInner (sym went.is) (inner_both more asked stretch.inner says.inner) in
-    let made : IsRun header outside h c asked events = record {
+    let made : IsRunInTurn header outside h c asked events = record {
       more = more;
       is = both;
       follows = subst (λ (z : List Event). EachIn IsConsequence more (z ++ past)) (sym says.back) went.follows.follows;
-      licensed = subst (λ (z : List Event). AllLicensed header outside c.command z past) (sym went.is) (licensed_both header outside c.command more asked past stretch.licensed says.licensed);
+      licensed = subst (λ (z : List Event). AllInTurn header outside c.command z past) (sym went.is) (licensed_both header outside c.command more asked past stretch.licensed says.licensed);
     } in
     legal_step header outside c h events supplied (record {
       made = rw (fine, is) made;
@@ -219,11 +233,13 @@ legal_passed header outside c h asked events hosts supplied idle fine is says we
         served = served_said header c.line h events
             (subst (EachOf (IsServerOther header)) (sym went.is) (of_both (IsServerOther header) more asked (others_said header more (asked ++ past) stretch.said) says.silent)) rests.served;
       };
+      recalls = λ recalled. recalled_said header c.line h events
+          (subst (EachOf (IsServerOther header)) (sym went.is) (of_both (IsServerOther header) more asked (others_said header more (asked ++ past) stretch.said) says.silent)) recalled;
     })
 
 -- a settle begins with its line
 pub legal_settle : (header : Header) (outside : Outside) (line count : ℕ) (h : List Event) → AllSupplied header
-    → KeepsLegal header outside (record { line = line; command = command.Settle count }) h (event.Line line ∷ h)
+    → KeepsCanonical header outside (record { line = line; command = command.Settle count }) h (event.Line line ∷ h)
 legal_settle header outside line count h supplied = legal_step header outside (record { line = line; command = command.Settle count }) h [] supplied (record {
   made = record { more = []; is = refl; follows = tt; licensed = tt };
   whole = λ none. absurd (let bad : Some count ≡ None = none in cc);
@@ -231,4 +247,5 @@ legal_settle header outside line count h supplied = legal_step header outside (r
   frames = λ now. tt;
   inner = tt;
   rests = λ rests. record { prompt = prompt_line header line h rests.prompt; paid = paid_inner header line h [] tt refl; served = served_said header line h [] tt rests.served };
+  recalls = λ recalled. recalled_said header line h [] tt recalled;
 })

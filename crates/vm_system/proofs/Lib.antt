@@ -21,6 +21,7 @@ pub mod Makings
 pub mod Numbers
 pub mod Opening
 pub mod Posting
+pub mod Resting
 pub mod Sayings
 pub mod Sending
 pub mod Settled

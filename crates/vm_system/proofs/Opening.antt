@@ -1,5 +1,5 @@
 -- A history stays legal with one message more taken.
-use Rattle.vm_system.proofs.Common.{AllLicensed, AllServed, AreSame, BeforeSteps, Channel, ChannelId, Command, EachEvent, EachIn, EachMoment, Event, FollowsSoFar, FramesSuffice, HasCause, HasMore, Header, Holds, IsConsequence, IsGroup, IsPaid, KeepsOpen, LegalOpen, Letter, List, MayBeCut, MayCutOpen, MayTakeFrom, Message, None, Numbered, Outside, OwnBytes, Prompt, Some, State, Step, SystemStands, TakesStep, Took, [], ap, append-nil, append_assoc, channel_number, channel_of_first, cut_of, each_both, each_whole, false, inl, inr, is_some, licensed_both, messages_on, moments_whole, oldest_channel, queue, queue_is, refl, so_far, steps_whole, subst, sym, takings, takings_more, true, undelivered, ℕ, ◌++◌, ◌∙◌, ◌∷◌, ◌≡◌, AllSupplied}
+use Rattle.vm_system.proofs.Common.{AllInTurn, AllServed, AreSame, BeforeSteps, Channel, ChannelId, Command, EachEvent, EachIn, EachMoment, Event, FollowsSoFarInTurn, FramesSuffice, HasCause, HasMore, Header, Holds, IsConsequence, IsGroupInTurn, IsPaid, KeepsOpen, CanonicalOpen, Letter, List, MayBeCut, MayCutOpen, MayTakeFrom, Message, None, Numbered, Outside, OwnBytes, Prompt, Some, State, Step, SystemStands, TakesStep, Took, [], ap, append-nil, append_assoc, channel_number, channel_of_first, cut_of, each_both, each_whole, false, inl, inr, is_some, licensed_both, messages_on, moments_whole, oldest_channel, queue, queue_is, refl, so_far, steps_whole, subst, sym, takings, takings_more, true, undelivered, ℕ, ◌++◌, ◌∙◌, ◌∷◌, ◌≡◌, AllSupplied}
 use Rattle.vm_model.specs.declared.command.Command.TheVariants as command
 use Rattle.vm_model.specs.declared.event.Event.TheVariants as event
 use Rattle.vm_ports.specs.Ports.{oldest as oldest_on}
@@ -8,6 +8,9 @@ use Rattle.vm_system.proofs.Numbers.{is_same}
 use Rattle.vm_system.proofs.Sharing.{writers as one_writer}
 use Rattle.vm_shared.proofs.Pages.{legal as pages_legal}
 use Rattle.vm_system.proofs.Legal.{flat_of}
+use Rattle.vm_legal.proofs.Turns.{so_far_of as weak_so_far}
+use Rattle.vm_legal.specs.Follows.{FollowsSoFar}
+use Rattle.vm_legal.specs.InTurn.{AllRecalled, EndsAll}
 
 -- what holds in front of a taking
 pub record HoldsUpTo (header : Header) (outside : Outside) (past : List Event) : Type 0 where
@@ -44,11 +47,15 @@ holds_taken given new step caused front =
       pages = pages_legal header outside new caused own;
     }
 
+-- what held whenever a step had ended
+pub steps_taken : (P : List Event → Type 0) (given : Step) (new : List Event) → TakesStep given new → P given.past × BeforeSteps P given.past → BeforeSteps P new
+steps_taken P given new step front = rw step.is (steps_whole P step.more (event.Taken step.channel step.m ∷ given.past) step.inner front)
+
 -- the number of messages taken
 
 -- the group of a settle grows
-grown : (header : Header) (outside : Outside) (count line : ℕ) (past group stretch : List Event) → EachIn IsConsequence stretch (group ++ event.Line line ∷ past) → AllLicensed header outside (command.Settle count) stretch (group ++ event.Line line ∷ past)
-    → IsGroup header outside past (record { line = line; command = command.Settle count }) group → IsGroup header outside past (record { line = line; command = command.Settle count }) (stretch ++ group)
+grown : (header : Header) (outside : Outside) (count line : ℕ) (past group stretch : List Event) → EachIn IsConsequence stretch (group ++ event.Line line ∷ past) → AllInTurn header outside (command.Settle count) stretch (group ++ event.Line line ∷ past)
+    → IsGroupInTurn header outside past (record { line = line; command = command.Settle count }) group → IsGroupInTurn header outside past (record { line = line; command = command.Settle count }) (stretch ++ group)
 grown header outside count line past group stretch follows licensed made = record {
   more = stretch ++ made.more;
   is = ap (λ (z : List Event). stretch ++ z) made.is ∙ sym (append_assoc stretch made.more []);
@@ -58,15 +65,15 @@ grown header outside count line past group stretch follows licensed made = recor
 }
 
 -- and so does what a settle made so far
-pub settled_more : (header : Header) (outside : Outside) (count line : ℕ) (run : List Numbered) (old new stretch : List Event) → new ≡ stretch ++ old → EachIn IsConsequence stretch old → AllLicensed header outside (command.Settle count) stretch old
-    → FollowsSoFar header outside (record { line = line; command = command.Settle count } ∷ run) old → FollowsSoFar header outside (record { line = line; command = command.Settle count } ∷ run) new
+pub settled_more : (header : Header) (outside : Outside) (count line : ℕ) (run : List Numbered) (old new stretch : List Event) → new ≡ stretch ++ old → EachIn IsConsequence stretch old → AllInTurn header outside (command.Settle count) stretch old
+    → FollowsSoFarInTurn header outside (record { line = line; command = command.Settle count } ∷ run) old → FollowsSoFarInTurn header outside (record { line = line; command = command.Settle count } ∷ run) new
 settled_more header outside count line run old new stretch is follows licensed (past, group, was, made, done, before) =
-    let licensed_on : AllLicensed header outside (command.Settle count) stretch (group ++ event.Line line ∷ past) = subst (λ (z : List Event). AllLicensed header outside (command.Settle count) stretch z) was licensed in
+    let licensed_on : AllInTurn header outside (command.Settle count) stretch (group ++ event.Line line ∷ past) = subst (λ (z : List Event). AllInTurn header outside (command.Settle count) stretch z) was licensed in
     let follows_on : EachIn IsConsequence stretch (group ++ event.Line line ∷ past) = subst (λ (z : List Event). EachIn IsConsequence stretch z) was follows in
     (past, stretch ++ group, is ∙ ap (λ (z : List Event). stretch ++ z) was ∙ sym (append_assoc stretch group (event.Line line ∷ past)), grown header outside count line past group stretch follows_on licensed_on made, tt, before)
 
 -- what holds of an open history that has a kernel
-pub up_to_open : (header : Header) (outside : Outside) (run : List Numbered) (s : State) → SystemStands header outside s → LegalOpen header outside run s.history.items → HoldsUpTo header outside s.history.items
+pub up_to_open : (header : Header) (outside : Outside) (run : List Numbered) (s : State) → SystemStands header outside s → CanonicalOpen header outside run s.history.items → HoldsUpTo header outside s.history.items
 up_to_open header outside run s stands legal = record {
   supplied = stands.built.supplied;
   own_bytes = legal.holds.own_bytes;
@@ -82,8 +89,8 @@ up_to_open header outside run s stands legal = record {
 abbrev settling : Header → Outside → ℕ → List Event → Step
 settling header outside count past = record { header = header; outside = outside; command = command.Settle count; past = past }
 
-follows_open : (header : Header) (outside : Outside) (count line : ℕ) (run : List Numbered) (old new : List Event) → TakesStep (settling header outside count old) new → FollowsSoFar header outside (record { line = line; command = command.Settle count } ∷ run) old
-    → FollowsSoFar header outside (record { line = line; command = command.Settle count } ∷ run) new
+follows_open : (header : Header) (outside : Outside) (count line : ℕ) (run : List Numbered) (old new : List Event) → TakesStep (settling header outside count old) new → FollowsSoFarInTurn header outside (record { line = line; command = command.Settle count } ∷ run) old
+    → FollowsSoFarInTurn header outside (record { line = line; command = command.Settle count } ∷ run) new
 follows_open header outside count line run old new step follows =
     settled_more header outside count line run old new (step.more ++ event.Taken step.channel step.m ∷ []) (step_is (settling header outside count old) new step)
     (each_both IsConsequence step.more (event.Taken step.channel step.m ∷ []) old step.follows (tt, tt)) step.licensed follows
@@ -94,12 +101,16 @@ keeps_open header outside count s new stands took line run legal =
     let numbered : Numbered = record { line = line; command = command.Settle count } in
     let items = new.history.items in
     let step = took.step in
-    let follows : FollowsSoFar header outside (numbered ∷ run) items = follows_open header outside count line run s.history.items items step legal.follows in
+    let follows : FollowsSoFarInTurn header outside (numbered ∷ run) items = follows_open header outside count line run s.history.items items step legal.follows in
     record {
       so_far = record {
         follows = follows;
-        holds = holds_taken given items step (so_far header outside (numbered ∷ run) items follows) (up_to_open header outside (numbered ∷ run) s stands legal);
+        holds = holds_taken given items step (so_far header outside (numbered ∷ run) items (weak_so_far header outside (numbered ∷ run) items follows)) (up_to_open header outside (numbered ∷ run) s stands legal);
         rests = record { prompt = took.prompt; paid = took.paid; served = took.stands.served };
+        ended = steps_taken (EndsAll header) given items step (legal.last, legal.ended);
+        last = took.ended;
+        recalled = steps_taken (AllRecalled header) given items step (legal.recalls, legal.recalled);
+        recalls = took.stands.recalled;
       };
       more = ap takings step.is ∙ takings_more step.more (event.Taken step.channel step.m ∷ s.history.items) step.inner;
     }
@@ -109,8 +120,9 @@ cuts_open header outside count s new stands (inl same) = inl same
 cuts_open header outside count s new stands (inr step) = inr (λ line run legal.
     let given = settling header outside count s.history.items in
     let numbered : Numbered = record { line = line; command = command.Settle count } in
-    let follows : FollowsSoFar header outside (numbered ∷ run) new = follows_open header outside count line run s.history.items new step legal.follows in
-    record { follows = cut_of header outside (numbered ∷ run) new follows; holds = holds_taken given new step (so_far header outside (numbered ∷ run) new follows) (up_to_open header outside (numbered ∷ run) s stands legal) })
+    let follows : FollowsSoFarInTurn header outside (numbered ∷ run) new = follows_open header outside count line run s.history.items new step legal.follows in
+    let weak : FollowsSoFar header outside (numbered ∷ run) new = weak_so_far header outside (numbered ∷ run) new follows in
+    record { follows = cut_of header outside (numbered ∷ run) new weak; holds = holds_taken given new step (so_far header outside (numbered ∷ run) new weak) (up_to_open header outside (numbered ∷ run) s stands legal) })
 
 -- the oldest letter of all has its channel
 pub record Foremost (made : List Channel) (number : ChannelId) (letters : List Letter) : Type 0 where

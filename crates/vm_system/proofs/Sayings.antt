@@ -1,5 +1,5 @@
 -- The letters on their way under what a kernel says, and under what a pager answers or asks.
-use Rattle.vm_system.proofs.Common.{Access, AllInner, AllLetters, AllLicensed, Bool, CanSend, CanTell, CanTellAll, Channel, Command, CreatesHere, Down, EachIn, Ending, Event, FileAnswer, FileTable, HasMade, HasPageOf, Header, Held, HostId, IsHostLetter, IsInner, IsOrderly, IsServerWord, IsWord, KernelSays, Licensed, List, MaySendUp, Message, None, ObjectId, Option, Outside, PageNo, PagerAnswer, Put, Read, RequestAnswer, SlotTable, Some, SomeKernelSays, Up, Write, [], arith, became, device_failed, error, false, has_lost, held_at, home_for, home_of, host_id, inl, inr, is_ended, is_made, last_control, length, live_control, makes, named, nat_tests, never, object_home, queue, refl, sent_to, subst, suc, supply, sym, taking, told_of, true, undelivered, up, ℕ, ◌&&◌, ◌++◌, ◌+◌, ◌==◌, ◌||◌, ◌∙◌, ◌∷◌, ◌≡◌, ◌≤◌, is_shared, is_file, ◌⊎◌, is_store, if◌then◌else◌, zero}
+use Rattle.vm_system.proofs.Common.{Access, AllInner, AllLetters, AllInTurn, Bool, CanSend, CanTell, CanTellAll, Channel, Command, CreatesHere, Down, EachIn, Ending, Event, FileAnswer, FileTable, HasMade, HasPageOf, Header, Held, HostId, IsHostLetter, IsInner, IsOrderly, IsServerWord, IsWord, KernelSays, LicensedInTurn, List, MaySendUp, Message, None, ObjectId, Option, Outside, PageNo, PagerAnswer, Put, Read, RequestAnswer, SlotTable, Some, SomeKernelSays, Up, Write, [], arith, became, device_failed, error, false, has_lost, held_at, home_for, home_of, host_id, inl, inr, is_ended, is_made, last_control, length, live_control, makes, named, nat_tests, never, object_home, queue, refl, sent_to, subst, suc, supply, sym, taking, told_of, true, undelivered, up, ℕ, ◌&&◌, ◌++◌, ◌+◌, ◌==◌, ◌||◌, ◌∙◌, ◌∷◌, ◌≡◌, ◌≤◌, is_shared, is_file, ◌⊎◌, is_store, if◌then◌else◌, zero}
 use Rattle.std.specs.Prelude.{◌<◌}
 use Rattle.vm_model.specs.declared.event.Event.TheVariants as event
 use Rattle.vm_model.specs.declared.message.Message.TheVariants as message
@@ -15,6 +15,7 @@ use Rattle.vm_system.proofs.Letters.{Grew, lettered, letters_end, letters_stay, 
 use Rattle.vm_quiet.specs.Quiet.{AllSupplied}
 use Rattle.vm_system.proofs.Makings.{at_place, made_completed, made_created, made_kept, made_opened, made_requested, made_returned, made_terminated, made_unlocked, of_number, own}
 use Rattle.vm_system.proofs.Washings.{washed_sent}
+use Rattle.vm_legal.proofs.Turns.{cause_of}
 
 -- channels stay made where a message is sent
 grew_sent : (c : Channel) (m : Message) (past : List Event) → Grew past (event.Sent c m ∷ past)
@@ -222,24 +223,24 @@ sends_tells : (header : Header) (c : Channel) (m : Message) (past : List Event) 
 sends_tells header c m past sends = record { orderly = sends.orderly; can = (sends.page, sends.can) }
 
 -- what a kernel says
-said : (header : Header) (outside : Outside) (doing : Command) (e : Event) (past : List Event) → AllSupplied header → IsOrderly header past → Licensed header outside doing e past → SomeKernelSays header e past → IsInner e → Tells header e past
+said : (header : Header) (outside : Outside) (doing : Command) (e : Event) (past : List Event) → AllSupplied header → IsOrderly header past → LicensedInTurn header outside doing e past → SomeKernelSays header e past → IsInner e → Tells header e past
 said header outside doing (event.Line line) past supplied old licence is inner = absurd inner
 said header outside doing (event.Taken channel m) past supplied old licence is inner = absurd inner
 said header outside doing (event.Sent (Down host object control) m) past supplied old licence is inner = absurd is.says
 said header outside doing (event.Sent (Up host object) m) past supplied old licence is inner =
     let here : is.host ≡ host.0 = sym (said_here is.host header.size host object m is.says) in
     sends_tells header (Up host object) m past
-    (said_up header doing host object m past supplied old (subst (λ (h : ℕ). h < length header.frames.items) here is.known) licence.0 (subst (λ (h : ℕ). KernelSays h header.size (event.Sent (Up host object) m)) here is.says)
+    (said_up header doing host object m past supplied old (subst (λ (h : ℕ). h < length header.frames.items) here is.known) (cause_of header outside doing (event.Sent (Up host object) m) past licence.0) (subst (λ (h : ℕ). KernelSays h header.size (event.Sent (Up host object) m)) here is.says)
     (subst (λ (h : ℕ). CreatesHere header h (event.Sent (Up host object) m) past) here is.creates))
 said header outside doing e past supplied old licence is inner = record { orderly = orderly_silent header e past tt old; can = tt }
 
-pub orderly_said : (header : Header) (outside : Outside) (doing : Command) (past events : List Event) → AllSupplied header → IsOrderly header past → AllLicensed header outside doing events past → EachIn (SomeKernelSays header) events past → AllInner events
+pub orderly_said : (header : Header) (outside : Outside) (doing : Command) (past events : List Event) → AllSupplied header → IsOrderly header past → AllInTurn header outside doing events past → EachIn (SomeKernelSays header) events past → AllInner events
     → IsOrderly header (events ++ past)
 orderly_said header outside doing past [] supplied old licences is inner = old
 orderly_said header outside doing past (e ∷ events) supplied old licences is inner =
     (said header outside doing e (events ++ past) supplied (orderly_said header outside doing past events supplied old licences.1 is.1 inner.1) licences.0 is.0 inner.0).orderly
 
-pub can_say : (header : Header) (outside : Outside) (doing : Command) (past events : List Event) → AllSupplied header → IsOrderly header past → AllLicensed header outside doing events past → EachIn (SomeKernelSays header) events past → AllInner events
+pub can_say : (header : Header) (outside : Outside) (doing : Command) (past events : List Event) → AllSupplied header → IsOrderly header past → AllInTurn header outside doing events past → EachIn (SomeKernelSays header) events past → AllInner events
     → CanTellAll header.size events past
 can_say header outside doing past [] supplied old licences is inner = tt
 can_say header outside doing past (e ∷ events) supplied old licences is inner =

@@ -1,14 +1,22 @@
 -- What holds at the end of a step doesn't change with a line, or with the code of a refusal.
 use Rattle.vm_system.proofs.Common.{AReady, Access, AllInner, AllRest, AnAnswer, AnUnlock, Awaits, Bool, Code, Comes, Copies, Elsewhere, Event, HasPlace, Header, HostIsFull, HostTable, IsExhausted, IsPaid, IsSource, List, None, NoneInVain, Nowhere, Prompt, Raises, Waits, WaitsForPager, WaitsUnlocked, WantsFrame, common_all, inl, inr, is_store, owed, page_of, paid_of, refl, ℕ, ◌++◌, ◌∷◌, ◌≡◌, [], Some, false, true, ap, is_some}
 use Rattle.vm_model.specs.declared.event.Event.TheVariants as event
+use Rattle.vm_base.specs.declared.ids.HostId.{HostId}
+use Rattle.vm_base.specs.declared.ids.ObjectId.{ObjectId}
+use Rattle.vm_legal.proofs.Inside.{error_more}
+use Rattle.vm_legal.specs.InTurn.{EndsAll}
+use Rattle.std.proofs.Common.{sym, ◌∙◌}
+use Rattle.vm_legal.specs.Steps.{error_taken}
+use Rattle.vm_model.specs.declared.message.Channel.TheVariants.{Up}
+use Rattle.vm_model.specs.declared.message.Message.{Message}
 
 -- the accesses that wait, and what they wait for
 
 abbrev waits_line : (header : Header) (task : ℕ) (access : Access) (line : ℕ) (h : List Event) → Waits header task access h → Waits header task access (event.Line line ∷ h)
-waits_line header task access line h w = record { waits = w.waits; at = record { host = w.at.host; entry = w.at.entry; lives = w.at.lives; found = w.at.found } }
+waits_line header task access line h w = record { waits = w.waits; at = record { host = w.at.host; entry = w.at.entry; lives = w.at.lives; found = w.at.found }; left = w.left }
 
 abbrev waits_of_line : (header : Header) (task : ℕ) (access : Access) (line : ℕ) (h : List Event) → Waits header task access (event.Line line ∷ h) → Waits header task access h
-waits_of_line header task access line h w = record { waits = w.waits; at = record { host = w.at.host; entry = w.at.entry; lives = w.at.lives; found = w.at.found } }
+waits_of_line header task access line h w = record { waits = w.waits; at = record { host = w.at.host; entry = w.at.entry; lives = w.at.lives; found = w.at.found }; left = w.left }
 
 place_line : (header : Header) (region page object object_page : ℕ) (line : ℕ) (h : List Event) → HasPlace header region page object object_page h → HasPlace header region page object object_page (event.Line line ∷ h)
 place_line header region page object object_page line h is = record { top = is.top; top_page = is.top_page; steps = is.steps; is_top = is.is_top; leads = is.leads }
@@ -78,6 +86,7 @@ not_in_vain_line header host line h none task access waits on = elim (none task 
 
 pub prompt_line : (header : Header) (line : ℕ) (h : List Event) → Prompt header h → Prompt header (event.Line line ∷ h)
 prompt_line header line h prompt host below = record {
+  leads = λ task access waits on. waits_line header task access line h ((prompt host below).leads task access waits on);
   waits = not_in_vain_line header host line h (prompt host below).waits;
   swept = let swept = (prompt host below).swept in record { pages = swept.pages; controls = swept.controls; declared_pages = swept.declared_pages; declared_controls = swept.declared_controls };
 }
@@ -85,10 +94,10 @@ prompt_line header line h prompt host below = record {
 -- a code
 
 abbrev waits_code : (header : Header) (task : ℕ) (access : Access) (why : Code) (h : List Event) → Waits header task access h → Waits header task access (event.Refused why ∷ h)
-waits_code header task access why h w = record { waits = w.waits; at = record { host = w.at.host; entry = w.at.entry; lives = w.at.lives; found = w.at.found } }
+waits_code header task access why h w = record { waits = w.waits; at = record { host = w.at.host; entry = w.at.entry; lives = w.at.lives; found = w.at.found }; left = w.left }
 
 abbrev waits_of_code : (header : Header) (task : ℕ) (access : Access) (why : Code) (h : List Event) → Waits header task access (event.Refused why ∷ h) → Waits header task access h
-waits_of_code header task access why h w = record { waits = w.waits; at = record { host = w.at.host; entry = w.at.entry; lives = w.at.lives; found = w.at.found } }
+waits_of_code header task access why h w = record { waits = w.waits; at = record { host = w.at.host; entry = w.at.entry; lives = w.at.lives; found = w.at.found }; left = w.left }
 
 place_code : (header : Header) (region page object object_page : ℕ) (why : Code) (h : List Event) → HasPlace header region page object object_page h → HasPlace header region page object object_page (event.Refused why ∷ h)
 place_code header region page object object_page why h is = record { top = is.top; top_page = is.top_page; steps = is.steps; is_top = is.is_top; leads = is.leads }
@@ -158,6 +167,7 @@ not_in_vain_code header host why h none task access waits on = elim (none task a
 
 pub prompt_code : (header : Header) (why : Code) (h : List Event) → Prompt header h → Prompt header (event.Refused why ∷ h)
 prompt_code header why h prompt host below = record {
+  leads = λ task access waits on. waits_code header task access why h ((prompt host below).leads task access waits on);
   waits = not_in_vain_code header host why h (prompt host below).waits;
   swept = let swept = (prompt host below).swept in record { pages = swept.pages; controls = swept.controls; declared_pages = swept.declared_pages; declared_controls = swept.declared_controls };
 }
@@ -171,10 +181,21 @@ all_settled header hosts past rests = (common_all header hosts past rests).settl
 pub paid_inner : (header : Header) (line : ℕ) (h events : List Event) → AllInner events → owed (events ++ event.Line line ∷ h) ≡ None → IsPaid header (events ++ event.Line line ∷ h)
 paid_inner header line h events inner none = paid_of header (event.Line line ∷ h) events (record { line = line; before = h; is = refl }) inner none
 
--- at the start nothing is owed
-
 nothing_taken : {A R : Type 0} {x : A} → None ≡ Some x → R
 nothing_taken is = absurd (let bad : false ≡ true = ap is_some is in cc)
+
+-- it took no error either, nor does one that a pager's message begins
+
+ends_none : (header : Header) (events past : List Event) → AllInner events → error_taken header.size past ≡ None → EndsAll header (events ++ past)
+ends_none header events past inner none host object page is = nothing_taken (sym (error_more header.size events past inner ∙ none) ∙ is)
+
+pub ends_lined : (header : Header) (line : ℕ) (events h : List Event) → AllInner events → EndsAll header (events ++ event.Line line ∷ h)
+ends_lined header line events h inner = ends_none header events (event.Line line ∷ h) inner refl
+
+pub ends_up : (header : Header) (host : HostId) (object : ObjectId) (m : Message) (events past : List Event) → AllInner events → EndsAll header (events ++ event.Taken (Up host object) m ∷ past)
+ends_up header host object m events past inner = ends_none header events (event.Taken (Up host object) m ∷ past) inner refl
+
+-- at the start nothing is owed
 
 pub paid_start : (header : Header) → IsPaid header []
 paid_start header = record {

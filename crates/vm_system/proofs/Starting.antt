@@ -10,6 +10,7 @@ use Rattle.sms_server.proofs.Starting.{server_start}
 use Rattle.vm_system.proofs.Sharing.{served_start}
 use Rattle.vm_system.proofs.Letters.{orderly_none}
 use Rattle.vm_system.proofs.Silent.{paid_start}
+use Rattle.sms_server.proofs.Starting.{start_recalled as recalled_start}
 
 -- a system to which nothing has happened
 pub record IsNew (header : Header) (s : State) : Type 0 where
@@ -56,6 +57,7 @@ new_stands header outside s new = record {
   };
   paid = rw new.history (paid_start header);
   served = rw new.history (served_start header);
+  recalled = rw new.history (recalled_start header);
 }
 
 -- an empty table fits where nothing was stored

@@ -1,5 +1,5 @@
 -- A message is taken: what stands in front of that, and its cause.
-use Rattle.vm_system.proofs.Common.{AllFilesServe, AllInner, AllLicensed, AllQueued, AllRest, AllServe, AllServed, AreSame, Bool, Channel, ChannelId, Command, Device, Down, EachIn, Event, FileTable, FilesCarry, FramesSuffice, Gives, Header, HostTable, IfSome, IsConsequence, IsSupplied, IsOrderly, IsPaid, Lawful, Letter, Licensed, List, MayTake, MayTakeFrom, Message, MomentsIn, None, Option, Outside, OwnBytes, ServerStands, ServerTable, SlotTable, Some, State, Step, TakesStep, Told, Up, [], all_lined, all_suffice, ap, arith, change_where, channel_number, content_of, devices, each_both, false, first, frames_after, frames_held, frames_used, if◌then◌else◌, is_channel, is_control, length, licensed_both, lined, live_control, local, messages_on, moments_both, nat_tests, owed, queue, queue_is, queued_lined, refl, reverse, same_channel, slice_get, subst, suc, sym, taken_down_change, taken_up_change, true, undelivered, zero, ℕ, ◌++◌, ◌<◌, ◌∙◌, ◌∷◌, ◌≡◌, ◌≤◌}
+use Rattle.vm_system.proofs.Common.{AllFilesServe, AllInner, AllInTurn, AllQueued, AllRest, AllServe, AllServed, AreSame, Bool, Channel, ChannelId, Command, Device, Down, EachIn, Event, FileTable, FilesCarry, FramesSuffice, Gives, Header, HostTable, IfSome, IsConsequence, IsSupplied, IsOrderly, IsPaid, Lawful, Letter, LicensedInTurn, List, MayTake, MayTakeFrom, Message, MomentsIn, None, Option, Outside, OwnBytes, ServerStands, ServerTable, SlotTable, Some, State, Step, TakesStep, Told, Up, [], all_lined, all_suffice, ap, arith, change_where, channel_number, content_of, devices, each_both, false, first, frames_after, frames_held, frames_used, if◌then◌else◌, is_channel, is_control, length, licensed_both, lined, live_control, local, messages_on, moments_both, nat_tests, owed, queue, queue_is, queued_lined, refl, reverse, same_channel, slice_get, subst, suc, sym, taken_down_change, taken_up_change, true, undelivered, zero, ℕ, ◌++◌, ◌<◌, ◌∙◌, ◌∷◌, ◌≡◌, ◌≤◌}
 use Rattle.vm_legal.proofs.Owing.{behind_none}
 use Rattle.std.proofs.Common.{◌==◌, ◌&&◌}
 use Rattle.vm_model.specs.declared.event.Event.TheVariants as event
@@ -7,11 +7,12 @@ use Rattle.vm_model.specs.declared.message.Message.TheVariants as message
 use Rattle.vm_ports.specs.Ports.{queue as queue_on}
 use Rattle.vm_ports.specs.declared.letter.Letter.{Letter as Posted}
 use Rattle.vm_system.proofs.Agreeing.{carry_other, files_other, serve_other}
-use Rattle.sms_server.proofs.Acting.{others_serve as served_other, others_stand as server_other}
+use Rattle.sms_server.proofs.Acting.{others_recall as recalled_other, others_serve as served_other, others_stand as server_other}
 use Rattle.vm_system.proofs.Lawfulness.{lawful_line}
 use Rattle.vm_system.proofs.Silent.{all_settled, paid_inner}
 use Rattle.vm_system.proofs.Letters.{orderly_line}
 use Rattle.vm_system.proofs.Numbers.{number_read}
+use Rattle.vm_legal.specs.InTurn.{AllRecalled}
 
 -- the numbers of channels
 
@@ -104,6 +105,10 @@ served_lined : (header : Header) (line : Option ℕ) (past : List Event) → All
 served_lined header None past served = served
 served_lined header (Some line) past served = served_other header (event.Line line) past tt served
 
+recalled_lined : (header : Header) (line : Option ℕ) (past : List Event) → AllRecalled header past → AllRecalled header (lined line past)
+recalled_lined header None past recalled = recalled
+recalled_lined header (Some line) past recalled = recalled_other header (event.Line line) past tt recalled
+
 lawful_lined : (header : Header) (outside : Outside) (line : Option ℕ) (past : List Event) → IsPaid header past → Lawful header outside past → Lawful header outside (lined line past)
 lawful_lined header outside None past paid lawful = lawful
 lawful_lined header outside (Some line) past paid lawful = lawful_line header outside line past paid lawful
@@ -149,12 +154,12 @@ taken_suffice header channel m past suffice h = fewer (slice_get (reverse header
 
 -- the cause of a taking
 pub taken_licensed : (header : Header) (outside : Outside) (doing : Command) (channel : Channel) (m : Message) (past : List Event) → first (queue channel past) ≡ Some m → MayTake doing channel past → owed past ≡ None
-    → Licensed header outside doing (event.Taken channel m) past
+    → LicensedInTurn header outside doing (event.Taken channel m) past
 taken_licensed header outside doing channel m past is may settled = ((is, may), behind_none (event.Taken channel m) past settled)
 
 -- a step that begins with a taking, from what it says behind that
 pub takes_step : (given : Step) (channel : Channel) (m : Message) (more new : List Event) → new ≡ more ++ event.Taken channel m ∷ given.past → first (queue channel given.past) ≡ Some m → MayTake given.command channel given.past
-    → owed given.past ≡ None → FramesSuffice given.header given.past → EachIn IsConsequence more (event.Taken channel m ∷ given.past) → AllLicensed given.header given.outside given.command more (event.Taken channel m ∷ given.past)
+    → owed given.past ≡ None → FramesSuffice given.header given.past → EachIn IsConsequence more (event.Taken channel m ∷ given.past) → AllInTurn given.header given.outside given.command more (event.Taken channel m ∷ given.past)
     → EachIn (OwnBytes given.header) more (event.Taken channel m ∷ given.past)
     → MomentsIn (FramesSuffice given.header) more (event.Taken channel m ∷ given.past) → AllInner more → TakesStep given new
 takes_step given channel m more new is head may settled suffice follows licensed own frames inner =
@@ -184,6 +189,7 @@ pub record Front (given : Step) (s : State) : Type 0 where
   pub lawful : Lawful given.header given.outside given.past
   pub paid : IsPaid given.header given.past
   pub served : AllServed given.header given.past
+  pub recalled : AllRecalled given.header given.past
 
 pub front_of : (given : Step) (line : Option ℕ) (number : ChannelId) (channel : Channel) (s : State) → MayTakeFrom given line number channel s → Front given s
 front_of given line number channel s may =
@@ -201,6 +207,7 @@ front_of given line number channel s may =
       lawful = rw may.past (lawful_lined given.header given.outside line items stands.paid agrees.lawful);
       paid = rw may.past (paid_lined given.header line items stands.paid);
       served = rw may.past (served_lined given.header line items stands.served);
+      recalled = rw may.past (recalled_lined given.header line items stands.recalled);
     }
 
 pub front_settled : (given : Step) (s : State) → Front given s → owed given.past ≡ None

@@ -1,10 +1,10 @@
 -- An answer of a pager is taken by its host.
-use Rattle.vm_system.proofs.Common.{AllFilesServe, AllInner, AllServe, Bool, CanTellAll, Channel, ChannelId, Device, Down, EndsAll, Event, Header, HostId, HostTable, HostsPart, IsAbsencePaid, IsErrorPaid, IsLockPaid, IsPaid, IsWord, Letter, Licensed, List, MayTakeFrom, Message, None, ObjectId, Option, Posts, ServerStands, Some, Spares, State, Step, Took, Up, ap, devices, false, first, length, owed, queue, sym, taken_letter, taken_more, true, up, ℕ, ◌++◌, ◌<◌, ◌∙◌, ◌∷◌, ◌≡◌, ServerTable, subst}
+use Rattle.vm_system.proofs.Common.{AllFilesServe, AllInner, AllServe, Bool, CanTellAll, Channel, ChannelId, Device, Down, EndsAll, Event, Header, HostId, HostTable, HostsPart, IsAbsencePaid, IsErrorPaid, IsLockPaid, IsPaid, IsWord, Letter, LicensedInTurn, List, MayTakeFrom, Message, None, ObjectId, Option, Posts, ServerStands, Some, Spares, State, Step, Took, Up, ap, devices, false, first, length, owed, queue, sym, taken_letter, taken_more, true, up, ℕ, ◌++◌, ◌<◌, ◌∙◌, ◌∷◌, ◌≡◌, ServerTable, subst}
 use Rattle.vm_model.specs.declared.event.Device.TheVariants.{Files, Paging}
 use Rattle.vm_model.specs.declared.event.Event.TheVariants as event
 use Rattle.vm_system.proofs.Agreeing.{carry_other, carry_spared, devices_said, files_other, files_spared, serve_other, spared_said}
-use Rattle.sms_server.proofs.Acting.{others_serve as served_other, others_stand as server_other}
-use Rattle.vm_system.proofs.Lawfulness.{lawful_taken, others_said, served_more}
+use Rattle.sms_server.proofs.Acting.{others_recall as recalled_other, others_serve as served_other, others_stand as server_other}
+use Rattle.vm_system.proofs.Lawfulness.{lawful_taken, others_said, recalled_more, served_more}
 use Rattle.vm_system.proofs.Silent.{all_settled}
 use Rattle.vm_system.proofs.Letters.{letter_first, orderly_taken}
 use Rattle.vm_system.proofs.Sayings.{can_say, orderly_said}
@@ -19,7 +19,7 @@ down_letter given line number host object control m s may head =
     (letter.0, letter.1)
 
 pub down_licensed : (given : Step) (line : Option ℕ) (number : ChannelId) (host : HostId) (object : ObjectId) (control : ℕ) (m : Message) (s : State) → MayTakeFrom given line number (Down host object control) s
-    → first (queue (Down host object control) given.past) ≡ Some m → Licensed given.header given.outside given.command (event.Taken (Down host object control) m) given.past
+    → first (queue (Down host object control) given.past) ≡ Some m → LicensedInTurn given.header given.outside given.command (event.Taken (Down host object control) m) given.past
 down_licensed given line number host object control m s may head =
     let front = front_of given line number (Down host object control) s may in
     taken_licensed given.header given.outside given.command (Down host object control) m given.past head may.may (front_settled given s front)
@@ -52,13 +52,13 @@ not_up at object control m events past o host n inner is =
 -- the step owes what the hosts have done
 down_paid : (header : Header) (at : HostId) (object : ObjectId) (control : ℕ) (m : Message) (events past : List Event) → AllInner events → owed (events ++ event.Taken (Down at object control) m ∷ past) ≡ None
     → IsErrorPaid header (events ++ event.Taken (Down at object control) m ∷ past) → IsAbsencePaid header (events ++ event.Taken (Down at object control) m ∷ past) → IsLockPaid header (events ++ event.Taken (Down at object control) m ∷ past)
-    → EndsAll header (events ++ event.Taken (Down at object control) m ∷ past) → IsPaid header (events ++ event.Taken (Down at object control) m ∷ past)
-down_paid header at object control m events past inner none failed zeroed locked ended = record {
+    → IsPaid header (events ++ event.Taken (Down at object control) m ∷ past)
+down_paid header at object control m events past inner none failed zeroed locked = record {
   none_owed = none;
   init = λ host o k size paged is. absurd (not_up at object control m events past o host _ inner is);
   create = λ host o k size paged is. absurd (not_up at object control m events past o host _ inner is);
   request = λ host o k page access paged is. absurd (not_up at object control m events past o host _ inner is);
-  error = λ host o page is. (failed host o page is, ended host o page is);
+  error = failed;
   absence = zeroed;
   lock = locked;
   slot = λ host o k page dirty keep bytes temporary is lacks. absurd (not_up at object control m events past o host _ inner is);
@@ -89,7 +89,7 @@ took_down given line number host object control m s new events may head passed f
     let filed : AllFilesServe header new.files.items past = rw files (front_filed given host object control m s front) in
     let heard : ServerStands header new.server past = subst (λ (z : ServerTable). ServerStands header z past) (sym server) (server_other header s.server (event.Taken channel m) given.past tt front.server) in
     let licence = taken_licensed header outside doing channel m given.past head may.may (front_settled given s front) in
-    let owed : IsPaid header new.history.items = rw items (down_paid header host object control m events given.past stretch.inner (all_settled header new.hosts (events ++ past) passed.ended.rests) failed zeroed locked ended) in
+    let owed : IsPaid header new.history.items = rw items (down_paid header host object control m events given.past stretch.inner (all_settled header new.hosts (events ++ past) passed.ended.rests) failed zeroed locked) in
     record {
       stands = record {
         built = front.built;
@@ -99,10 +99,12 @@ took_down given line number host object control m s new events may head passed f
             (lawful_taken header outside doing channel m given.past licence front.paid front.lawful) (declared ∙ may.stands.agrees.declared) stretch (size ∙ may.stands.agrees.size) items posts;
         paid = owed;
         served = rw items (served_more header events past (others_said header events past stretch.said) (served_other header (event.Taken channel m) given.past tt front.served));
+        recalled = rw items (recalled_more header events past (others_said header events past stretch.said) (recalled_other header (event.Taken channel m) given.past tt front.recalled));
       };
       step = takes_step given channel m events new.history.items items head may.may (front_settled given s front) (front_suffice given s front) passed.follows.follows stretch.licensed stretch.own_bytes stretch.frames stretch.inner;
       prompt = rw items passed.ended.prompt;
       paid = owed;
+      ended = rw items ended;
     }
 
 -- pagers and contents have no part in that

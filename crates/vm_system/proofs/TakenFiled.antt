@@ -1,5 +1,5 @@
 -- A message about a declared object is taken by the pager of its file, which answers.
-use Rattle.vm_system.proofs.Common.{AllFilesServe, AllLicensed, AllServe, AnswersKept, Bool, CanTellAll, CarriesFile, ChannelId, Content, DevicesHaveCause, EachIn, Err, Event, FileAnswer, FileKept, FileTable, FilesAreKept, FilesCarry, Followed, FramesSuffice, Header, HostId, IsConsequence, LeavesFile, List, Listed, MayHave, MayTake, MayTakeFrom, Message, MomentsIn, None, ObjectId, Ok, Option, Outside, OwnBytes, PagerHasAnswered, PagingIsKept, Posts, SameAreas, SlotTable, SlotsFit, Some, SparesPaging, State, Step, TakesStep, TellsPage, Told, Took, Up, [], ap, append_assoc, arith, content_of, devices, each_both, first, gives_frame, home_of, inl, inner_both, inr, is_file, length, length-set, licensed_both, moments_both, name_of, nat_tests, none-some, others, others_carry, queue, refl, same_Some, set, slice_get, slice_get_within, subst, sym, tells, true, false, ℕ, ◌++◌, ◌<◌, ◌==◌, ◌∙◌, ◌∷◌, ◌≡◌, ◌≢◌, ◌⊎◌, reverse}
+use Rattle.vm_system.proofs.Common.{AllFilesServe, AllInTurn, AllServe, AnswersKept, Bool, CanTellAll, CarriesFile, ChannelId, Content, DevicesHaveCause, EachIn, Err, Event, FileAnswer, FileKept, FileTable, FilesAreKept, FilesCarry, Followed, FramesSuffice, Header, HostId, IsConsequence, LeavesFile, List, Listed, MayHave, MayTake, MayTakeFrom, Message, MomentsIn, None, ObjectId, Ok, Option, Outside, OwnBytes, PagerHasAnswered, PagingIsKept, Posts, SameAreas, SlotTable, SlotsFit, Some, SparesPaging, State, Step, TakesStep, TellsPage, Told, Took, Up, [], ap, append_assoc, arith, content_of, devices, each_both, first, gives_frame, home_of, inl, inner_both, inr, is_file, length, length-set, licensed_both, moments_both, name_of, nat_tests, none-some, others, others_carry, queue, refl, same_Some, set, slice_get, slice_get_within, subst, sym, tells, true, false, ℕ, ◌++◌, ◌<◌, ◌==◌, ◌∙◌, ◌∷◌, ◌≡◌, ◌≢◌, ◌⊎◌, reverse}
 use Rattle.pg_file.proofs.Carrying.{carries, others_carry as carries_apart}
 use Rattle.pg_file.proofs.Causes.{causes}
 use Rattle.pg_file.proofs.Debts.{paid}
@@ -15,15 +15,16 @@ use Rattle.vm_system.proofs.Apart.{apart_of, declared_fit, declared_stand, set_c
 use Rattle.vm_system.proofs.Filed.{IsFiled, filed_of, word_filed}
 use Rattle.vm_system.proofs.Filing.{carry_areas, is_declared, kept_about, may_back, stands_about}
 use Rattle.vm_legal.proofs.Unshared.{file_unshared}
-use Rattle.sms_server.proofs.Acting.{others_serve as served_other, others_stand as server_other}
+use Rattle.sms_server.proofs.Acting.{others_recall as recalled_other, others_serve as served_other, others_stand as server_other}
 use Rattle.vm_system.proofs.Following.{kept_at}
 use Rattle.vm_system.proofs.Homes.{home_declared}
-use Rattle.vm_system.proofs.Lawfulness.{lawful_more, lawful_taken, others_about, served_more, server_more}
+use Rattle.vm_system.proofs.Lawfulness.{lawful_more, lawful_taken, others_about, recalled_more, served_more, server_more}
 use Rattle.vm_system.proofs.Letters.{known_first, letter_first, orderly_taken, washed_out}
 use Rattle.vm_system.proofs.Makings.{is_open}
 use Rattle.vm_system.proofs.Sayings.{can_file, orderly_filed}
 use Rattle.vm_system.proofs.Taken.{Front, devices_lined, front_carry, front_content, front_of, front_settled, front_suffice, taken_licensed, takes_step, taken_suffice}
 use Rattle.vm_system.proofs.TakenUp.{device_cause, going, up_letter}
+use Rattle.vm_system.proofs.Silent.{ends_up}
 
 pub up_filed : (given : Step) (line : Option ℕ) (number : ChannelId) (host : HostId) (object : ObjectId) (m : Message) (s : State) → MayTakeFrom given line number (Up host object) s
     → first (queue (Up host object) given.past) ≡ Some m → IsToPager m × ReturnsWhole given.header.size m
@@ -45,7 +46,7 @@ pub record Filed (given : Step) (host : HostId) (object : ObjectId) (m : Message
   pub home : home_of object.0 given.past ≡ Some host.0
   pub at : slice_get s.files.items object.0 ≡ Some old
   pub serves : PagerServes given.header host.0 given.past object.0 m old new events
-  pub licensed : AllLicensed given.header given.outside given.command events (event.Taken (Up host object) m ∷ given.past)
+  pub licensed : AllInTurn given.header given.outside given.command events (event.Taken (Up host object) m ∷ given.past)
 
 -- only the host of its region speaks of it
 home_filed : (given : Step) (host : HostId) (object : ObjectId) (m : Message) (s : State) → Front given s → is_file given.header object.0 ≡ true → first (queue (Up host object) given.past) ≡ Some m → home_of object.0 given.past ≡ Some host.0
@@ -300,6 +301,7 @@ answered_filed given host object m s now old new events filed pagers files decla
       };
       paid = rw items (paid header host.0 given.past object.0 m old new events filed.serves);
       served = rw items (served_more header events past silent (served_other header taken given.past plain front.served));
+      recalled = rw items (recalled_more header events past silent (recalled_other header taken given.past plain front.recalled));
       answers = record {
         known = letter.0;
         object = object;
@@ -341,7 +343,7 @@ took_filed given host object m s new old table events filed followed =
     let more = followed.more in
     let stretch = followed.follows.stretch in
     let items : new.history.items ≡ more ++ (events ++ past) = followed.is ∙ ap (λ (z : List Event). more ++ z) same in
-    let licensed = licensed_both header outside doing more events past (subst (λ (z : List Event). AllLicensed header outside doing more z) same stretch.licensed) filed.licensed in
+    let licensed = licensed_both header outside doing more events past (subst (λ (z : List Event). AllInTurn header outside doing more z) same stretch.licensed) filed.licensed in
     let own = each_both (OwnBytes header) more events past (subst (λ (z : List Event). EachIn (OwnBytes header) more z) same stretch.own_bytes) (reply_own header Files events past told) in
     let frames = moments_both (FramesSuffice header) more events past (subst (λ (z : List Event). MomentsIn (FramesSuffice header) more z) same stretch.frames)
     (reply_frames header Files events past told (taken_suffice header (Up host object) m given.past suffice)) in
@@ -351,6 +353,7 @@ took_filed given host object m s new old table events filed followed =
           (each_both IsConsequence more events past (subst (λ (z : List Event). EachIn IsConsequence more z) same followed.follows.follows) (reply_consequences Files events past told)) licensed own frames (inner_both more events stretch.inner (reply_inner Files events told));
       prompt = followed.prompt;
       paid = followed.stands.paid;
+      ended = rw (items ∙ sym (append_assoc more events past)) (ends_up header host object m (more ++ events) given.past (inner_both more events stretch.inner (reply_inner Files events told)));
     }
 
 pub devices_filed : (given : Step) (line : Option ℕ) (number : ChannelId) (host : HostId) (object : ObjectId) (m : Message) (s : State) (old table : FileTable) (events : Listed Event) (before now : ℕ) (new : List Event)

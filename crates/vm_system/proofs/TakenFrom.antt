@@ -1,10 +1,15 @@
 -- A `take` is run.
-use Rattle.vm_system.proofs.Common.{Channel, EachIn, Event, Follows, FollowsSoFar, FramesSuffice, Header, Holds, IsAtRest, IsConsequence, IsGroup, IsPaid, IsRun, IsWholeGroup, KeepsLegal, LegalFor, List, MayBeCut, MayCut, None, Numbered, Outside, Some, State, Step, SystemStands, TakesStep, Took, [], ap, cut_of, false, first, head, inl, inr, is_some, licensed_front, moment_last, no_request, open_of, queue, refl, refusal, so_far, subst, sym, take_head, true, ℕ, ◌++◌, ◌∷◌, ◌≡◌}
+use Rattle.vm_system.proofs.Common.{Channel, EachIn, Event, FollowsInTurn, FollowsSoFarInTurn, FramesSuffice, Header, Holds, IsAtRest, IsConsequence, IsGroupInTurn, IsPaid, IsRunInTurn, IsWholeInTurn, KeepsCanonical, CanonicalFor, List, MayBeCut, MayCut, None, Numbered, Outside, Some, State, Step, SystemStands, TakesStep, Took, [], ap, cut_of, false, first, head, inl, inr, is_some, licensed_front, moment_last, no_request, open_of, queue, refl, refusal, so_far, subst, sym, take_head, true, ℕ, ◌++◌, ◌∷◌, ◌≡◌}
 use Rattle.vm_model.specs.declared.command.Command.TheVariants as command
 use Rattle.vm_model.specs.declared.event.Event.TheVariants as event
-use Rattle.vm_system.proofs.Opening.{HoldsUpTo, holds_taken, step_is}
-use Rattle.sms_server.proofs.Acting.{others_serve as served_other}
-use Rattle.vm_system.proofs.Silent.{prompt_line}
+use Rattle.vm_system.proofs.Opening.{HoldsUpTo, holds_taken, step_is, steps_taken}
+use Rattle.sms_server.proofs.Acting.{others_recall as recalled_other, others_serve as served_other}
+use Rattle.vm_system.proofs.Silent.{ends_lined, prompt_line}
+use Rattle.vm_legal.proofs.Turns.{open_in_turn, so_far_of as weak_so_far}
+use Rattle.vm_legal.specs.Follows.{FollowsSoFar}
+use Rattle.vm_legal.specs.InTurn.{AllRecalled, EndsAll}
+use Rattle.vm_model.specs.Moments.{BeforeSteps}
+use Rattle.std.proofs.Common.{[]}
 
 some_none : {A : Type 0} → {x : A} → Some x ≡ None → ⊥
 some_none is = absurd (let bad : true ≡ false = ap is_some is in cc)
@@ -15,7 +20,7 @@ taking_of header outside line channel past = record { header = header; outside =
 -- the group of the command
 
 follows_take : (header : Header) (outside : Outside) (line : ℕ) (channel : Channel) (run : List Numbered) (old new : List Event) → refusal header old (command.Take channel) ≡ None → TakesStep (taking_of header outside line channel old) new
-    → Follows header outside run old → Follows header outside (record { line = line; command = command.Take channel } ∷ run) new
+    → FollowsInTurn header outside run old → FollowsInTurn header outside (record { line = line; command = command.Take channel } ∷ run) new
 follows_take header outside line channel run old new fine step follows =
     let numbered : Numbered = record { line = line; command = command.Take channel } in
     let stretch = step.more ++ event.Taken step.channel step.m ∷ [] in
@@ -23,14 +28,14 @@ follows_take header outside line channel run old new fine step follows =
     let cause = (licensed_front header outside (command.Take channel) step.more (event.Taken step.channel step.m) past step.licensed).0 in
     let first_is : first (queue channel old) ≡ Some step.m = subst (λ (z : Channel). first (queue z old) ≡ Some step.m) cause.1.0 cause.0 in
     let headed : head header old (command.Take channel) ≡ Some (event.Taken channel step.m ∷ []) = ap (take_head channel) first_is in
-    let run_is : IsRun header outside old numbered (event.Taken channel step.m ∷ []) stretch = record {
+    let run_is : IsRunInTurn header outside old numbered (event.Taken channel step.m ∷ []) stretch = record {
       more = step.more;
       is = ap (λ (z : Channel). step.more ++ event.Taken z step.m ∷ []) cause.1.0;
       follows = subst (λ (z : Channel). EachIn IsConsequence step.more (event.Taken z step.m ∷ past)) cause.1.0 step.follows;
       licensed = step.licensed;
     } in
-    let group : IsGroup header outside old numbered stretch = rw (fine, headed) run_is in
-    let whole : IsWholeGroup header old numbered stretch = rw fine tt in
+    let group : IsGroupInTurn header outside old numbered stretch = rw (fine, headed) run_is in
+    let whole : IsWholeInTurn header old numbered stretch = rw fine tt in
     (old, stretch, step_is (taking_of header outside line channel old) new step, group, whole, follows)
 
 -- a line owes nothing
@@ -46,7 +51,7 @@ paid_line header line past = record {
   slot = λ host object control page dirty keep bytes temporary is lacks. absurd (some_none (sym is));
 }
 
-up_to_line : (header : Header) (outside : Outside) (line : ℕ) (run : List Numbered) (s : State) → SystemStands header outside s → LegalFor header outside run s.history.items → HoldsUpTo header outside (event.Line line ∷ s.history.items)
+up_to_line : (header : Header) (outside : Outside) (line : ℕ) (run : List Numbered) (s : State) → SystemStands header outside s → CanonicalFor header outside run s.history.items → HoldsUpTo header outside (event.Line line ∷ s.history.items)
 up_to_line header outside line run s stands legal =
     let items = s.history.items in
     record {
@@ -62,18 +67,20 @@ up_to_line header outside line run s stands legal =
     }
 
 pub keeps_taken : (header : Header) (outside : Outside) (line : ℕ) (channel : Channel) (s new : State) → SystemStands header outside s → refusal header s.history.items (command.Take channel) ≡ None
-    → Took (taking_of header outside line channel s.history.items) new → KeepsLegal header outside (record { line = line; command = command.Take channel }) s.history.items new.history.items
+    → Took (taking_of header outside line channel s.history.items) new → KeepsCanonical header outside (record { line = line; command = command.Take channel }) s.history.items new.history.items
 keeps_taken header outside line channel s new stands fine took run legal =
     let given = taking_of header outside line channel s.history.items in
     let numbered : Numbered = record { line = line; command = command.Take channel } in
     let items = new.history.items in
-    let follows : Follows header outside (numbered ∷ run) items = follows_take header outside line channel run s.history.items items fine took.step legal.follows in
-    let opened : FollowsSoFar header outside (numbered ∷ run) items = open_of header outside (numbered ∷ run) items follows in
-    let holds : Holds header outside items = holds_taken given items took.step (so_far header outside (numbered ∷ run) items opened) (up_to_line header outside line run s stands legal) in
+    let follows : FollowsInTurn header outside (numbered ∷ run) items = follows_take header outside line channel run s.history.items items fine took.step legal.follows in
+    let opened : FollowsSoFarInTurn header outside (numbered ∷ run) items = open_in_turn header outside (numbered ∷ run) items follows in
+    let holds : Holds header outside items = holds_taken given items took.step (so_far header outside (numbered ∷ run) items (weak_so_far header outside (numbered ∷ run) items opened)) (up_to_line header outside line run s stands legal) in
     let rests : IsAtRest header items = record { prompt = took.prompt; paid = took.paid; served = took.stands.served } in
+    let ended : BeforeSteps (EndsAll header) items = steps_taken (EndsAll header) given items took.step (ends_lined header line [] s.history.items tt, (legal.last, legal.ended)) in
+    let recalled : BeforeSteps (AllRecalled header) items = steps_taken (AllRecalled header) given items took.step (recalled_other header (event.Line line) s.history.items tt legal.recalls, (legal.recalls, legal.recalled)) in
     record {
-      so_far = record { follows = opened; holds = holds; rests = rests };
-      whole = λ none. record { follows = follows; holds = holds; rests = rests };
+      so_far = record { follows = opened; holds = holds; rests = rests; ended = ended; last = took.ended; recalled = recalled; recalls = took.stands.recalled };
+      whole = λ none. record { follows = follows; holds = holds; rests = rests; ended = ended; last = took.ended; recalled = recalled; recalls = took.stands.recalled };
       none = inr refl;
     }
 
@@ -83,5 +90,6 @@ cuts_taken header outside line channel s new stands fine (inl same) = inl same
 cuts_taken header outside line channel s new stands fine (inr step) = inr (λ run legal.
     let given = taking_of header outside line channel s.history.items in
     let numbered : Numbered = record { line = line; command = command.Take channel } in
-    let opened : FollowsSoFar header outside (numbered ∷ run) new = open_of header outside (numbered ∷ run) new (follows_take header outside line channel run s.history.items new fine step legal.follows) in
-    record { follows = cut_of header outside (numbered ∷ run) new opened; holds = holds_taken given new step (so_far header outside (numbered ∷ run) new opened) (up_to_line header outside line run s stands legal) })
+    let opened : FollowsSoFarInTurn header outside (numbered ∷ run) new = open_in_turn header outside (numbered ∷ run) new (follows_take header outside line channel run s.history.items new fine step legal.follows) in
+    let weak : FollowsSoFar header outside (numbered ∷ run) new = weak_so_far header outside (numbered ∷ run) new opened in
+    record { follows = cut_of header outside (numbered ∷ run) new weak; holds = holds_taken given new step (so_far header outside (numbered ∷ run) new weak) (up_to_line header outside line run s stands legal) })

@@ -1,5 +1,5 @@
 -- A message about a shared object is taken by its server, which answers.
-use Rattle.vm_system.proofs.Common.{SameHosts, AllFilesServe, AllInner, AllLicensed, AllServe, AreServerWords, Bool, CanTellAll, Channel, ChannelId, Command, Content, Device, Down, EachIn, EachOf, Event, Followed, FramesSuffice, Header, HostId, IsConsequence, IsHostLetter, IsOrderly, IsServerWord, IsSharedWord, IsToServer, IsWord, IsWordUp, List, Licensed, MayTake, MayTakeFrom, Message, MomentsIn, None, ObjectId, Option, Outside, OwnBytes, PagerHasAnswered, PagingIsKept, Posts, ServerAnswer, ServerServes, ServerTable, SlotTable, SlotsFit, Some, Spares, State, Step, TakesStep, Told, Took, Up, [], ap, append_assoc, arith, content_of, devices, each_both, false, first, gives_frame, host_id, inl, inner_both, inr, is_file, is_made, is_shared, kind_of, length, licensed_both, moments_both, named, never, nat_lt, others, others_carry, page_part, queue, refl, reverse, slice_get, subst, sym, taken_letter, taken_more, true, up, ℕ, ◌++◌, ◌<◌, ◌∙◌, ◌∷◌, ◌≡◌, ◌⊎◌, Letter, same_Some}
+use Rattle.vm_system.proofs.Common.{SameHosts, AllFilesServe, AllInner, AllInTurn, AllServe, AreServerWords, Bool, CanTellAll, Channel, ChannelId, Command, Content, Device, Down, EachIn, EachOf, Event, Followed, FramesSuffice, Header, HostId, IsConsequence, IsHostLetter, IsOrderly, IsServerWord, IsSharedWord, IsToServer, IsWord, IsWordUp, List, LicensedInTurn, MayTake, MayTakeFrom, Message, MomentsIn, None, ObjectId, Option, Outside, OwnBytes, PagerHasAnswered, PagingIsKept, Posts, ServerAnswer, ServerServes, ServerTable, SlotTable, SlotsFit, Some, Spares, State, Step, TakesStep, Told, Took, Up, [], ap, append_assoc, arith, content_of, devices, each_both, false, first, gives_frame, host_id, inl, inner_both, inr, is_file, is_made, is_shared, kind_of, length, licensed_both, moments_both, named, never, nat_lt, others, others_carry, page_part, queue, refl, reverse, slice_get, subst, sym, taken_letter, taken_more, true, up, ℕ, ◌++◌, ◌<◌, ◌∙◌, ◌∷◌, ◌≡◌, ◌⊎◌, Letter, same_Some}
 use Rattle.vm_model.specs.declared.event.Device.TheVariants.{Files, Paging}
 use Rattle.vm_model.specs.declared.event.Event.TheVariants as event
 use Rattle.vm_model.specs.declared.message.Message.TheVariants as message
@@ -16,7 +16,7 @@ use Rattle.sms_server.specs.Answers.{ReturnsWhole}
 use Rattle.vm_system.proofs.Answering.{IsReply, reply_consequences, reply_frames, reply_inner, reply_nobodys, reply_own}
 use Rattle.vm_system.proofs.Apart.{IsAbout, apart_of, declared_fit, declared_stand}
 use Rattle.vm_shared.proofs.Causes.{licensed}
-use Rattle.sms_server.proofs.Whole.{causes as server_causes, served as server_served, stands as server_stands}
+use Rattle.sms_server.proofs.Whole.{causes as server_causes, recalled as server_recalled, served as server_served, stands as server_stands}
 use Rattle.sms_server.proofs.Paying.{paid as server_paid}
 use Rattle.vm_system.proofs.Sharing.{protocol_met}
 use Rattle.vm_system.proofs.Filing.{carry_about, files_about}
@@ -27,6 +27,7 @@ use Rattle.vm_system.proofs.Letters.{letter_first, orderly_taken, washed_out}
 use Rattle.vm_system.proofs.Sayings.{AllTold, page_of_answer, sent_down, told_none}
 use Rattle.vm_system.proofs.Taken.{Front, devices_lined, front_carry, front_content, front_of, front_settled, front_suffice, taken_licensed, takes_step, taken_suffice}
 use Rattle.vm_system.proofs.TakenUp.{going, may_reserved, up_letter}
+use Rattle.vm_system.proofs.Silent.{ends_up}
 
 -- a shared object is declared, and no file
 
@@ -51,11 +52,11 @@ pub record Shared (given : Step) (host : HostId) (object : ObjectId) (m : Messag
   pub may : MayTake given.command (Up host object) given.past
   pub serves : ServerServes given.header host.0 given.past object m old new events
   pub words : AreServerWords given.header.size object events
-  pub licensed : AllLicensed given.header given.outside given.command events (event.Taken (Up host object) m ∷ given.past)
+  pub licensed : AllInTurn given.header given.outside given.command events (event.Taken (Up host object) m ∷ given.past)
 
 -- the taking has its cause
 shared_licence : (given : Step) (host : HostId) (object : ObjectId) (m : Message) (s : State) → Front given s → first (queue (Up host object) given.past) ≡ Some m → MayTake given.command (Up host object) given.past
-    → Licensed given.header given.outside given.command (event.Taken (Up host object) m) given.past
+    → LicensedInTurn given.header given.outside given.command (event.Taken (Up host object) m) given.past
 shared_licence given host object m s front head may = taken_licensed given.header given.outside given.command (Up host object) m given.past head may (front_settled given s front)
 
 -- what the server is told
@@ -193,7 +194,7 @@ greeted header at about m events past inner letter host object control size take
 
 -- the events of an answer can be told, one after another
 told_shared : (header : Header) (outside : Outside) (doing : Command) (at : HostId) (object : ObjectId) (m : Message) (events past : List Event) → is_shared header object.0 ≡ true → IsOrderly header (event.Taken (Up at object) m ∷ past)
-    → IsHostLetter header past (record { channel = Up at object; message = m }) → AreServerWords header.size object events → AllLicensed header outside doing events (event.Taken (Up at object) m ∷ past) → AllTold header events (event.Taken (Up at object) m ∷ past)
+    → IsHostLetter header past (record { channel = Up at object; message = m }) → AreServerWords header.size object events → AllInTurn header outside doing events (event.Taken (Up at object) m ∷ past) → AllTold header events (event.Taken (Up at object) m ∷ past)
 told_shared header outside doing at object m [] past shared orderly letter words licences = told_none header (event.Taken (Up at object) m ∷ past) orderly
 told_shared header outside doing at object m (event.Sent (Down host about control) said ∷ events) past shared orderly letter words licences =
     let front = event.Taken (Up at object) m ∷ past in
@@ -313,6 +314,7 @@ answered_shared given host object m s now old new events said pagers files decla
       };
       paid = rw items (server_paid header host.0 given.past object m old new events said.serves (uncreated given host object m s front said.serves.shared said.head));
       served = rw items (server_served header host.0 given.past object m old new events said.serves front.served);
+      recalled = rw items (server_recalled header host.0 given.past object m old new events said.serves front.recalled);
       answers = record {
         known = letter.0;
         object = object;
@@ -354,7 +356,7 @@ took_shared given host object m s new old table events said followed =
     let more = followed.more in
     let stretch = followed.follows.stretch in
     let items : new.history.items ≡ more ++ (events ++ past) = followed.is ∙ ap (λ (z : List Event). more ++ z) same in
-    let licensed = licensed_both header outside doing more events past (subst (λ (z : List Event). AllLicensed header outside doing more z) same stretch.licensed) said.licensed in
+    let licensed = licensed_both header outside doing more events past (subst (λ (z : List Event). AllInTurn header outside doing more z) same stretch.licensed) said.licensed in
     let own = each_both (OwnBytes header) more events past (subst (λ (z : List Event). EachIn (OwnBytes header) more z) same stretch.own_bytes) (reply_own header Files events past replies) in
     let frames = moments_both (FramesSuffice header) more events past (subst (λ (z : List Event). MomentsIn (FramesSuffice header) more z) same stretch.frames)
     (reply_frames header Files events past replies (taken_suffice header (Up host object) m given.past suffice)) in
@@ -364,6 +366,7 @@ took_shared given host object m s new old table events said followed =
           (each_both IsConsequence more events past (subst (λ (z : List Event). EachIn IsConsequence more z) same followed.follows.follows) (reply_consequences Files events past replies)) licensed own frames (inner_both more events stretch.inner (reply_inner Files events replies));
       prompt = followed.prompt;
       paid = followed.stands.paid;
+      ended = rw (items ∙ sym (append_assoc more events past)) (ends_up header host object m (more ++ events) given.past (inner_both more events stretch.inner (reply_inner Files events replies)));
     }
 
 -- with room made behind the server's answer, all but the server is as it was

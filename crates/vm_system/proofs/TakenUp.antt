@@ -1,5 +1,5 @@
 -- A message about a temporary object is taken by the default pager of a host, which answers.
-use Rattle.vm_system.proofs.Common.{AllFilesServe, AllLicensed, AllServe, AnswerHasCause, AreNumbered, CanTellAll, CarriesContent, Channel, ChannelId, Content, CountRises, Device, DevicesHaveCause, EachIn, Err, Event, Followed, FramesSuffice, Going, HasRoom, Header, HostId, IsAreaTold, IsConsequence, IsHostLetter, IsToPager, KeepsShape, LeavesAreas, List, Listed, MayTake, MayTakeFrom, Message, MomentsIn, ObjectId, Ok, Option, Outside, OwnBytes, PagerHasAnswered, PagerServes, PagerStands, PagingIsKept, Posts, ReturnsWhole, SameAreas, SameHosts, SlotTable, SlotsFit, Some, SparesFiles, State, Step, SuppliesStored, TakesStep, TellsFault, Told, Took, Up, [], after_message, ap, append_assoc, area_name, arith, carries, causes, content_of, devices, each_both, first, get_or, gives_frame, inl, inner_both, inr, is_heard_elsewhere, length, length-append, length-set, licensed_both, lined, moments_both, named, others, others_carry, paid, queue, refl, same_Some, set, slice_get, slice_get-get_or, slice_get_within, stands, subst, suc, sym, take, true, zero, ℕ, ◌++◌, ◌+◌, ◌<◌, ◌∙◌, ◌∷◌, ◌≡◌, ◌≤◌, ◌⊎◌, reverse}
+use Rattle.vm_system.proofs.Common.{AllFilesServe, AllInTurn, AllServe, AnswerHasCause, AreNumbered, CanTellAll, CarriesContent, Channel, ChannelId, Content, CountRises, Device, DevicesHaveCause, EachIn, Err, Event, Followed, FramesSuffice, Going, HasRoom, Header, HostId, IsAreaTold, IsConsequence, IsHostLetter, IsToPager, KeepsShape, LeavesAreas, List, Listed, MayTake, MayTakeFrom, Message, MomentsIn, ObjectId, Ok, Option, Outside, OwnBytes, PagerHasAnswered, PagerServes, PagerStands, PagingIsKept, Posts, ReturnsWhole, SameAreas, SameHosts, SlotTable, SlotsFit, Some, SparesFiles, State, Step, SuppliesStored, TakesStep, TellsFault, Told, Took, Up, [], after_message, ap, append_assoc, area_name, arith, carries, causes, content_of, devices, each_both, first, get_or, gives_frame, inl, inner_both, inr, is_heard_elsewhere, length, length-append, length-set, licensed_both, lined, moments_both, named, others, others_carry, paid, queue, refl, same_Some, set, slice_get, slice_get-get_or, slice_get_within, stands, subst, suc, sym, take, true, zero, ℕ, ◌++◌, ◌+◌, ◌<◌, ◌∙◌, ◌∷◌, ◌≡◌, ◌≤◌, ◌⊎◌, reverse}
 use Rattle.std.proofs.Common.{◌≢◌}
 use Rattle.pg_default.specs.Answers.{PagerAnswer as Answers}
 use Rattle.vm_base.specs.declared.failure.NoMemory.{NoMemory}
@@ -11,12 +11,13 @@ use Rattle.vm_system.proofs.Apart.{about, apart_of, areas_others, fits_still, ot
 use Rattle.vm_system.proofs.Filing.{carry_about, files_about}
 use Rattle.vm_legal.proofs.Files.{not_file}
 use Rattle.vm_legal.proofs.Unshared.{temporary_unshared}
-use Rattle.sms_server.proofs.Acting.{others_serve as served_other, others_stand as server_other}
-use Rattle.vm_system.proofs.Lawfulness.{lawful_more, lawful_taken, others_about, served_more, server_more}
+use Rattle.sms_server.proofs.Acting.{others_recall as recalled_other, others_serve as served_other, others_stand as server_other}
+use Rattle.vm_system.proofs.Lawfulness.{lawful_more, lawful_taken, others_about, recalled_more, served_more, server_more}
 use Rattle.vm_system.proofs.Letters.{elsewhere_first, home_first, letter_first, orderly_taken, unended_first, washed_out}
 use Rattle.vm_system.proofs.Sayings.{can_answer, orderly_answered}
 use Rattle.vm_system.proofs.Following.{filed_spares, kept_at, same_declared, same_files, same_pagers}
 use Rattle.vm_system.proofs.Taken.{Front, devices_lined, front_carry, front_content, front_of, front_settled, front_suffice, taken_licensed, takes_step, taken_suffice}
+use Rattle.vm_system.proofs.Silent.{ends_up}
 
 -- what stands on a channel up is a host's letter
 pub up_letter : (given : Step) (line : Option ℕ) (number : ChannelId) (host : HostId) (object : ObjectId) (m : Message) (s : State) → MayTakeFrom given line number (Up host object) s
@@ -46,7 +47,7 @@ pub record Reply (given : Step) (host : HostId) (object : ObjectId) (m : Message
   pub at : slice_get s.pagers.items host.0 ≡ Some old
   pub answered : Answers m object old new events
   pub shape : KeepsShape old new
-  pub licensed : AllLicensed given.header given.outside given.command events (event.Taken (Up host object) m ∷ given.past)
+  pub licensed : AllInTurn given.header given.outside given.command events (event.Taken (Up host object) m ∷ given.past)
 
 -- the pager of the host serves it
 serves_of : (given : Step) (host : HostId) (object : ObjectId) (m : Message) (s : State) (old new : SlotTable) (events : List Event) → Front given s → named given.header ≤ object.0 → first (queue (Up host object) given.past) ≡ Some m → slice_get s.pagers.items host.0 ≡ Some old
@@ -181,6 +182,7 @@ answered_up given host object m s now old new events reply pagers files declared
       };
       paid = rw items (paid header host.0 given.past object m old new events (reply_serves given host object m s old new events reply));
       served = rw items (served_more header events past silent (served_other header taken given.past plain front.served));
+      recalled = rw items (recalled_more header events past silent (recalled_other header taken given.past plain front.recalled));
       answers = record {
         known = letter.0;
         object = object;
@@ -222,7 +224,7 @@ took_up given host object m s new old slots events reply followed =
     let more = followed.more in
     let stretch = followed.follows.stretch in
     let items : new.history.items ≡ more ++ (events ++ past) = followed.is ∙ ap (λ (z : List Event). more ++ z) same in
-    let licensed = licensed_both header outside doing more events past (subst (λ (z : List Event). AllLicensed header outside doing more z) same stretch.licensed) reply.licensed in
+    let licensed = licensed_both header outside doing more events past (subst (λ (z : List Event). AllInTurn header outside doing more z) same stretch.licensed) reply.licensed in
     let own = each_both (OwnBytes header) more events past (subst (λ (z : List Event). EachIn (OwnBytes header) more z) same stretch.own_bytes) (reply_own header Paging events past told) in
     let frames = moments_both (FramesSuffice header) more events past (subst (λ (z : List Event). MomentsIn (FramesSuffice header) more z) same stretch.frames)
     (reply_frames header Paging events past told (taken_suffice header (Up host object) m given.past suffice)) in
@@ -232,6 +234,7 @@ took_up given host object m s new old slots events reply followed =
           (each_both IsConsequence more events past (subst (λ (z : List Event). EachIn IsConsequence more z) same followed.follows.follows) (reply_consequences Paging events past told)) licensed own frames (inner_both more events stretch.inner (reply_inner Paging events told));
       prompt = followed.prompt;
       paid = followed.stands.paid;
+      ended = rw (items ∙ sym (append_assoc more events past)) (ends_up header host object m (more ++ events) given.past (inner_both more events stretch.inner (reply_inner Paging events told)));
     }
 
 -- what was stored stands in the areas behind the answer
@@ -373,6 +376,7 @@ may_reserved given line number channel s t may same items made numbers letters b
         };
         paid = rw items stands.paid;
         served = rw items stands.served;
+        recalled = rw items stands.recalled;
       };
       past = may.past ∙ ap (λ (z : List Event). lined line z) (sym items);
       made = rw made may.made;

@@ -6,6 +6,7 @@ pub mod Making
 pub mod Orderly
 pub mod Posts
 pub mod Refusing
+pub mod Resting
 pub mod Sends
 pub mod Settling
 pub mod Stands

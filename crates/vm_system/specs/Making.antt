@@ -5,16 +5,18 @@ use Rattle.vm_model.specs.declared.event.Device.TheVariants.{Files, Paging}
 use Rattle.vm_model.specs.declared.script.Header.{Header}
 use Rattle.vm_model.specs.Moments.{before_last_line}
 use Rattle.vm_legal.specs.Outside.{Outside}
+use Rattle.vm_legal.specs.Prompt.{Prompt}
 use Rattle.vm_outside.specs.Areas.{Told}
 use Rattle.vm_system.specs.Keeping.{FilesCarry}
 use Rattle.vm_system.specs.Stands.{FilesAreKept, PagingIsKept, SystemStands}
-use Rattle.vm_system.specs.Steps.{GrowsWithinLimit, KeepsLegal, devices}
+use Rattle.vm_system.specs.Steps.{GrowsWithinLimit, KeepsCanonical, devices}
 use Rattle.vm_system.specs.declared.state.State.{State}
 
--- the system stands for the history, which is longer by the step, and legal with one command more
+-- the system stands for the history, which is longer by the step, and legal with one command more; and nobody waits in vain where nobody did
 pub record Makes (header : Header) (outside : Outside) (numbered : Numbered) (old new : State) : Type 0 where
   pub stands : SystemStands header outside new
-  pub legal : KeepsLegal header outside numbered old.history.items new.history.items
+  pub legal : KeepsCanonical header outside numbered old.history.items new.history.items
+  pub prompt : Prompt header old.history.items → Prompt header new.history.items
   pub grew : GrowsWithinLimit old.history.items new.history.items
   pub front : before_last_line new.history.items ≡ old.history.items
 

@@ -9,7 +9,7 @@ use Rattle.vm_model.specs.declared.script.Header.{Header}
 use Rattle.vm_legal.specs.Outside.{Outside}
 use Rattle.vm_legal.specs.Steps.{takings}
 use Rattle.vm_outside.specs.Causes.{CountRises}
-use Rattle.vm_system.specs.Steps.{LegalOpen, devices}
+use Rattle.vm_system.specs.Steps.{CanonicalOpen, devices}
 
 -- a settle has so many takings left, or more
 pub record HasLeft (doing : Command) (n : ℕ) (history : List Event) : Type 0 where
@@ -17,9 +17,9 @@ pub record HasLeft (doing : Command) (n : ℕ) (history : List Event) : Type 0 w
   pub is : doing ≡ command.Settle count
   pub left : takings history + n ≤ count
 
--- legal with these commands, of which the settle is the last, it stays so
+-- canonical with these commands, of which the settle is the last, it stays so
 abbrev pub StaysOpen : Header → Outside → Command → List Event → List Event → Type 0
-StaysOpen header outside doing old new = (line : ℕ) (run : List Numbered) → LegalOpen header outside (record { line = line; command = doing } ∷ run) old → LegalOpen header outside (record { line = line; command = doing } ∷ run) new
+StaysOpen header outside doing old new = (line : ℕ) (run : List Numbered) → CanonicalOpen header outside (record { line = line; command = doing } ∷ run) old → CanonicalOpen header outside (record { line = line; command = doing } ∷ run) new
 
 -- the failures that are told are at most as many as the count of faults rose, unless that stands at its last value; and where none is told the count stays
 pub record DevicesCounted (who : Device) (before now : ℕ) (old new : List Event) : Type 0 where

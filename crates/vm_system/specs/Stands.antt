@@ -5,6 +5,7 @@ use Rattle.vm_model.specs.declared.event.Event.{Event}
 use Rattle.vm_model.specs.Named.{named}
 use Rattle.vm_legal.specs.Debts.{IsPaid}
 use Rattle.vm_legal.specs.Outside.{Outside, is_file}
+use Rattle.vm_legal.specs.InTurn.{AllRecalled}
 use Rattle.vm_legal.specs.Prompt.{AllServed}
 use Rattle.vm_kernel.specs.Matches.{IsRanged}
 use Rattle.vm_quiet.specs.Quiet.{AllSupplied}
@@ -74,6 +75,7 @@ pub record SystemStands (header : Header) (outside : Outside) (s : State) : Type
   pub agrees : Agrees header outside s
   pub paid : IsPaid header s.history.items
   pub served : AllServed header s.history.items
+  pub recalled : AllRecalled header s.history.items
 
 -- The pagers stand for the history; and where the paging areas tell, each page that was returned and not lost stands at its slot. This holds
 -- inside a step too.

@@ -13,8 +13,9 @@ use Rattle.vm_model.specs.declared.message.Channel.TheVariants.{Up}
 use Rattle.vm_model.specs.declared.script.Header.{Header}
 use Rattle.vm_model.specs.Limits.{most_events}
 use Rattle.vm_model.specs.Moments.{BeforeSteps}
-use Rattle.vm_legal.specs.Follows.{FollowsCut, FollowsSoFar}
-use Rattle.vm_legal.specs.Legal.{Holds, IsAtRest, LegalFor}
+use Rattle.vm_legal.specs.Follows.{FollowsCut}
+use Rattle.vm_legal.specs.InTurn.{AllRecalled, EndsAll, FollowsSoFarInTurn}
+use Rattle.vm_legal.specs.Legal.{Holds, IsAtRest, CanonicalFor}
 use Rattle.vm_legal.specs.Outside.{Outside, is_file}
 use Rattle.vm_legal.specs.Steps.{takings}
 use Rattle.vm_outside.specs.Arming.{Arming}
@@ -25,13 +26,17 @@ pub record Setting : Type 0 where
   pub header : Header
   pub outside : Outside
 
--- legal for these commands, of which the last, where it is a settle, may have more to take
-pub record LegalOpen (header : Header) (outside : Outside) (run : List Numbered) (history : List Event) : Type 0 where
-  pub follows : FollowsSoFar header outside run history
+-- canonical for these commands, of which the last, where it is a settle, may have more to take
+pub record CanonicalOpen (header : Header) (outside : Outside) (run : List Numbered) (history : List Event) : Type 0 where
+  pub follows : FollowsSoFarInTurn header outside run history
   pub holds : Holds header outside history
   pub rests : IsAtRest header history
+  pub ended : BeforeSteps (EndsAll header) history
+  pub last : EndsAll header history
+  pub recalled : BeforeSteps (AllRecalled header) history
+  pub recalls : AllRecalled header history
 
--- the same, where the last step may be cut: that it did all, what it owes, and who waits then, is not claimed
+-- legal for them, where the last step may be cut: that it did all, what it owes, and who waits then, is not claimed
 pub record LegalCut (header : Header) (outside : Outside) (run : List Numbered) (history : List Event) : Type 0 where
   pub follows : FollowsCut header outside run history
   pub holds : Holds header outside history
@@ -41,31 +46,31 @@ abbrev pub settles : Command → Option ℕ
 settles (command.Settle count) = Some count
 settles other = None
 
--- a legal history stays so with one command more; a settle has not begun to take
-pub record IsNextLegal (header : Header) (outside : Outside) (numbered : Numbered) (run : List Numbered) (new : List Event) : Type 0 where
-  pub so_far : LegalOpen header outside (numbered ∷ run) new
-  pub whole : settles numbered.command ≡ None → LegalFor header outside (numbered ∷ run) new
+-- a canonical history stays so with one command more; a settle has not begun to take
+pub record IsNextCanonical (header : Header) (outside : Outside) (numbered : Numbered) (run : List Numbered) (new : List Event) : Type 0 where
+  pub so_far : CanonicalOpen header outside (numbered ∷ run) new
+  pub whole : settles numbered.command ≡ None → CanonicalFor header outside (numbered ∷ run) new
   pub none : takings new ≡ 0 ⊎ (settles numbered.command ≡ None)
 
-abbrev pub KeepsLegal : Header → Outside → Numbered → List Event → List Event → Type 0
-KeepsLegal header outside numbered old new = (run : List Numbered) → LegalFor header outside run old → IsNextLegal header outside numbered run new
+abbrev pub KeepsCanonical : Header → Outside → Numbered → List Event → List Event → Type 0
+KeepsCanonical header outside numbered old new = (run : List Numbered) → CanonicalFor header outside run old → IsNextCanonical header outside numbered run new
 
 -- where memory ended in the step of a command, the history is as it was, or its last step is cut
 abbrev pub MayCut : Header → Outside → Numbered → List Event → List Event → Type 0
-MayCut header outside numbered old new = (new ≡ old) ⊎ ((run : List Numbered) → LegalFor header outside run old → LegalCut header outside (numbered ∷ run) new)
+MayCut header outside numbered old new = (new ≡ old) ⊎ ((run : List Numbered) → CanonicalFor header outside run old → LegalCut header outside (numbered ∷ run) new)
 
--- a settle that has more to take goes on being legal with one message more taken
+-- a settle that has more to take goes on being canonical with one message more taken
 pub record TakesMore (header : Header) (outside : Outside) (numbered : Numbered) (run : List Numbered) (old new : List Event) : Type 0 where
-  pub so_far : LegalOpen header outside (numbered ∷ run) new
+  pub so_far : CanonicalOpen header outside (numbered ∷ run) new
   pub more : takings new ≡ takings old + 1
 
 abbrev pub KeepsOpen : Header → Outside → Command → List Event → List Event → Type 0
-KeepsOpen header outside doing old new = (line : ℕ) (run : List Numbered) → LegalOpen header outside (record { line = line; command = doing } ∷ run) old
+KeepsOpen header outside doing old new = (line : ℕ) (run : List Numbered) → CanonicalOpen header outside (record { line = line; command = doing } ∷ run) old
     → TakesMore header outside (record { line = line; command = doing }) run old new
 
 -- memory ended, and the last step may be cut
 abbrev pub EndsCut : Header → Outside → Command → List Event → List Event → Type 0
-EndsCut header outside doing old new = (line : ℕ) (run : List Numbered) → LegalOpen header outside (record { line = line; command = doing } ∷ run) old → LegalCut header outside (record { line = line; command = doing } ∷ run) new
+EndsCut header outside doing old new = (line : ℕ) (run : List Numbered) → CanonicalOpen header outside (record { line = line; command = doing } ∷ run) old → LegalCut header outside (record { line = line; command = doing } ∷ run) new
 
 abbrev pub MayCutOpen : Header → Outside → Command → List Event → List Event → Type 0
 MayCutOpen header outside doing old new = (new ≡ old) ⊎ EndsCut header outside doing old new

@@ -11,7 +11,8 @@ use Rattle.vm_legal.specs.Bytes.{OwnBytes}
 use Rattle.vm_legal.specs.Debts.{IsPaid}
 use Rattle.vm_legal.specs.Follows.{IsConsequence}
 use Rattle.vm_legal.specs.Frames.{FramesSuffice}
-use Rattle.vm_legal.specs.Licences.{AllLicensed, MayTake}
+use Rattle.vm_legal.specs.Licences.{MayTake}
+use Rattle.vm_legal.specs.InTurn.{AllRecalled, AllInTurn, EndsAll}
 use Rattle.vm_legal.specs.Prompt.{AllServed, Prompt}
 use Rattle.vm_legal.specs.Stretches.{AllInner, EachIn, MomentsIn}
 use Rattle.vm_hosts.specs.Hosts.{AllRest}
@@ -36,7 +37,7 @@ pub record TakesStep (given : Step) (new : List Event) : Type 0 where
   pub more : List Event
   pub is : new ≡ more ++ event.Taken channel m ∷ given.past
   pub follows : EachIn IsConsequence more (event.Taken channel m ∷ given.past)
-  pub licensed : AllLicensed given.header given.outside given.command (more ++ event.Taken channel m ∷ []) given.past
+  pub licensed : AllInTurn given.header given.outside given.command (more ++ event.Taken channel m ∷ []) given.past
   pub own_bytes : EachIn (OwnBytes given.header) (more ++ event.Taken channel m ∷ []) given.past
   pub frames : MomentsIn (FramesSuffice given.header) (more ++ event.Taken channel m ∷ []) given.past
   pub inner : AllInner more
@@ -47,6 +48,7 @@ pub record Took (given : Step) (new : State) : Type 0 where
   pub step : TakesStep given new.history.items
   pub prompt : Prompt given.header new.history.items
   pub paid : IsPaid given.header new.history.items
+  pub ended : EndsAll given.header new.history.items
 
 -- memory ended: nothing was told, or a part of the step
 abbrev pub MayBeCut : Step → List Event → List Event → Type 0
@@ -60,6 +62,7 @@ pub record PagerHasAnswered (given : Going) (host : HostId) (washed : Bool) (s :
   pub agrees : Agrees given.header given.outside s
   pub paid : IsPaid given.header s.history.items
   pub served : AllServed given.header s.history.items
+  pub recalled : AllRecalled given.header s.history.items
   pub answers : PagerStep given.header given.outside given.command host washed given.past given.front
 
 -- the hosts went on behind that

@@ -7,6 +7,7 @@ ghost use Rattle.vm_system.specs.Keeping.{FilesCarry};
 ghost use Rattle.vm_legal.specs.Steps.{takings};
 ghost use Rattle.vm_legal.specs.Undelivered.{undelivered};
 ghost use Rattle.vm_hosts.specs.Steps.{Step};
+ghost use Rattle.vm_system.specs.Resting.{LeavesAtRest};
 ghost use Rattle.vm_system.specs.Settling.{DevicesCounted, HasLeft, StaysOpen};
 ghost use Rattle.vm_system.specs.Stands.{FilesAreKept, PagingIsKept, SystemStands};
 ghost use Rattle.vm_system.specs.Steps.{EndsCut, GrowsWithinLimit};
@@ -33,13 +34,14 @@ pub fn settle<F: Backing, P: Backing>(
     requires left { HasLeft given.command n system.old.history.items }
     ensures stands { OnOk result (SystemStands given.header given.outside system.new) }
     ensures legal { OnOk result (StaysOpen given.header given.outside given.command system.old.history.items system.new.history.items) }
+    ensures rests { OnOk result (LeavesAtRest given.header system.old.history.items system.new.history.items) }
     ensures count { IfOk result (λ taken. takings system.new.history.items ≡ takings system.old.history.items + taken) }
     ensures few { IfOk result (λ taken. taken ≤ n) }
     ensures quiet { IfOk result (λ taken. taken < n → undelivered system.new.history.items ≡ []) }
     ensures grew { GrowsWithinLimit system.old.history.items system.new.history.items }
     ensures full { IsErrOf result SystemStop.EventLimit → (most_events ≤ length system.new.history.items) × (undelivered system.new.history.items ≢ []) }
     ensures left { IsErrOf result SystemStop.EventLimit → takings system.new.history.items < takings system.old.history.items + n }
-    ensures stood { IsErrOf result SystemStop.EventLimit → SystemStands given.header given.outside system.new × StaysOpen given.header given.outside given.command system.old.history.items system.new.history.items }
+    ensures stood { IsErrOf result SystemStop.EventLimit → SystemStands given.header given.outside system.new × StaysOpen given.header given.outside given.command system.old.history.items system.new.history.items × LeavesAtRest given.header system.old.history.items system.new.history.items }
     ensures memory { IsErrOf result SystemStop.NoMemory → EndsCut given.header given.outside given.command system.old.history.items system.new.history.items }
     ensures kept { PagingIsKept given.header given.outside (P.area paging.new.inner) system.new }
     ensures files_kept { FilesAreKept given.header given.outside (F.area files.new.inner) system.new }

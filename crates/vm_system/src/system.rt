@@ -18,8 +18,9 @@ ghost use Rattle.vm_model.specs.Moments.{before_last_line};
 ghost use Rattle.vm_kernel.specs.Matches.{IsRanged};
 ghost use Rattle.vm_model.specs.Named.{named};
 ghost use Rattle.vm_hosts.specs.Steps.{Step};
+ghost use Rattle.vm_system.specs.Resting.{LeavesAtRest};
 ghost use Rattle.vm_system.specs.Stands.{AllFilesServe, AllTold, AreEmpty, AreNumbered, FilesAreKept, IsSupplied, PagingIsKept, SystemStands};
-ghost use Rattle.vm_system.specs.Steps.{DevicesHaveCause, GrowsWithinLimit, HasMore, IsMemoryStop, KeepsLegal, KeepsOpen, LeavesBacking, MayCut, MayCutOpen, Setting, arms, takes_any, took_up};
+ghost use Rattle.vm_system.specs.Steps.{DevicesHaveCause, GrowsWithinLimit, HasMore, IsMemoryStop, KeepsCanonical, KeepsOpen, LeavesBacking, MayCut, MayCutOpen, Setting, arms, takes_any, took_up};
 
 use crate::channels::Channels;
 use crate::state::State;
@@ -112,7 +113,8 @@ impl System {
         requires files { FilesAreKept given.header given.outside (F.area files.old.inner) self.old }
         requires range { InRange given.header command.now }
         ensures stands { OnOk result (SystemStands given.header given.outside self.new) }
-        ensures legal { OnOk result (KeepsLegal given.header given.outside (record { line = line; command = command.now }) self.old.history.items self.new.history.items) }
+        ensures legal { OnOk result (KeepsCanonical given.header given.outside (record { line = line; command = command.now }) self.old.history.items self.new.history.items) }
+        ensures rests { OnOk result (LeavesAtRest given.header self.old.history.items self.new.history.items) }
         ensures count { IfOk result (λ n. length self.new.history.items ≡ length self.old.history.items + n) }
         ensures full { IsErrOf result SystemStop.EventLimit ↔ (most_events ≤ length self.old.history.items) }
         ensures below { OnOk result (length self.old.history.items < most_events) }
@@ -166,6 +168,7 @@ impl System {
         requires more { HasMore given.command self.old.history.items }
         ensures stands { OnOk result (SystemStands given.header given.outside self.new) }
         ensures legal { IfOk result (λ took. took ≡ true → KeepsOpen given.header given.outside given.command self.old.history.items self.new.history.items) }
+        ensures rests { OnOk result (LeavesAtRest given.header self.old.history.items self.new.history.items) }
         ensures quiet { IfOk result (λ took. took ≡ false → (undelivered self.old.history.items ≡ []) × (self.new ≡ self.old) × (files.new ≡ files.old) × (paging.new ≡ paging.old)) }
         ensures some { IfOk result (λ took. took ≡ true → undelivered self.old.history.items ≢ []) }
         ensures calm { undelivered self.old.history.items ≡ [] → result ≡ Ok false }

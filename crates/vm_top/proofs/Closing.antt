@@ -6,18 +6,24 @@ use Rattle.vm_model.specs.declared.command.Numbered.{Numbered}
 use Rattle.vm_model.specs.declared.script.Header.{Header}
 use Rattle.vm_model.specs.declared.script.Script.{Script}
 use Rattle.vm_legal.specs.Debts.{IsPaid}
-use Rattle.vm_legal.specs.Legal.{LegalSoFar}
+use Rattle.vm_legal.specs.Legal.{CanonicalSoFar}
 use Rattle.vm_legal.specs.Outside.{Outside}
-use Rattle.vm_legal.specs.Prompt.{NoneInVain}
-use Rattle.vm_legal.proofs.Groups.{open_of}
+use Rattle.vm_legal.specs.Prompt.{EachLeads, NoneInVain}
+use Rattle.vm_legal.proofs.Turns.{open_in_turn}
 use Rattle.vm_shared.proofs.Pages.{legal}
 use Rattle.vm_top.specs.Run.{IsOutOfEvents, IsPart, IsWholeRun}
+use Rattle.vm_legal.specs.Steps.{Asked}
+use Rattle.vm_legal.specs.InTurn.{AllRecalled}
+use Rattle.vm_model.specs.Server.{Wanting}
 
 some_frames : (frames : Option ℕ) → IfSome frames (λ count. 0 ≤ count)
 some_frames None = tt
 some_frames (Some count) = omega arith
 
 -- nothing has happened
+none_leads : (header : Header) (host : ℕ) → EachLeads header host []
+none_leads header host task access waits on = let bad : None ≡ Some access = waits in absurd (cc)
+
 none_waits : (header : Header) (host : ℕ) → NoneInVain header host []
 none_waits header host task access waits on = let bad : None ≡ Some access = waits.waits in cc
 
@@ -36,8 +42,12 @@ none_owed header = record {
     nothing : {A : Type 0} {x : A} → None ≡ Some x → ⊥
     nothing is = cc
 
+-- nobody is to be recalled
+pub recalled_start : (header : Header) → AllRecalled header []
+recalled_start header object page host w shared is in_way = absurd (let bad : ◌≡◌ {A = Option Wanting} None (Some w) = is in cc)
+
 -- no event is legal as far as it goes, for no command of a script
-pub none_legal : (script : Script) (outside : Outside) → LegalSoFar script outside []
+pub none_legal : (script : Script) (outside : Outside) → CanonicalSoFar script outside []
 none_legal script outside = record {
   later = script.commands.items;
   run = [];
@@ -54,36 +64,48 @@ none_legal script outside = record {
     pages = λ object page shared. legal script.header outside [] tt tt object page shared;
   };
   rests = record {
-    prompt = λ host below. record { waits = none_waits script.header host; swept = record { pages = λ object page temporary away. refl; controls = λ object temporary away. refl; declared_pages = λ object page below unheld. refl; declared_controls = λ object below unheld. refl } };
+    prompt = λ host below. record { leads = none_leads script.header host; waits = none_waits script.header host; swept = record { pages = λ object page temporary away. refl; controls = λ object temporary away. refl; declared_pages = λ object page below unheld. refl; declared_controls = λ object below unheld. refl } };
     paid = none_owed script.header;
     served = λ object page shared some. absurd (some refl);
   };
+  ended = tt;
+  last = λ host object page is. absurd (let bad : ◌≡◌ {A = Option Asked} None (Some (record { host = host; object = object; page = page })) = is in cc);
+  recalled = tt;
+  recalls = recalled_start script.header;
 }
 
 -- a run that was made of a part is legal as far as it goes
-part_so_far : (script : Script) (outside : Outside) (later run : List Numbered) (h : List Event) → IsPart script outside later run h → LegalSoFar script outside h
+part_so_far : (script : Script) (outside : Outside) (later run : List Numbered) (h : List Event) → IsPart script outside later run h → CanonicalSoFar script outside h
 part_so_far script outside later run h part = record {
   later = later;
   run = run;
   order = part.order;
-  follows = open_of script.header outside run h part.legal.follows;
+  follows = open_in_turn script.header outside run h part.legal.follows;
   holds = part.legal.holds;
   rests = part.legal.rests;
+  ended = part.legal.ended;
+  last = part.legal.last;
+  recalled = part.legal.recalled;
+  recalls = part.legal.recalls;
 }
 
 -- and so is a run of the whole script
-pub whole_so_far : (script : Script) (outside : Outside) (h : List Event) → IsWholeRun script outside h → LegalSoFar script outside h
+pub whole_so_far : (script : Script) (outside : Outside) (h : List Event) → IsWholeRun script outside h → CanonicalSoFar script outside h
 whole_so_far script outside h is = record {
   later = [];
   run = script.commands.items;
   order = refl;
-  follows = open_of script.header outside script.commands.items h is.legal.follows;
-  holds = is.legal.holds;
-  rests = is.legal.rests;
+  follows = open_in_turn script.header outside script.commands.items h is.canonical.follows;
+  holds = is.canonical.holds;
+  rests = is.canonical.rests;
+  ended = is.canonical.ended;
+  last = is.canonical.last;
+  recalled = is.canonical.recalled;
+  recalls = is.canonical.recalls;
 }
 
 -- and one that came to a full history, also where that is in a settle
-pub full_so_far : (script : Script) (outside : Outside) (h : List Event) → IsOutOfEvents script outside h → LegalSoFar script outside h
+pub full_so_far : (script : Script) (outside : Outside) (h : List Event) → IsOutOfEvents script outside h → CanonicalSoFar script outside h
 full_so_far script outside h is = elim is.left [
   | inl left ↦ part_so_far script outside (left.later ++ left.next ∷ []) left.run h left.part
   | inr on ↦ record {
@@ -93,5 +115,9 @@ full_so_far script outside h is = elim is.left [
     follows = on.legal.follows;
     holds = on.legal.holds;
     rests = on.legal.rests;
+    ended = on.legal.ended;
+    last = on.legal.last;
+    recalled = on.legal.recalled;
+    recalls = on.legal.recalls;
   }
 ]

@@ -28,7 +28,7 @@ use Rattle.vm_top.specs.declared.words.Report.TheVariants as reports
 use Rattle.vm_top.specs.Ending.{EndsAs, RunHasEnded, Tells, status_after}
 use Rattle.vm_top.specs.Reading.{ReadWhole}
 use Rattle.vm_top.specs.Run.{CutIn, IsOutOfEvents, IsRunnable, IsWholeRun, report_text}
-use Rattle.vm_legal.specs.Legal.{LegalSoFar}
+use Rattle.vm_legal.specs.Legal.{CanonicalSoFar}
 use Rattle.vm_legal.specs.Outside.{Outside, is_file_kind, is_shared_kind}
 use Rattle.vm_quiet.specs.Quiet.{AllSupplied}
 use Rattle.vm_legal.proofs.Groups.{cut_of}
@@ -38,6 +38,7 @@ use Rattle.vm_top.proofs.Keeping.{file_below}
 use Rattle.vm_top.proofs.Closing.{full_so_far, whole_so_far}
 use Rattle.vm_top.proofs.Readings.{no_longer}
 use Rattle.vm_top.proofs.Writings.{start_all}
+use Rattle.vm_legal.proofs.Turns.{so_far_of as weak_so_far}
 
 long_bad : (bytes : List ℕ) → 1048576 < length bytes → script_of bytes ≡ Err (0, fault.TooLong)
 long_bad bytes long = let test : nat_lt 1048576 (length bytes) ≡ true = grind (arith, nat_tests) in rw test refl
@@ -202,10 +203,10 @@ runnable script keeps built = record {
 }
 
 -- the history of a run that has ended is also one whose last step is not cut
-uncut : (run : Script) (outside : Outside) (h : List Event) → LegalSoFar run outside h → CutIn run outside h
-uncut run outside h legal = record { later = legal.later; run = legal.run; order = legal.order; legal = record { follows = cut_of run.header outside legal.run h legal.follows; holds = legal.holds } }
+uncut : (run : Script) (outside : Outside) (h : List Event) → CanonicalSoFar run outside h → CutIn run outside h
+uncut run outside h legal = record { later = legal.later; run = legal.run; order = legal.order; legal = record { follows = cut_of run.header outside legal.run h (weak_so_far run.header outside legal.run h legal.follows); holds = legal.holds } }
 
-summary_failed : (report : Report) (run : Script) (outside : Outside) (h : List Event) (start after : Option (List ℕ)) → LegalSoFar run outside h
+summary_failed : (report : Report) (run : Script) (outside : Outside) (h : List Event) (start after : Option (List ℕ)) → CanonicalSoFar run outside h
     → (report ≡ reports.Summary) × WroteStart start after (report_text report h) → WroteFailed report run outside h start after
 summary_failed report run outside h start after legal wrote =
     subst (λ z. WroteFailed z run outside h start after) (sym wrote.0) (legal, subst (λ z. WroteStart start after (report_text z h)) wrote.0 wrote.1)

@@ -4,7 +4,7 @@ use Rattle.vm_model.specs.declared.command.Numbered.{Numbered}
 use Rattle.vm_model.specs.declared.event.Event.{Event}
 use Rattle.vm_model.specs.declared.script.Script.{Script}
 use Rattle.vm_legal.proofs.Groups.{cut, cut_of}
-use Rattle.vm_legal.specs.Legal.{LegalSoFar}
+use Rattle.vm_legal.specs.Legal.{CanonicalSoFar}
 use Rattle.vm_legal.specs.Outside.{Outside}
 use Rattle.vm_outside.specs.Areas.{Told}
 use Rattle.vm_system.specs.Keeping.{FilesCarry}
@@ -21,15 +21,16 @@ use Rattle.vm_top.specs.Run.{IsRunnable, outside_of}
 use Rattle.vm_top.proofs.Closing.{none_legal}
 use Rattle.vm_top.proofs.Keeping.{carried_none, files_told}
 use Rattle.vm_top.proofs.Resting.{ends_legal}
+use Rattle.vm_legal.proofs.Turns.{so_far_of as weak_so_far}
 
 -- legal for some commands, but that the last step may be cut
-abbrev IsLegalCut : Script → Outside → List Event → Type 0
+abbrev pub IsLegalCut : Script → Outside → List Event → Type 0
 IsLegalCut run outside h = (commands : List Numbered) × LegalCut run.header outside commands h
 
-cut_so_far : (run : Script) (outside : Outside) (h : List Event) → LegalSoFar run outside h → IsLegalCut run outside h
-cut_so_far run outside h legal = (legal.run, record { follows = cut_of run.header outside legal.run h legal.follows; holds = legal.holds })
+cut_so_far : (run : Script) (outside : Outside) (h : List Event) → CanonicalSoFar run outside h → IsLegalCut run outside h
+cut_so_far run outside h legal = (legal.run, record { follows = cut_of run.header outside legal.run h (weak_so_far run.header outside legal.run h legal.follows); holds = legal.holds })
 
-ends_cut : (report : Report) (run : Script) (outside : Outside) (h : List Event) (before after : Option (List ℕ)) (s : Status) → EndsAs report run outside h before after s → IsLegalCut run outside h
+pub ends_cut : (report : Report) (run : Script) (outside : Outside) (h : List Event) (before after : Option (List ℕ)) (s : Status) → EndsAs report run outside h before after s → IsLegalCut run outside h
 ends_cut report run outside h before after status.NoMemory ends = (ends.0.run, ends.0.legal)
 ends_cut report run outside h before after status.Done ends = cut_so_far run outside h (ends_legal report run outside h before after status.Done ends (λ is. absurd (cc)))
 ends_cut report run outside h before after status.EventLimit ends = cut_so_far run outside h (ends_legal report run outside h before after status.EventLimit ends (λ is. absurd (cc)))

@@ -4,6 +4,7 @@ pub mod Counting
 pub mod Ends
 pub mod Flattened
 pub mod Keeping
+pub mod Losses
 pub mod Making
 pub mod Readings
 pub mod Resting

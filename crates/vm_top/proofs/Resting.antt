@@ -1,18 +1,16 @@
 -- A run that ended, and whose last step isn't cut, is legal as far as it goes; so the laws of who waits and of what is on its way hold.
-use Rattle.std.proofs.Common.{◌≡◌, ℕ, List, [], ◌∷◌, refl, Some, None, Option}
+use Rattle.std.proofs.Common.{false, ◌≡◌, ℕ, List, [], ◌∷◌, refl, Some, None, Option}
 use Rattle.std.specs.Prelude.{◌≢◌}
 use Rattle.vm_model.specs.declared.event.Event.{Event}
 use Rattle.vm_model.specs.declared.script.Header.{Header}
 use Rattle.vm_model.specs.declared.script.Script.{Script}
 use Rattle.vm_model.specs.Moments.{EachEvent}
-use Rattle.vm_legal.specs.Legal.{LegalSoFar}
+use Rattle.vm_legal.specs.Legal.{CanonicalSoFar}
 use Rattle.vm_legal.specs.Licences.{HasCause}
-use Rattle.vm_legal.specs.Outside.{Outside}
+use Rattle.vm_legal.specs.Outside.{Outside, Untold}
 use Rattle.vm_legal.proofs.Groups.{so_far}
-use Rattle.vm_quiet.specs.Carried.{IsCarried}
 use Rattle.vm_quiet.specs.Quiet.{NobodyWaitsInVain}
 use Rattle.vm_quiet.proofs.Carried.{carried}
-use Rattle.vm_shared.specs.Carried.{SharedAreCarried}
 use Rattle.vm_shared.proofs.Answered.{nobody_waits}
 use Rattle.vm_shared.proofs.Carried.{shared_are_carried}
 use Rattle.vm_top.specs.declared.top.Status.{Status}
@@ -23,10 +21,11 @@ use Rattle.vm_top.specs.Ending.{EndsAs}
 use Rattle.vm_top.specs.Resting.{CarriesAll, WaitsForFramesAlone}
 use Rattle.vm_top.specs.Run.{IsRunnable}
 use Rattle.vm_top.specs.Top.{WroteFailed}
-use Rattle.vm_top.proofs.Closing.{full_so_far, whole_so_far}
+use Rattle.vm_top.proofs.Closing.{full_so_far, none_legal, whole_so_far}
+use Rattle.vm_legal.proofs.Turns.{so_far_of as weak_so_far}
 
 -- also where a write failed
-failed_legal : (report : Report) (run : Script) (outside : Outside) (h : List Event) (before after : Option (List ℕ)) → WroteFailed report run outside h before after → LegalSoFar run outside h
+failed_legal : (report : Report) (run : Script) (outside : Outside) (h : List Event) (before after : Option (List ℕ)) → WroteFailed report run outside h before after → CanonicalSoFar run outside h
 failed_legal History run outside h before after failed = record {
   later = failed.later;
   run = failed.next ∷ failed.run;
@@ -34,10 +33,14 @@ failed_legal History run outside h before after failed = record {
   follows = failed.legal.follows;
   holds = failed.legal.holds;
   rests = failed.legal.rests;
+  ended = failed.legal.ended;
+  last = failed.legal.last;
+  recalled = failed.legal.recalled;
+  recalls = failed.legal.recalls;
 }
 failed_legal Summary run outside h before after failed = failed.0
 
-pub ends_legal : (report : Report) (run : Script) (outside : Outside) (h : List Event) (before after : Option (List ℕ)) (s : Status) → EndsAs report run outside h before after s → s ≢ status.NoMemory → LegalSoFar run outside h
+pub ends_legal : (report : Report) (run : Script) (outside : Outside) (h : List Event) (before after : Option (List ℕ)) (s : Status) → EndsAs report run outside h before after s → s ≢ status.NoMemory → CanonicalSoFar run outside h
 ends_legal report run outside h before after status.Done ends uncut = whole_so_far run outside h ends.0
 ends_legal report run outside h before after status.EventLimit ends uncut = full_so_far run outside h ends.0
 ends_legal report run outside h before after status.OutputFault ends uncut = failed_legal report run outside h before after ends
@@ -47,8 +50,8 @@ ends_legal report run outside h before after status.ReadFault ends uncut = absur
 ends_legal report run outside h before after (status.BadScript line kind) ends uncut = absurd ends
 ends_legal report run outside h before after (status.NotBuilt line) ends uncut = absurd ends
 
-causes_of : (run : Script) (outside : Outside) (h : List Event) → LegalSoFar run outside h → EachEvent (HasCause run.header outside) h
-causes_of run outside h legal = so_far run.header outside legal.run h legal.follows
+causes_of : (run : Script) (outside : Outside) (h : List Event) → CanonicalSoFar run outside h → EachEvent (HasCause run.header outside) h
+causes_of run outside h legal = so_far run.header outside legal.run h (weak_so_far run.header outside legal.run h legal.follows)
 
 pub waits_for_frames : (report : Report) (run : Script) (outside : Outside) (h : List Event) (before after : Option (List ℕ)) (s : Status) → IsRunnable run → EndsAs report run outside h before after s → s ≢ status.NoMemory
     → WaitsForFramesAlone (Some run) h
@@ -68,23 +71,18 @@ carries_all report run outside h before after s runs ends uncut =
 
 -- nothing has happened: nobody waits, and nothing is asked
 none_waits : (header : Header) → NobodyWaitsInVain header []
-none_waits header = record { short = λ host task access below waits on. let bad : None ≡ Some access = waits.waits in cc }
-
-none_carried : (header : Header) → IsCarried header []
-none_carried header = record {
-  asked = λ host o p ours is. absurd (cc);
-  opening = λ host o control ours live ready. let bad : None ≡ Some control = live in absurd (cc);
-}
-
-none_shared_carried : (header : Header) → SharedAreCarried header []
-none_shared_carried header = record {
-  asked = λ host o p shared is. absurd (cc);
-  unlocking = λ host o p shared here is. absurd (cc);
-  standing = λ o p shared some. absurd (some refl);
-}
+none_waits header = record { short = λ host task access below waits on. let bad : None ≡ Some access = waits in absurd (cc) }
 
 pub none_wait_for_frames : (run : Script) (h : List Event) → h ≡ [] → WaitsForFramesAlone (Some run) h
 none_wait_for_frames run h empty = rw empty (λ delivered. none_waits run.header)
 
+none_carried : (run : Script) → CarriesAll (Some run) []
+none_carried run =
+    let outside : Outside = record { files = Untold; paging = false } in
+    let legal = none_legal run outside in (
+      carried run.header outside [] tt legal.rests.paid tt,
+      shared_are_carried run.header outside [] tt tt tt legal.rests.paid legal.rests.served,
+    )
+
 pub none_carry : (run : Script) (h : List Event) → h ≡ [] → CarriesAll (Some run) h
-none_carry run h empty = rw empty (none_carried run.header, none_shared_carried run.header)
+none_carry run h empty = rw empty (none_carried run)

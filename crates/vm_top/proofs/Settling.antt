@@ -11,14 +11,14 @@ use Rattle.vm_model.specs.declared.command.Numbered.{Numbered}
 use Rattle.vm_model.specs.declared.script.Header.{Header}
 use Rattle.vm_model.specs.Summary.{count_of, is_line}
 use Rattle.vm_model.specs.Text.{text}
-use Rattle.vm_legal.specs.Follows.{Follows, FollowsSoFar}
-use Rattle.vm_legal.specs.Legal.{LegalFor}
+use Rattle.vm_legal.specs.InTurn.{FollowsInTurn, FollowsSoFarInTurn}
+use Rattle.vm_legal.specs.Legal.{CanonicalFor}
 use Rattle.vm_legal.specs.Outside.{Outside}
 use Rattle.vm_legal.specs.Steps.{before_step, takings}
 use Rattle.vm_legal.specs.Undelivered.{undelivered}
 use Rattle.vm_outside.specs.Arming.{Arming, ArmedLater}
 use Rattle.vm_system.proofs.Settled.{may_be_cut}
-use Rattle.vm_system.specs.Steps.{DevicesHaveCause, GrowsWithinLimit, HasMore, IsMemoryStop, KeepsOpen, LegalCut, LegalOpen, MayCutOpen, TakesMore, settles, took_up}
+use Rattle.vm_system.specs.Steps.{DevicesHaveCause, GrowsWithinLimit, HasMore, IsMemoryStop, KeepsOpen, LegalCut, CanonicalOpen, MayCutOpen, TakesMore, settles, took_up}
 use Rattle.vm_top.specs.Arming.{is_untouched, ran_of}
 use Rattle.vm_top.specs.Run.{CutIn, RanAs, front_of, text_so_far}
 use Rattle.vm_top.specs.Running.{BackingRuns, FaultCounts, IsBetweenCommands, RunStops, RunTaking, Running, Settles, Turned, counted}
@@ -239,10 +239,10 @@ stops_same report given old new now f0 f1 p0 p1 e0 e1 how end h f p e is was =
 
 -- a settle that has taken its messages, or all, is whole
 settled : (header : Header) (outside : Outside) (line count : ℕ) (run : List Numbered) (h : List Event) → (takings h ≡ count) ⊎ (undelivered h ≡ [])
-    → LegalOpen header outside (record { line = line; command = command.Settle count } ∷ run) h → LegalFor header outside (record { line = line; command = command.Settle count } ∷ run) h
-settled header outside line count run h end legal = record { follows = whole_of legal.follows; holds = legal.holds; rests = legal.rests }
+    → CanonicalOpen header outside (record { line = line; command = command.Settle count } ∷ run) h → CanonicalFor header outside (record { line = line; command = command.Settle count } ∷ run) h
+settled header outside line count run h end legal = record { follows = whole_of legal.follows; holds = legal.holds; rests = legal.rests; ended = legal.ended; last = legal.last; recalled = legal.recalled; recalls = legal.recalls }
   where
-    whole_of : FollowsSoFar header outside (record { line = line; command = command.Settle count } ∷ run) h → Follows header outside (record { line = line; command = command.Settle count } ∷ run) h
+    whole_of : FollowsSoFarInTurn header outside (record { line = line; command = command.Settle count } ∷ run) h → FollowsInTurn header outside (record { line = line; command = command.Settle count } ∷ run) h
     whole_of (past, group, is, made, done, follows) = (past, group, is, made, subst (λ z. (takings z ≡ count) ⊎ (undelivered z ≡ [])) is end, follows)
 
 -- a settle has ended
@@ -251,11 +251,11 @@ pub settle_runs : {F P : Type 0} (report : Report) (given : RunTaking F P) (coun
 settle_runs report given count h now f p e is settles end =
     let header = given.running.script.header in
     let outside = given.running.outside in
-    let open_is = subst (λ z. LegalOpen header outside (record { line = settles.line; command = z } ∷ settles.run) h) is settles.legal in
+    let open_is = subst (λ z. CanonicalOpen header outside (record { line = settles.line; command = z } ∷ settles.run) h) is settles.legal in
     let legal = settled header outside settles.line count settles.run h end open_is in
     record {
       keeps = settles.keeps;
-      legal = subst (λ z. LegalFor header outside z h) (sym settles.here) (subst (λ z. LegalFor header outside (record { line = settles.line; command = z } ∷ settles.run) h) (sym is) legal);
+      legal = subst (λ z. CanonicalFor header outside z h) (sym settles.here) (subst (λ z. CanonicalFor header outside (record { line = settles.line; command = z } ∷ settles.run) h) (sym is) legal);
     }
 
 -- behind its line a settle has taken nothing
@@ -266,7 +266,7 @@ turned_settles report given n count h now f p e is turned = record {
   line = n.line;
   run = turned.run;
   here = turned.here ∙ ap (λ z. record { line = n.line; command = z } ∷ turned.run) is;
-  legal = subst (λ z. LegalOpen given.script.header given.outside (record { line = n.line; command = z } ∷ turned.run) h) is turned.next.so_far;
+  legal = subst (λ z. CanonicalOpen given.script.header given.outside (record { line = n.line; command = z } ∷ turned.run) h) is turned.next.so_far;
 }
 
 pub turned_none : {F P : Type 0} (report : Report) (given : Running F P) (n : Numbered) (count : ℕ) (h : List Event) (now : Option (List ℕ)) (f : Arming F) (p : Arming P) (e : FaultCounts) → n.command ≡ command.Settle count

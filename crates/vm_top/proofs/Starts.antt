@@ -9,18 +9,22 @@ use Rattle.vm_model.specs.declared.script.Header.{Header}
 use Rattle.vm_model.specs.declared.script.Script.{Script}
 use Rattle.vm_model.specs.Ranges.{InRange}
 use Rattle.vm_legal.specs.Debts.{IsPaid}
-use Rattle.vm_legal.specs.Legal.{LegalFor}
+use Rattle.vm_legal.specs.Legal.{CanonicalFor}
 use Rattle.vm_legal.specs.Outside.{Outside}
-use Rattle.vm_legal.specs.Prompt.{NoneInVain}
+use Rattle.vm_legal.specs.Prompt.{EachLeads, NoneInVain}
 use Rattle.vm_shared.proofs.Pages.{legal}
 use Rattle.vm_top.specs.Run.{IsRunnable}
 use Rattle.vm_top.specs.Writing.{oldest_items}
+use Rattle.vm_top.proofs.Closing.{recalled_start}
 
 some_frames : (frames : Option ℕ) → IfSome frames (λ count. 0 ≤ count)
 some_frames None = tt
 some_frames (Some count) = omega arith
 
 -- nothing has happened
+start_leads : (header : Header) (host : ℕ) → EachLeads header host []
+start_leads header host task access waits on = let bad : None ≡ Some access = waits in absurd (cc)
+
 start_waits : (header : Header) (host : ℕ) → NoneInVain header host []
 start_waits header host task access waits on = let bad : None ≡ Some access = waits.waits in cc
 
@@ -39,7 +43,7 @@ start_paid header = record {
     nothing : {A : Type 0} {x : A} → None ≡ Some x → ⊥
     nothing is = cc
 
-pub legal_start : (header : Header) (outside : Outside) → LegalFor header outside [] []
+pub legal_start : (header : Header) (outside : Outside) → CanonicalFor header outside [] []
 legal_start header outside = record {
   follows = refl;
   holds = record {
@@ -53,11 +57,18 @@ legal_start header outside = record {
     pages = λ object page shared. legal header outside [] tt tt object page shared;
   };
   rests = record {
-    prompt = λ host below. record { waits = start_waits header host; swept = record { pages = λ object page temporary away. refl; controls = λ object temporary away. refl; declared_pages = λ object page below unheld. refl; declared_controls = λ object below unheld. refl } };
+    prompt = λ host below. record { leads = start_leads header host; waits = start_waits header host; swept = record { pages = λ object page temporary away. refl; controls = λ object temporary away. refl; declared_pages = λ object page below unheld. refl; declared_controls = λ object below unheld. refl } };
     paid = start_paid header;
     served = λ object page shared some. absurd (some refl);
   };
+  ended = tt;
+  last = λ host object page is. absurd (nothing is);
+  recalled = tt;
+  recalls = recalled_start header;
 }
+  where
+    nothing : {A : Type 0} {x : A} → None ≡ Some x → ⊥
+    nothing is = cc
 
 drop_whole : {A : Type 0} (items : List A) → drop (length items) items ≡ []
 drop_whole [] = refl

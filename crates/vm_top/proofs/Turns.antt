@@ -16,13 +16,14 @@ use Rattle.vm_model.specs.Moments.{before_last_line}
 use Rattle.vm_model.specs.Ranges.{InRange}
 use Rattle.vm_model.specs.Summary.{count_of, is_line}
 use Rattle.vm_model.specs.Text.{text, line_of}
-use Rattle.vm_legal.specs.Legal.{LegalFor}
+use Rattle.vm_legal.specs.Legal.{CanonicalFor}
 use Rattle.vm_legal.specs.Outside.{Outside}
 use Rattle.vm_legal.specs.Steps.{takings}
-use Rattle.vm_legal.proofs.Groups.{cut_of as follows_cut, open_of}
+use Rattle.vm_legal.proofs.Groups.{cut_of as follows_cut}
+use Rattle.vm_legal.proofs.Turns.{legal_of, open_in_turn, so_far_of as weak_so_far}
 use Rattle.vm_outside.specs.Arming.{Arming, ArmedLater}
 use Rattle.vm_system.proofs.Settled.{may_be_cut}
-use Rattle.vm_system.specs.Steps.{DevicesHaveCause, GrowsWithinLimit, IsNextLegal, KeepsLegal, LeavesBacking, LegalCut, LegalOpen, MayCut, IsBelowLimit, IsMemoryStop, arms, settles, takes_any, took_up}
+use Rattle.vm_system.specs.Steps.{DevicesHaveCause, GrowsWithinLimit, IsNextCanonical, KeepsCanonical, LeavesBacking, LegalCut, CanonicalOpen, MayCut, IsBelowLimit, IsMemoryStop, arms, settles, takes_any, took_up}
 use Rattle.vm_system.specs.declared.stop.SystemStop.{SystemStop}
 use Rattle.vm_system.specs.declared.stop.SystemStop.TheVariants as stops
 use Rattle.vm_top.specs.Arming.{BackingLeft, FailuresCounted, is_untouched, ran_of}
@@ -46,7 +47,7 @@ pub record BackingStep {B : Type 0} (header : Header) (who : Device) (n : Number
 
 -- what a command's step does, where it is made
 pub record Stepped {F P : Type 0} (header : Header) (outside : Outside) (n : Numbered) (old new : List Event) (f0 f1 : Arming F) (p0 p1 : Arming P) (e0 e1 : FaultCounts) : Type 0 where
-  pub legal : KeepsLegal header outside n old new
+  pub legal : KeepsCanonical header outside n old new
   pub grew : GrowsWithinLimit old new
   pub front : before_last_line new ≡ old
   pub files : BackingStep header device.Files n new f0 f1
@@ -54,11 +55,11 @@ pub record Stepped {F P : Type 0} (header : Header) (outside : Outside) (n : Num
   pub devices : (who : Device) → DevicesHaveCause who (counted who e0) (counted who e1) old new
 
 -- the command's line is one more
-pub lines_step : (header : Header) (outside : Outside) (n : Numbered) (run : List Numbered) (old new : List Event) → before_last_line new ≡ old → IsNextLegal header outside n run new
+pub lines_step : (header : Header) (outside : Outside) (n : Numbered) (run : List Numbered) (old new : List Event) → before_last_line new ≡ old → IsNextCanonical header outside n run new
     → count_of is_line new ≡ count_of is_line old + 1
 lines_step header outside n run old new front next = by_group next.so_far
   where
-    by_group : LegalOpen header outside (n ∷ run) new → count_of is_line new ≡ count_of is_line old + 1
+    by_group : CanonicalOpen header outside (n ∷ run) new → count_of is_line new ≡ count_of is_line old + 1
     by_group legal = let follows = legal.follows in lines_more new old follows.1 follows.0 n.line front follows.2
 
 -- what a step leaves, whatever is written of it
@@ -71,7 +72,7 @@ pub record Left {F P : Type 0} (given : Running F P) (new : List Event) (f1 : Ar
 pub record Made {F P : Type 0} (given : Running F P) (n : Numbered) (old new : List Event) (f1 : Arming F) (p1 : Arming P) (e1 : FaultCounts) : Type 0 where
   pub lines : count_of is_line new ≡ count_of is_line old + 1
   pub here : ran_of given.script new ≡ n ∷ ran_of given.script old
-  pub next : IsNextLegal given.script.header given.outside n (ran_of given.script old) new
+  pub next : IsNextCanonical given.script.header given.outside n (ran_of given.script old) new
   pub left : Left given new f1 p1 e1
 
 pub made : {F P : Type 0} (report : Report) (given : Running F P) (n : Numbered) (old new : List Event) (was : Option (List ℕ)) (f0 f1 : Arming F) (p0 p1 : Arming P) (e0 e1 : FaultCounts)
@@ -114,8 +115,8 @@ shown_grown reports.History start now old new grew wrote =
     subst (WroteStart start now) (sym (ap text grew.is ∙ grown.1)) (front_start start now (text old) grown.0 wrote)
 shown_grown reports.Summary start now old new grew wrote = start_all start now [] wrote
 
-pub cut_whole : (header : Header) (outside : Outside) (run : List Numbered) (h : List Event) → LegalFor header outside run h → LegalCut header outside run h
-cut_whole header outside run h legal = record { follows = follows_cut header outside run h (open_of header outside run h legal.follows); holds = legal.holds }
+pub cut_whole : (header : Header) (outside : Outside) (run : List Numbered) (h : List Event) → CanonicalFor header outside run h → LegalCut header outside run h
+cut_whole header outside run h legal = record { follows = follows_cut header outside run h (weak_so_far header outside run h (open_in_turn header outside run h legal.follows)); holds = legal.holds }
 
 -- the commands that are left behind the next one
 abbrev pub left_of : {F P : Type 0} → Running F P → List Event → List Numbered
@@ -156,7 +157,7 @@ turn_unshown report given n old new now f1 p1 e1 follows grew step wrote = (
 
 -- memory ended in the step
 pub turn_cut : {F P : Type 0} (report : Report) (given : Running F P) (n : Numbered) (old new : List Event) (now : Option (List ℕ))
-    → IsNextOf given.script n old → GrowsWithinLimit old new → LegalFor given.script.header given.outside (ran_of given.script old) old → MayCut given.script.header given.outside n old new → Appends given.start now (text_so_far report old)
+    → IsNextOf given.script n old → GrowsWithinLimit old new → CanonicalFor given.script.header given.outside (ran_of given.script old) old → MayCut given.script.header given.outside n old new → Appends given.start now (text_so_far report old)
     → RanAs report given.script given.outside new ends.NoMemory given.start now
 turn_cut report given n old new now follows grew legal may wrote = (by_way may, shown_grown report given.start now old new grew wrote)
   where
@@ -191,7 +192,7 @@ pub record BackingHalts {B : Type 0} (header : Header) (who : Device) (n : Numbe
   pub stops : IsMemoryStop header who before_last_line old new before after
 
 backing_halted : {B : Type 0} (header : Header) (outside : Outside) (who : Device) (commands : List Numbered) (n : Numbered) (old new : List Event) (start before after : Arming B)
-    → oldest_items (count_of is_line old + 1) commands ≡ n ∷ oldest_items (count_of is_line old) commands → LegalFor header outside (oldest_items (count_of is_line old) commands) old
+    → oldest_items (count_of is_line old + 1) commands ≡ n ∷ oldest_items (count_of is_line old) commands → CanonicalFor header outside (oldest_items (count_of is_line old) commands) old
     → MayCut header outside n old new → BackingHalts header who n old new before after → BackingRuns header who (oldest_items (count_of is_line old) commands) old start before
     → BackingRuns header who (oldest_items (count_of is_line new) commands) new start after
 backing_halted header outside who commands n old new start before after follows legal may halted was = by (takes_any n.command) refl
@@ -232,7 +233,7 @@ pub record Halted {F P : Type 0} (header : Header) (n : Numbered) (old new : Lis
   pub files : BackingHalts header device.Files n old new f0 f1
   pub paging : BackingHalts header device.Paging n old new p0 p1
 
-arms_halted : {F P : Type 0} (given : Running F P) (n : Numbered) (old new : List Event) (f0 f1 : Arming F) (p0 p1 : Arming P) → IsNextOf given.script n old → LegalFor given.script.header given.outside (ran_of given.script old) old
+arms_halted : {F P : Type 0} (given : Running F P) (n : Numbered) (old new : List Event) (f0 f1 : Arming F) (p0 p1 : Arming P) → IsNextOf given.script n old → CanonicalFor given.script.header given.outside (ran_of given.script old) old
     → MayCut given.script.header given.outside n old new → Halted given.script.header n old new f0 f1 p0 p1 → Arms given old f0 p0 → Arms given new f1 p1
 arms_halted given n old new f0 f1 p0 p1 follows legal may halted was = record {
   files = backing_halted given.script.header given.outside device.Files given.script.commands.items n old new given.files f0 f1 follows legal may halted.files was.files;
@@ -301,7 +302,7 @@ pub turned_runs : {F P : Type 0} (report : Report) (given : Running F P) (n : Nu
     → IsBetweenCommands report given h now f p e
 turned_runs report given n h now f p e turned other = record {
   keeps = turned.keeps;
-  legal = subst (λ z. LegalFor given.script.header given.outside z h) (sym turned.here) (turned.next.whole other);
+  legal = subst (λ z. CanonicalFor given.script.header given.outside z h) (sym turned.here) (turned.next.whole other);
 }
 
 pub settles_none : (c : Command) → ((count : ℕ) → c ≡ command.Settle count → ⊥) → settles c ≡ None
@@ -325,9 +326,10 @@ pub all_stops : {F P : Type 0} (report : Report) (given : Running F P) (h : List
     → length given.script.commands.items ≤ count_of is_line h → RunStops report given h now f p e ends.Done
 all_stops report given h now f p e runs all =
     let whole = oldest_all given.script.commands.items (count_of is_line h) all in
+    let canonical : CanonicalFor given.script.header given.outside given.script.commands.items h = subst (λ z. CanonicalFor given.script.header given.outside z h) whole runs.legal in
     record {
       ran = (
-        record { legal = subst (λ z. LegalFor given.script.header given.outside z h) whole runs.legal },
+        record { legal = legal_of given.script.header given.outside given.script.commands.items h canonical; canonical = canonical },
         runs.keeps.written,
       );
       below = runs.keeps.below;
@@ -363,7 +365,7 @@ start_run report given files paging =
         arms = arms_of given [] [] given.files given.paging none (start_backing given.script.header device.Files given.files files) (start_backing given.script.header device.Paging given.paging paging);
         failed = λ who. record { few = inl (omega arith); none = λ none. refl };
       };
-      legal = subst (λ z. LegalFor given.script.header given.outside z []) (sym none) (legal_start given.script.header given.outside);
+      legal = subst (λ z. CanonicalFor given.script.header given.outside z []) (sym none) (legal_start given.script.header given.outside);
     }
 
 pub start_runs : {F P : Type 0} (report : Report) (given : Running F P) (h : List Event) → h ≡ [] → given.files.left ≡ 0 → given.paging.left ≡ 0 → IsBetweenCommands report given h given.start given.files given.paging given.faults

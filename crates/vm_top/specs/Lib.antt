@@ -1,6 +1,7 @@
 pub mod Arming
 pub mod Ending
 pub mod Flat
+pub mod Losses
 pub mod Making
 pub mod Reading
 pub mod Resting

@@ -15,7 +15,7 @@ use Rattle.vm_model.specs.Moments.{before_last_line}
 use Rattle.vm_model.specs.Ranges.{InRange}
 use Rattle.vm_model.specs.Summary.{summary_text}
 use Rattle.vm_model.specs.Text.{text}
-use Rattle.vm_legal.specs.Legal.{Legal, LegalFor}
+use Rattle.vm_legal.specs.Legal.{Canonical, CanonicalFor, Legal}
 use Rattle.vm_legal.specs.Outside.{FilesAtStart, Outside, Told as FilesTold, Untold, is_file_kind}
 use Rattle.vm_legal.specs.Steps.{before_step}
 use Rattle.vm_legal.specs.Undelivered.{undelivered}
@@ -23,7 +23,7 @@ use Rattle.vm_outside.specs.Areas.{Told, read_at}
 use Rattle.pg_file.specs.Stands.{name_of}
 use Rattle.pg_slots.specs.Contents.{area_name}
 use Rattle.vm_system.specs.Stands.{IsSupplied}
-use Rattle.vm_system.specs.Steps.{HasMore, LegalCut, LegalOpen}
+use Rattle.vm_system.specs.Steps.{HasMore, LegalCut, CanonicalOpen}
 use Rattle.vm_top.specs.Writing.{WroteStart, WroteBeyond}
 use Rattle.vm_top.specs.declared.run.RunEnd.{RunEnd}
 use Rattle.vm_top.specs.declared.run.RunEnd.TheVariants as end
@@ -66,14 +66,15 @@ pub record IsRunnable (script : Script) : Type 0 where
   pub slots : script.header.slots ≤ most_slots
   pub ranges : All (λ numbered. InRange script.header numbered.command) script.commands.items
 
--- the history is legal for the commands that were run
+-- the history is canonical for the commands that were run
 pub record IsPart (script : Script) (outside : Outside) (later run : List Numbered) (history : List Event) : Type 0 where
   pub order : script.commands.items ≡ later ++ run
-  pub legal : LegalFor script.header outside run history
+  pub legal : CanonicalFor script.header outside run history
 
--- the whole script was run
+-- the whole script was run: the history is legal, and the one that the rules give
 pub record IsWholeRun (script : Script) (outside : Outside) (history : List Event) : Type 0 where
   pub legal : Legal script outside history
+  pub canonical : Canonical script outside history
 
 -- a command is left
 pub record IsLeft (script : Script) (outside : Outside) (history : List Event) : Type 0 where
@@ -88,7 +89,7 @@ pub record SettlesOn (script : Script) (outside : Outside) (history : List Event
   pub next : Numbered
   pub run : List Numbered
   pub order : script.commands.items ≡ later ++ next ∷ run
-  pub legal : LegalOpen script.header outside (next ∷ run) history
+  pub legal : CanonicalOpen script.header outside (next ∷ run) history
   pub more : HasMore next.command history
   pub some : undelivered history ≢ []
 
@@ -102,13 +103,13 @@ abbrev pub front_of : Command → List Event → List Event
 front_of (command.Settle count) history = before_step history
 front_of other history = before_last_line history
 
--- a write failed: the text of all steps but the last was written, and then a first part of the last step's
+-- a write failed: the history is canonical so far, the text of all steps but the last was written, and then a first part of the last step's
 pub record FailedIn (script : Script) (outside : Outside) (history : List Event) (before after : Option (List ℕ)) : Type 0 where
   pub later : List Numbered
   pub next : Numbered
   pub run : List Numbered
   pub order : script.commands.items ≡ later ++ next ∷ run
-  pub legal : LegalOpen script.header outside (next ∷ run) history
+  pub legal : CanonicalOpen script.header outside (next ∷ run) history
   pub written : WroteBeyond before after (text (front_of next.command history)) (text history)
 
 -- memory ended: the history is legal as far as it goes, and its last step may be cut

@@ -9,11 +9,11 @@ use Rattle.vm_model.specs.declared.command.Command.{Command}
 use Rattle.vm_model.specs.declared.command.Numbered.{Numbered}
 use Rattle.vm_model.specs.declared.script.Script.{Script}
 use Rattle.vm_model.specs.Summary.{count_of, is_line}
-use Rattle.vm_legal.specs.Legal.{LegalFor}
+use Rattle.vm_legal.specs.Legal.{CanonicalFor}
 use Rattle.vm_legal.specs.Outside.{Outside}
 use Rattle.vm_outside.specs.Arming.{Arming}
 use Rattle.vm_outside.specs.Causes.{next_count}
-use Rattle.vm_system.specs.Steps.{IsBelowLimit, IsNextLegal, LegalOpen}
+use Rattle.vm_system.specs.Steps.{IsBelowLimit, IsNextCanonical, CanonicalOpen}
 use Rattle.vm_top.specs.Arming.{BackingLeft, FailuresCounted, ran_of}
 use Rattle.vm_top.specs.Run.{RanAs, text_so_far}
 use Rattle.vm_top.specs.Writing.{oldest_items}
@@ -70,14 +70,14 @@ pub record Keeps {F P : Type 0} (report : Report) (given : Running F P) (history
 -- what holds between two commands
 pub record IsBetweenCommands {F P : Type 0} (report : Report) (given : Running F P) (history : List Event) (now : Option (List ℕ)) (f : Arming F) (p : Arming P) (faults : FaultCounts) : Type 0 where
   pub keeps : Keeps report given history now f p faults
-  pub legal : LegalFor given.script.header given.outside (ran_of given.script history) history
+  pub legal : CanonicalFor given.script.header given.outside (ran_of given.script history) history
 
 -- what holds behind the step of a command, which for a settle is its line alone
 pub record Turned {F P : Type 0} (report : Report) (given : Running F P) (numbered : Numbered) (history : List Event) (now : Option (List ℕ)) (f : Arming F) (p : Arming P) (faults : FaultCounts) : Type 0 where
   pub keeps : Keeps report given history now f p faults
   pub run : List Numbered
   pub here : ran_of given.script history ≡ numbered ∷ run
-  pub next : IsNextLegal given.script.header given.outside numbered run history
+  pub next : IsNextCanonical given.script.header given.outside numbered run history
 
 -- what holds inside a settle
 pub record Settles {F P : Type 0} (report : Report) (given : RunTaking F P) (history : List Event) (now : Option (List ℕ)) (f : Arming F) (p : Arming P) (faults : FaultCounts) : Type 0 where
@@ -85,7 +85,7 @@ pub record Settles {F P : Type 0} (report : Report) (given : RunTaking F P) (his
   pub line : ℕ
   pub run : List Numbered
   pub here : ran_of given.running.script history ≡ record { line = line; command = given.command } ∷ run
-  pub legal : LegalOpen given.running.script.header given.running.outside (record { line = line; command = given.command } ∷ run) history
+  pub legal : CanonicalOpen given.running.script.header given.running.outside (record { line = line; command = given.command } ∷ run) history
 
 -- how a run stops, and what it leaves
 pub record RunStops {F P : Type 0} (report : Report) (given : Running F P) (history : List Event) (now : Option (List ℕ)) (f : Arming F) (p : Arming P) (faults : FaultCounts) (how : RunEnd) : Type 0 where

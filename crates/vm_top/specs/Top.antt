@@ -9,7 +9,7 @@ use Rattle.vm_model.specs.declared.fault.ScriptFault.{ScriptFault}
 use Rattle.vm_model.specs.declared.fault.ScriptFault.TheVariants as fault
 use Rattle.vm_model.specs.declared.script.Script.{Script}
 use Rattle.vm_model.specs.Fault.{fault_number}
-use Rattle.vm_legal.specs.Legal.{LegalSoFar}
+use Rattle.vm_legal.specs.Legal.{CanonicalSoFar}
 use Rattle.vm_legal.specs.Outside.{Outside}
 use Rattle.vm_model.specs.Text.{field}
 use Rattle.vm_text.specs.Script.{script_of, whole_script}
@@ -115,7 +115,7 @@ pub record IsBad (told : Option (List ℕ)) (line : ℕ) (kind : ScriptFault) (s
 abbrev pub WroteFailed : Report → Script → Outside → List Event → Option (List ℕ) → Option (List ℕ) → Type 0
 WroteFailed History run outside history before after = FailedIn run outside history before after
 WroteFailed Summary run outside history before after =
-    LegalSoFar run outside history × WroteStart before after (report_text Summary history)
+    CanonicalSoFar run outside history × WroteStart before after (report_text Summary history)
 
 -- a script was run, and a write of its report failed
 pub record IsFailed (told : Option (List ℕ)) (outside : Header → Outside) (report : Report) (script : Option Script) (history : List Event) (before after : Option (List ℕ)) : Type 0 where

@@ -13,6 +13,7 @@ ghost use Rattle.vm_top.specs.Top.{IsBad, IsRunDone, IsEventLimit, NothingRun, I
 ghost use Rattle.vm_legal.specs.Outside.{Outside};
 ghost use Rattle.vm_system.specs.Steps.{IsBelowLimit};
 ghost use Rattle.vm_top.specs.Arming.{FailuresBounded, FailuresCounted};
+ghost use Rattle.vm_top.specs.Losses.{HasNotFailed, LosesUnslotted};
 ghost use Rattle.vm_top.specs.Making.{Generates};
 ghost use Rattle.vm_top.specs.Reading.{LeavesBytes, LeavesSource};
 ghost use Rattle.vm_top.specs.Resting.{CarriesAll, WaitsForFramesAlone};
@@ -189,6 +190,9 @@ fn run_read<K: Sink, F: Backing, P: Backing>(
     ensures devices { FailuresCounted device.Paging (⟦<Armed<P> as Backing>⟧.faults paging.old) (⟦<Armed<P> as Backing>⟧.faults paging.new) result.history.items }
     ensures files_bounded { FailuresBounded device.Files (commands_run result.script result.history.items) (F.faults files.old.inner) (F.faults files.new.inner) (⟦<Armed<F> as Backing>⟧.faults files.new) result.history.items }
     ensures bounded { FailuresBounded device.Paging (commands_run result.script result.history.items) (P.faults paging.old.inner) (P.faults paging.new.inner) (⟦<Armed<P> as Backing>⟧.faults paging.new) result.history.items }
+    ensures losses { HasNotFailed device.Files (commands_run result.script result.history.items) (F.faults files.old.inner) (F.faults files.new.inner) (⟦<Armed<F> as Backing>⟧.faults files.new)
+        → HasNotFailed device.Paging (commands_run result.script result.history.items) (P.faults paging.old.inner) (P.faults paging.new.inner) (⟦<Armed<P> as Backing>⟧.faults paging.new)
+        → LosesUnslotted result.script result.history.items }
 {
     let ran = run_script(alloc, report, &script, out, files, paging);
     let status = finish(alloc, report, &ran, out);
@@ -237,6 +241,9 @@ fn run<S: Source, K: Sink, F: Backing, P: Backing>(
     ensures devices { FailuresCounted device.Paging (⟦<Armed<P> as Backing>⟧.faults paging.old) (⟦<Armed<P> as Backing>⟧.faults paging.new) result.history.items }
     ensures files_bounded { FailuresBounded device.Files (commands_run result.script result.history.items) (F.faults files.old.inner) (F.faults files.new.inner) (⟦<Armed<F> as Backing>⟧.faults files.new) result.history.items }
     ensures bounded { FailuresBounded device.Paging (commands_run result.script result.history.items) (P.faults paging.old.inner) (P.faults paging.new.inner) (⟦<Armed<P> as Backing>⟧.faults paging.new) result.history.items }
+    ensures losses { HasNotFailed device.Files (commands_run result.script result.history.items) (F.faults files.old.inner) (F.faults files.new.inner) (⟦<Armed<F> as Backing>⟧.faults files.new)
+        → HasNotFailed device.Paging (commands_run result.script result.history.items) (P.faults paging.old.inner) (P.faults paging.new.inner) (⟦<Armed<P> as Backing>⟧.faults paging.new)
+        → LosesUnslotted result.script result.history.items }
 {
     let bytes = match read_all(alloc, source) {
         Ok(bytes) => bytes,
@@ -295,6 +302,9 @@ fn generate<K: Sink, F: Backing, P: Backing>(
     ensures devices { FailuresCounted device.Paging (⟦<Armed<P> as Backing>⟧.faults paging.old) (⟦<Armed<P> as Backing>⟧.faults paging.new) result.history.items }
     ensures files_bounded { FailuresBounded device.Files (commands_run result.script result.history.items) (F.faults files.old.inner) (F.faults files.new.inner) (⟦<Armed<F> as Backing>⟧.faults files.new) result.history.items }
     ensures bounded { FailuresBounded device.Paging (commands_run result.script result.history.items) (P.faults paging.old.inner) (P.faults paging.new.inner) (⟦<Armed<P> as Backing>⟧.faults paging.new) result.history.items }
+    ensures losses { HasNotFailed device.Files (commands_run result.script result.history.items) (F.faults files.old.inner) (F.faults files.new.inner) (⟦<Armed<F> as Backing>⟧.faults files.new)
+        → HasNotFailed device.Paging (commands_run result.script result.history.items) (P.faults paging.old.inner) (P.faults paging.new.inner) (⟦<Armed<P> as Backing>⟧.faults paging.new)
+        → LosesUnslotted result.script result.history.items }
 {
     match make_script(alloc, number, lines) {
         Ok(script) => run_read(alloc, Report::Summary, script, out, files, paging),
@@ -319,7 +329,7 @@ pub fn pagers_main<S: Source, K: Sink, F: Backing, P: Backing>(
     files: &mut Armed<F>,
     paging: &mut Armed<P>,
 ) -> Outcome
-    // The whole script of the source was run: the history is legal for it, and its report was written and nothing else.
+    // The whole script of the source was run: the history is legal for it, and canonical, and its report was written and nothing else.
     ensures done { result.status ≡ Status.Done → (report : Report) → asked_by words.now ≡ Some (jobs.Run report)
         → IsRunDone (S.left script.old) (outside_of (F.area files.old.inner) (P.area paging.old.inner)) report result.script result.history.items (K.written out.old) (K.written out.new) }
 
@@ -391,6 +401,13 @@ pub fn pagers_main<S: Source, K: Sink, F: Backing, P: Backing>(
     ensures devices { FailuresCounted device.Paging (⟦<Armed<P> as Backing>⟧.faults paging.old) (⟦<Armed<P> as Backing>⟧.faults paging.new) result.history.items }
     ensures files_bounded { FailuresBounded device.Files (commands_run result.script result.history.items) (F.faults files.old.inner) (F.faults files.new.inner) (⟦<Armed<F> as Backing>⟧.faults files.new) result.history.items }
     ensures bounded { FailuresBounded device.Paging (commands_run result.script result.history.items) (P.faults paging.old.inner) (P.faults paging.new.inner) (⟦<Armed<P> as Backing>⟧.faults paging.new) result.history.items }
+
+    // At every status: where neither backing within failed in this call and no `fail` was run, unless a whole count stands at its last value,
+    // no event tells of a device that failed, and each access that fails, but for one to a wild object, is to a page of temporary memory for
+    // which there was no slot.
+    ensures losses { HasNotFailed device.Files (commands_run result.script result.history.items) (F.faults files.old.inner) (F.faults files.new.inner) (⟦<Armed<F> as Backing>⟧.faults files.new)
+        → HasNotFailed device.Paging (commands_run result.script result.history.items) (P.faults paging.old.inner) (P.faults paging.new.inner) (⟦<Armed<P> as Backing>⟧.faults paging.new)
+        → LosesUnslotted result.script result.history.items }
 
     // At every status: where nothing is undelivered, no `device files` event stands in the history, and no control of a declared file lives on
     // its host, the file, with zeros past its end, begins with the bytes of the flat map, as far as its object goes. What stands past its

@@ -1,7 +1,9 @@
 use Rattle.vm_system.proofs.Common.{EventLimit, GrowsWithinLimit, NoMemory, State, StaysOpen, SystemStands, ap, arith, armed_later_more, subst, sym, takings, ◌∙◌, ◌≡◌}
 use Rattle.vm_model.specs.declared.event.Device.TheVariants as device
 use Rattle.vm_system.proofs.Growth.{grew_more}
+use Rattle.vm_system.proofs.Resting.{left_at_rest}
 use Rattle.vm_system.proofs.Settled.{counted_more, cut_more, grew_stop, other_err, stays_more}
+use Rattle.vm_system.specs.Resting.{LeavesAtRest}
 use Rattle.vm_system.proofs.settling.settle.Goals as goal
 
 pub returns-in-Ok-false-clause-legal : goal.returns-in-Ok-false-clause-legal
@@ -12,8 +14,17 @@ returns-in-Ok-false-clause-legal g c =
 pub returns-in-Err-clause-stood : goal.returns-in-Err-clause-stood
 returns-in-Err-clause-stood g c = λ full.
     let same = (c.in-Err.ensures.unchanged (other_err c.in-Err.stop EventLimit full)).0 in
-    subst (λ (z : State). SystemStands g.given.header g.given.outside z × StaysOpen g.given.header g.given.outside g.given.command c.args.system.now.history.items z.history.items) (sym same)
-    (c.all.invariant.stands, c.all.invariant.legal)
+    let first = c.args.system.now.history.items in
+    subst (λ (z : State). SystemStands g.given.header g.given.outside z × StaysOpen g.given.header g.given.outside g.given.command first z.history.items × LeavesAtRest g.given.header first z.history.items) (sym same)
+    (c.all.invariant.stands, c.all.invariant.legal, left_at_rest g.given.header g.given.outside first c.all.system c.all.invariant.stands c.all.invariant.prompt)
+
+pub returns-in-Ok-false-clause-rests : goal.returns-in-Ok-false-clause-rests
+returns-in-Ok-false-clause-rests g c =
+    let taking = c.in-Ok-false.ensures in
+    left_at_rest g.given.header g.given.outside c.args.system.now.history.items c.take_oldest.new.self taking.stands (λ first. taking.rests.prompt (c.all.invariant.prompt first))
+
+pub returns-clause-rests : goal.returns-clause-rests
+returns-clause-rests g c = left_at_rest g.given.header g.given.outside c.args.system.now.history.items c.all.system c.all.invariant.stands c.all.invariant.prompt
 
 pub returns-in-Err-clause-memory : goal.returns-in-Err-clause-memory
 returns-in-Err-clause-memory g c = λ none. cut_more g.given.header g.given.outside g.given.command c.args.system.now.history.items c.all.system.history.items _ c.all.invariant.legal (c.in-Err.ensures.memory (other_err c.in-Err.stop NoMemory none))
@@ -64,6 +75,7 @@ all-preserved g c =
       files_kept = c.take_oldest.ensures.files_kept;
       carried = λ start carry. c.take_oldest.ensures.carried start (before.carried start carry);
       legal = stays_more g.given.header g.given.outside g.given.command c.args.system.now.history.items c.all.system.history.items c.take_oldest.new.self.history.items before.legal (taking.legal took);
+      prompt = λ first. taking.rests.prompt (before.prompt first);
       count = omega (arith, taking.count took, before.count);
       grew = grew_more c.args.system.now.history.items c.all.system.history.items c.take_oldest.new.self.history.items before.grew c.take_oldest.ensures.grew (taking.below took);
       devices = counted_more device.Paging _ _ _ c.args.system.now.history.items c.all.system.history.items c.take_oldest.new.self.history.items before.grew c.take_oldest.ensures.grew before.devices c.take_oldest.ensures.devices;

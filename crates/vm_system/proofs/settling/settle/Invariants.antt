@@ -1,4 +1,4 @@
-use Rattle.vm_system.proofs.Common.{ArmedLater, DevicesCounted, FilesAreKept, FilesCarry, GrowsWithinLimit, List, PagingIsKept, StaysOpen, SystemStands, Told, sum_count, takings, ℕ, ◌+◌, ◌≡◌}
+use Rattle.vm_system.proofs.Common.{ArmedLater, DevicesCounted, FilesAreKept, FilesCarry, GrowsWithinLimit, List, PagingIsKept, Prompt, StaysOpen, SystemStands, Told, sum_count, takings, ℕ, ◌+◌, ◌≡◌}
 use Rattle.vm_model.specs.declared.event.Device.TheVariants as device
 use Rattle.vm_system.proofs.settling.settle.Given as goal
 
@@ -9,6 +9,7 @@ invariant-all g l = record {
   files_kept : FilesAreKept g.given.header g.given.outside (g.F.Backing.area l.files.inner) l.system;
   carried : (start : List ℕ → Told) → FilesCarry g.given.header start (g.F.Backing.area l.fn.files.inner) l.fn.system.history.items → FilesCarry g.given.header start (g.F.Backing.area l.files.inner) l.system.history.items;
   legal : StaysOpen g.given.header g.given.outside g.given.command l.fn.system.history.items l.system.history.items;
+  prompt : Prompt g.given.header l.fn.system.history.items → Prompt g.given.header l.system.history.items;
   count : takings l.system.history.items ≡ takings l.fn.system.history.items + l.taken;
   grew : GrowsWithinLimit l.fn.system.history.items l.system.history.items;
   devices : DevicesCounted device.Paging (sum_count (g.P.Backing.faults l.fn.paging.inner) l.fn.paging.reached) (sum_count (g.P.Backing.faults l.paging.inner) l.paging.reached) l.fn.system.history.items l.system.history.items;

@@ -42,7 +42,7 @@ returns-clause-made g c =
     let began = subst (λ (z : Step). Began z.header z.outside c.args.command.now z.past hosts events) c.requires.0 c.in_ok-events.ensures.began in
     let legal = legal_began given.header given.outside (record { line = c.args.line; command = c.args.command.now }) s.history.items events hosts stands.built.supplied c.requires.1.1.1.1 began in
     let told = told_said given.header given.outside c.args.command.now c.args.line events hosts s stands began.heads.stretch began.ended.rests began.ended.queues in
-    on_both c.append.result (λ posts grown. makes_told given.header given.outside (record { line = c.args.line; command = c.args.command.now }) events hosts s c.append.new.self stands told legal c.append.ensures.hosts posts grown)
+    on_both c.append.result (λ posts grown. makes_told given.header given.outside (record { line = c.args.line; command = c.args.command.now }) events hosts s c.append.new.self stands told legal (λ prompt. began.ended.prompt) c.append.ensures.hosts posts grown)
     c.append.ensures.posts c.append.ensures.history
 
 pub returns-clause-spares : goal.returns-clause-spares

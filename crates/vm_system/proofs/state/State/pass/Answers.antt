@@ -43,7 +43,7 @@ returns-clause-made g c =
     let went = subst (λ (z : Step). Went z.header z.outside z.command z.past asked hosts events) c.requires.0 c.in_ok-serve.ensures.went in
     let legal = legal_passed given.header given.outside (record { line = c.args.line; command = doing }) s.history.items asked events hosts stands.built.supplied c.requires.1.1.1.0 c.requires.1.1.1.1 head says went in
     let told = told_asked given.header given.outside doing c.args.line asked events hosts s stands says went in
-    on_both c.append.result (λ posts grown. makes_told given.header given.outside (record { line = c.args.line; command = doing }) events hosts s c.append.new.self stands told legal c.append.ensures.hosts posts grown)
+    on_both c.append.result (λ posts grown. makes_told given.header given.outside (record { line = c.args.line; command = doing }) events hosts s c.append.new.self stands told legal (λ prompt. went.ended.prompt) c.append.ensures.hosts posts grown)
     c.append.ensures.posts c.append.ensures.history
 
 pub returns-clause-spares : goal.returns-clause-spares

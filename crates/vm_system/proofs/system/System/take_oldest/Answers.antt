@@ -3,6 +3,7 @@ use Rattle.vm_model.specs.declared.event.Device.TheVariants as device
 use Rattle.vm_system.proofs.Following.{kept_same}
 use Rattle.vm_system.proofs.Growth.{grew_cut, grew_taken, step_taken, takings_taken}
 use Rattle.vm_system.proofs.Numbers.{number_read}
+use Rattle.vm_system.proofs.Resting.{left_at_rest}
 use Rattle.vm_system.proofs.Untouched.{not_up, stops_by}
 use Rattle.vm_system.proofs.Opening.{cuts_settle, keeps_settle, may_settle}
 use Rattle.vm_system.proofs.system.System.take_oldest.Goals as goal
@@ -36,6 +37,14 @@ returns-clause-legal g c =
     let past = c.requires.1.1.1.1.1.0 in
     let more = c.requires.1.1.1.1.1.1 in
     λ took. keeps_settle g.given c.args.self.now c.take.new.self stands past more c.in_ok-take.ensures.took
+
+pub returns-in_default-clause-rests : goal.returns-in_default-clause-rests
+returns-in_default-clause-rests g c = left_at_rest g.given.header g.given.outside c.args.self.now.history.items c.args.self.now c.requires.1.1.0 (λ before. before)
+
+pub returns-clause-rests : goal.returns-clause-rests
+returns-clause-rests g c =
+    let took = c.in_ok-take.ensures.took in
+    left_at_rest g.given.header g.given.outside c.args.self.now.history.items c.take.new.self took.stands (λ before. took.prompt)
 
 pub returns-in_err-take-clause-grew : goal.returns-in_err-take-clause-grew
 returns-in_err-take-clause-grew g c =
