@@ -1,0 +1,2 @@
+pub mod SlowCopy
+pub mod Steps

@@ -1,0 +1,470 @@
+-- The whole history with the slow copy is canonical.
+use Rattle.std.proofs.Common.{ℕ, zero, suc, ◌≡◌, ◌<◌, ◌≤◌, Bool, Option, List, [], ◌∷◌, true, false, refl, subst, ap, sym, arith, Some, None, inl, inr}
+use Rattle.std.proofs.lemmas.Bool.Decides.{nat_tests}
+use Rattle.std.specs.Prelude.{◌==◌, ◌&&◌, if◌then◌else◌}
+use Rattle.vm_base.specs.declared.entry.Entry.{Entry}
+use Rattle.vm_base.specs.declared.ids.Inherit.TheVariants.{Copy, Share}
+use Rattle.vm_model.specs.declared.command.Command.TheVariants as command
+use Rattle.vm_model.specs.declared.event.Event.{Event}
+use Rattle.vm_model.specs.declared.event.Event.TheVariants as event
+use Rattle.vm_model.specs.declared.message.Channel.{Channel}
+use Rattle.vm_model.specs.declared.message.Channel.TheVariants.{Up, Down}
+use Rattle.vm_model.specs.declared.message.Message.{Message}
+use Rattle.vm_model.specs.declared.message.Message.TheVariants as message
+use Rattle.vm_model.specs.Controls.{live_control}
+use Rattle.vm_model.specs.Local.{CanRead, Elsewhere, Local, Raises, local_after}
+use Rattle.vm_model.specs.Moments.{BeforeSteps, EachEvent, EachMoment}
+use Rattle.vm_model.specs.Waiting.{Access, Copying, waiting}
+use Rattle.vm_legal.specs.Accesses.{Waits}
+use Rattle.vm_legal.specs.Bytes.{FlatBytes, OwnBytes}
+use Rattle.vm_legal.specs.Debts.{IsPaid}
+use Rattle.vm_legal.specs.Frames.{FramesSuffice, frames_used}
+use Rattle.vm_legal.specs.InTurn.{AllInTurn, AllRecalled, EndsAll, FollowsInTurn}
+use Rattle.vm_legal.specs.Legal.{CanonicalFor}
+use Rattle.vm_legal.specs.Licences.{IsUnheld}
+use Rattle.vm_legal.specs.Outside.{is_shared}
+use Rattle.vm_legal.specs.Prompt.{AllServed, AnAnswer, IsSwept, Prompt, PromptAt, WaitsForPager}
+use Rattle.vm_legal.specs.Steps.{Letter, answers, readies, since}
+use Rattle.vm_legal.specs.Walks.{Reach, page_on}
+use Rattle.vm_legal.proofs.Locks.{no_request}
+use Rattle.vm_legal.proofs.Unshared.{NoneIsShared, none_shared}
+use Rattle.vm_quiet.proofs.Letters.{never}
+use Rattle.vm_quiet.specs.Unended.{copied, down, file, filled, host, mapped, page, task, up, zero_page}
+use Rattle.vm_quiet.specs.Unended as unended
+use Rattle.vm_worked.specs.Worked.{both, commands, header, history, outside}
+use Rattle.vm_worked.proofs.Steps.{each_step, ends_nobody, nobody, number_is, one_host, one_writer, owes_nothing, recalls, served, suffice, not_shared}
+
+-- the moments at which a step has ended
+
+abbrev made : List Event
+made = event.TaskMade task host ∷ event.Line 4 ∷ []
+
+abbrev opened : List Event
+opened = event.Sent up (message.Init 1 16) ∷ event.Entered task 0 16 mapped 0 both Share ∷ event.Line 5 ∷ made
+
+abbrev settles : List Event
+settles = event.Line 6 ∷ opened
+
+abbrev readied : List Event
+readied = event.Sent down (message.Ready false 0) ∷ event.Taken up (message.Init 1 16) ∷ settles
+
+abbrev settled : List Event
+settled = event.Taken down (message.Ready false 0) ∷ readied
+
+abbrev asked : List Event
+asked = event.Sent up (message.Request 1 page 1) ∷ event.RegionMade filled copied 1 ∷ event.BegunCopy task 0 16 32 ∷ event.Line 7 ∷ settled
+
+abbrev settles_again : List Event
+settles_again = event.Line 8 ∷ asked
+
+abbrev supplied : List Event
+supplied = event.Sent down (message.Supply page 0 false zero_page) ∷ event.Taken up (message.Request 1 page 1) ∷ settles_again
+
+unshared : NoneIsShared header
+unshared = none_shared header (λ o below. let first : 0 ≡ o = omega (arith, below) in subst (λ (z : ℕ). is_shared header z ≡ false) first refl)
+
+-- bytes and frames
+
+own_bytes : EachEvent (OwnBytes header) history
+own_bytes = (tt, (tt, (copies, (tt, (tt, (tt, (tt, (tt, (tt, (tt, (tt, (tt, (tt, (tt, (tt, (tt, (tt, (tt, (tt, (tt, tt))))))))))))))))))))
+  where
+    copies : OwnBytes header (event.CopiedPage task page file page copied) (event.Taken down (message.Supply page 0 false zero_page) ∷ supplied)
+    copies h lives = subst (λ (k : ℕ). CanRead (page_on header k 0 0 (event.Taken down (message.Supply page 0 false zero_page) ∷ supplied))) (number_is 0 h lives) (record { here = refl; unlocked = inl refl })
+
+flat_bytes : EachEvent (FlatBytes header outside) history
+flat_bytes = (tt, (tt, (tt, (tt, (tt, (tt, (tt, (tt, (tt, (tt, (tt, (tt, (tt, (tt, (tt, (tt, (tt, (tt, (tt, (tt, tt))))))))))))))))))))
+
+frames : EachMoment (FramesSuffice header) history
+frames = suffice header 4 enough history refl
+  where
+    enough : (past : List Event) → frames_used 16 0 past ≤ 4 → FramesSuffice header past
+    enough past few zero = few
+    enough past few (suc h) = tt
+
+-- nothing is left behind
+
+bare : (past : List Event) → ((o p : ℕ) → (page_on header 0 o p past).here ≡ false) → ((o : ℕ) → live_control 0 o past ≡ None) → IsSwept header 0 past
+bare past pages controls =
+    record {
+      pages = λ o p ours unreached. pages o p;
+      controls = λ o ours unreached. controls o;
+      declared_pages = λ o p below unheld. pages o p;
+      declared_controls = λ o below unheld. controls o;
+    }
+
+-- the task holds the file, and beside it there is nothing on the host to which no region leads
+held : (past : List Event) → (IsUnheld header 0 0 past → ⊥) → ((o p : ℕ) → (0 == o) ≡ false → (Reach header 0 o past → ⊥) → (page_on header 0 o p past).here ≡ false) → ((o : ℕ) → (0 == o) ≡ false → live_control 0 o past ≡ None)
+    → IsSwept header 0 past
+held past holds pages controls =
+    record {
+      pages = λ o p ours unreached. pages o p (other o ours) unreached;
+      controls = λ o ours unreached. controls o (other o ours);
+      declared_pages = λ o p below unheld. absurd (holds (of_file o below unheld));
+      declared_controls = λ o below unheld. absurd (holds (of_file o below unheld));
+    }
+  where
+    other : (o : ℕ) → 1 ≤ o → (0 == o) ≡ false
+    other o ours = grind (arith, nat_tests)
+
+    of_file : (o : ℕ) → o < 1 → IsUnheld header 0 o past → IsUnheld header 0 0 past
+    of_file o below unheld = let first : o ≡ 0 = omega (arith, below) in subst (λ (k : ℕ). IsUnheld header 0 k past) first unheld
+
+clash : true ≡ false → ⊥
+clash is = absurd (cc)
+
+nothing_opened : IsSwept header 0 opened
+nothing_opened = held opened (λ unheld. clash (unheld 0 refl)) (λ o p other unreached. rw other refl) (λ o other. rw other refl)
+
+nothing_settles : IsSwept header 0 settles
+nothing_settles = held settles (λ unheld. clash (unheld 0 refl)) (λ o p other unreached. rw other refl) (λ o other. rw other refl)
+
+nothing_readied : IsSwept header 0 readied
+nothing_readied = held readied (λ unheld. clash (unheld 0 refl)) (λ o p other unreached. rw other refl) (λ o other. rw other refl)
+
+nothing_settled : IsSwept header 0 settled
+nothing_settled = held settled (λ unheld. clash (unheld 0 refl)) (λ o p other unreached. rw other refl) (λ o other. rw other refl)
+
+nothing_asked : IsSwept header 0 asked
+nothing_asked = held asked (λ unheld. clash (unheld 0 refl)) (λ o p other unreached. rw other refl) (λ o other. rw other refl)
+
+nothing_settles_again : IsSwept header 0 settles_again
+nothing_settles_again = held settles_again (λ unheld. clash (unheld 0 refl)) (λ o p other unreached. rw other refl) (λ o other. rw other refl)
+
+nothing_supplied : IsSwept header 0 supplied
+nothing_supplied = held supplied (λ unheld. clash (unheld 0 refl)) (λ o p other unreached. rw other refl) (λ o other. rw other refl)
+
+-- of other objects than the file and that of the filled region nothing is here
+elsewhere : (o p : ℕ) → (0 == o) ≡ false → (1 == o) ≡ false → (page_on header 0 o p unended.history).here ≡ false
+elsewhere o p other also = passes (1 == o) also (page_on header 0 o p (event.Taken down (message.Supply page 0 false zero_page) ∷ supplied)) zero_page (taken o p other)
+  where
+    taken : (q r : ℕ) → (0 == q) ≡ false → (page_on header 0 q r (event.Taken down (message.Supply page 0 false zero_page) ∷ supplied)).here ≡ false
+    taken q r apart = rw apart refl
+
+    passes : (b : Bool) → b ≡ false → (seen : Local) (bytes : List ℕ) → seen.here ≡ false → (local_after 16 (if b && (0 == p) then Raises bytes else Elsewhere) seen).here ≡ false
+    passes true is seen bytes gone = absurd (clash is)
+    passes false is seen bytes gone = gone
+
+-- the copied page is here, and the region that was filled leads to it
+nothing_left : IsSwept header 0 history
+nothing_left = held history (λ unheld. clash (unheld 0 refl)) pages (λ o other. rw other refl)
+  where
+    pages : (o p : ℕ) → (0 == o) ≡ false → (Reach header 0 o history → ⊥) → (page_on header 0 o p history).here ≡ false
+    pages o p other unreached = by (1 == o) refl
+      where
+        by : (b : Bool) → (1 == o) ≡ b → (page_on header 0 o p history).here ≡ false
+        by true is = absurd (unreached (subst (λ (k : ℕ). Reach header 0 k history) (number_is 1 o is) (1, 0, refl, refl)))
+        by false is = elsewhere o p other is
+
+-- nobody waits in vain
+
+neither : (b : Bool) → ◌≡◌ {A = Option Access} (if b then None else None) None
+neither true = refl
+neither false = refl
+
+ended : (b : Bool) → ◌≡◌ {A = Option Access} (if b then None else (if b then Some (Copying 0 16 32) else (if b then None else None))) None
+ended true = refl
+ended false = refl
+
+-- the copy is the only access that waits
+only : (t : ℕ) (access : Access) → (if 0 == t then Some (Copying 0 16 32) else (if 0 == t then None else None)) ≡ Some access → (0 ≡ t) × (Copying 0 16 32 ≡ access)
+only t access is = by (0 == t) refl is
+  where
+    by : (b : Bool) → (0 == t) ≡ b → (if b then Some (Copying 0 16 32) else (if b then None else None)) ≡ Some access → (0 ≡ t) × (Copying 0 16 32 ≡ access)
+    by true first e = (number_is 0 t first, let same : Copying 0 16 32 ≡ access = cc in same)
+    by false other e = absurd (let bad : ◌≡◌ {A = Option Access} None (Some access) = e in cc)
+
+-- it waits for the page of the file, which is asked
+copying : (past : List Event) → ((t : ℕ) (access : Access) → waiting t past ≡ Some access → (0 ≡ t) × (Copying 0 16 32 ≡ access)) → Waits header 0 (Copying 0 16 32) past → WaitsForPager header 0 0 (Copying 0 16 32) past
+    → IsSwept header 0 past → PromptAt header 0 past
+copying past one waits pager swept =
+    record {
+      leads = λ t access is lives. of (λ k a. Waits header k a past) t access (one t access is) waits;
+      waits = λ t access w on. inl (of (λ k a. WaitsForPager header 0 k a past) t access (one t access w.waits) pager);
+      swept = swept;
+    }
+  where
+    of : (P : ℕ → Access → Type 0) (t : ℕ) (access : Access) → (0 ≡ t) × (Copying 0 16 32 ≡ access) → P 0 (Copying 0 16 32) → P t access
+    of P t access is p = subst (λ (k : ℕ). P k access) is.0 (subst (λ (a : Access). P 0 a) is.1 p)
+
+abbrev entry : Entry
+entry = record { address = 0; bytes = 16; region = mapped; offset = 0; prot = both; inherit = Share }
+
+abbrev waits_asked : Waits header 0 (Copying 0 16 32) asked
+waits_asked = record { waits = refl; at = record { host = 0; entry = entry; lives = refl; found = refl }; left = omega arith }
+
+abbrev waits_settles_again : Waits header 0 (Copying 0 16 32) settles_again
+waits_settles_again = record { waits = refl; at = record { host = 0; entry = entry; lives = refl; found = refl }; left = omega arith }
+
+abbrev waits_supplied : Waits header 0 (Copying 0 16 32) supplied
+waits_supplied = record { waits = refl; at = record { host = 0; entry = entry; lives = refl; found = refl }; left = omega arith }
+
+prompt_asked : Prompt header asked
+prompt_asked =
+    one_host header refl asked
+    (copying asked only waits_asked (record { waits = waits_asked; on_host = refl; object = 0; page = 0; place = record { top = 0; top_page = 0; steps = 0; is_top = record { object = refl; page = refl }; leads = (refl, refl) }; what = AnAnswer refl })
+    nothing_asked)
+
+prompt_settles_again : Prompt header settles_again
+prompt_settles_again =
+    one_host header refl settles_again
+    (copying settles_again only waits_settles_again
+    (record { waits = waits_settles_again; on_host = refl; object = 0; page = 0; place = record { top = 0; top_page = 0; steps = 0; is_top = record { object = refl; page = refl }; leads = (refl, refl) }; what = AnAnswer refl })
+    nothing_settles_again)
+
+prompt_supplied : Prompt header supplied
+prompt_supplied =
+    one_host header refl supplied
+    (copying supplied only waits_supplied
+    (record { waits = waits_supplied; on_host = refl; object = 0; page = 0; place = record { top = 0; top_page = 0; steps = 0; is_top = record { object = refl; page = refl }; leads = (refl, refl) }; what = AnAnswer refl })
+    nothing_supplied)
+
+idle : (past : List Event) → ((t : ℕ) → waiting t past ≡ None) → IsSwept header 0 past → Prompt header past
+idle past none swept = one_host header refl past (nobody header past none swept)
+
+prompts : BeforeSteps (Prompt header) history
+prompts = (
+  prompt_supplied,
+  (
+    prompt_settles_again,
+    (
+      prompt_asked,
+      (
+        idle settled (λ t. neither (0 == t)) nothing_settled,
+        (
+          idle readied (λ t. neither (0 == t)) nothing_readied,
+          (
+            idle settles (λ t. neither (0 == t)) nothing_settles,
+            (
+              idle opened (λ t. neither (0 == t)) nothing_opened,
+              (idle made (λ t. neither (0 == t)) (bare made (λ o p. refl) (λ o. refl)), (idle [] (λ t. refl) (bare [] (λ o p. refl) (λ o. refl)), tt)),
+            ),
+          ),
+        ),
+      ),
+    ),
+  ),
+)
+
+prompt_now : Prompt header history
+prompt_now = idle history (λ t. ended (0 == t)) nothing_left
+
+-- what steps owe
+
+abbrev message_in : Option Letter → Option Message
+message_in None = None
+message_in (Some letter) = Some letter.message
+
+abbrev object_up : Channel → ℕ
+object_up (Up at object) = object.0
+object_up (Down at object control) = 0
+
+abbrev object_in : Option Letter → ℕ
+object_in None = 0
+object_in (Some letter) = object_up letter.channel
+
+abbrev page_in : Message → ℕ
+page_in (message.Request control at access) = at.0
+page_in other = 0
+
+abbrev asked_page : Option Letter → ℕ
+asked_page None = 0
+asked_page (Some letter) = page_in letter.message
+
+abbrev told : Option Message
+told = Some (message.Init 1 16)
+
+abbrev demanded : Option Message
+demanded = Some (message.Request 1 page 1)
+
+-- the pager that was told of its object is ready
+paid_readied : IsPaid header readied
+paid_readied =
+    record {
+      none_owed = refl;
+      init = λ h o k size ours is. subst (λ (x : ℕ). since (readies x) readied ≡ true) (ap object_in is) refl;
+      create = λ h o k size ours is. no_create k size (ap message_in is);
+      request = λ h o k p access ours is. no_request_in k p access (ap message_in is);
+      error = λ h o p is. absurd (cc);
+      absence = λ h o p ours is. absurd (cc);
+      lock = λ request is. no_request request readied refl is;
+      slot = λ h o k p dirty keep bytes ours is lacks. no_return k p dirty keep bytes (ap message_in is);
+    }
+  where
+    no_create : {A : Type 0} (k size : ℕ) → told ≡ Some (message.Create k size) → A
+    no_create k size is = absurd (cc)
+
+    no_request_in : {A : Type 0} (k p access : ℕ) → told ≡ Some (message.Request k (record { 0 = p }) access) → A
+    no_request_in k p access is = absurd (cc)
+
+    no_return : {A : Type 0} (k p : ℕ) (dirty keep : Bool) (bytes : List ℕ) → told ≡ Some (message.Return k (record { 0 = p }) dirty keep bytes) → A
+    no_return k p dirty keep bytes is = absurd (cc)
+
+-- the one that was asked for a page has answered
+paid_supplied : IsPaid header supplied
+paid_supplied =
+    record {
+      none_owed = refl;
+      init = λ h o k size ours is. no_init k size (ap message_in is);
+      create = λ h o k size ours is. no_create k size (ap message_in is);
+      request = λ h o k p access ours is. subst (λ (x : ℕ). since (answers x p) supplied ≡ true) (ap object_in is) (subst (λ (y : ℕ). since (answers 0 y) supplied ≡ true) (ap asked_page is) refl);
+      error = λ h o p is. absurd (cc);
+      absence = λ h o p ours is. absurd (cc);
+      lock = λ request is. no_request request supplied refl is;
+      slot = λ h o k p dirty keep bytes ours is lacks. no_return k p dirty keep bytes (ap message_in is);
+    }
+  where
+    no_init : {A : Type 0} (k size : ℕ) → demanded ≡ Some (message.Init k size) → A
+    no_init k size is = absurd (cc)
+
+    no_create : {A : Type 0} (k size : ℕ) → demanded ≡ Some (message.Create k size) → A
+    no_create k size is = absurd (cc)
+
+    no_return : {A : Type 0} (k p : ℕ) (dirty keep : Bool) (bytes : List ℕ) → demanded ≡ Some (message.Return k (record { 0 = p }) dirty keep bytes) → A
+    no_return k p dirty keep bytes is = absurd (cc)
+
+all_paid : BeforeSteps (IsPaid header) history
+all_paid = (
+  paid_supplied,
+  (
+    owes_nothing header settles_again refl refl refl refl refl,
+    (
+      owes_nothing header asked refl refl refl refl refl,
+      (
+        owes_nothing header settled refl refl refl refl refl,
+        (
+          paid_readied,
+          (
+            owes_nothing header settles refl refl refl refl refl,
+            (owes_nothing header opened refl refl refl refl refl, (owes_nothing header made refl refl refl refl refl, (owes_nothing header [] refl refl refl refl refl, tt))),
+          ),
+        ),
+      ),
+    ),
+  ),
+)
+
+paid_now : IsPaid header history
+paid_now = owes_nothing header history refl refl refl refl refl
+
+all_ended : BeforeSteps (EndsAll header) history
+all_ended = (
+  ends_nobody header supplied refl,
+  (
+    ends_nobody header settles_again refl,
+    (
+      ends_nobody header asked refl,
+      (
+        ends_nobody header settled refl,
+        (ends_nobody header readied refl, (ends_nobody header settles refl, (ends_nobody header opened refl, (ends_nobody header made refl, (ends_nobody header [] refl, tt))))),
+      ),
+    ),
+  ),
+)
+
+-- each command has its group
+
+abbrev map_group : List Event
+map_group = event.Sent up (message.Init 1 16) ∷ event.Entered task 0 16 mapped 0 both Share ∷ []
+
+map_in_turn : AllInTurn header outside (command.Map task 0 16 file 0) map_group (event.Line 5 ∷ made)
+map_in_turn = (
+  (record { number = refl; sized = refl; declared = omega arith; none = refl; task = 0; address = 0; at = record { host = 0; entry = entry; lives = refl; found = refl }; on_host = refl; region = refl }, tt),
+  ((record { idle = refl; host = 0; lives = refl; whole = refl; inside = omega arith; made = omega arith; used = λ above. refl; file = λ is. refl; unfilled = refl }, tt), tt),
+)
+
+abbrev ready_group : List Event
+ready_group = event.Taken down (message.Ready false 0) ∷ event.Sent down (message.Ready false 0) ∷ event.Taken up (message.Init 1 16) ∷ []
+
+ready_in_turn : AllInTurn header outside (command.Settle 100) ready_group settles
+ready_in_turn = (((refl, (refl, omega arith)), tt), (((16, refl, refl, inr (refl, refl)), tt), (((refl, (refl, omega arith)), tt), tt)))
+
+abbrev copy_group : List Event
+copy_group = event.Sent up (message.Request 1 page 1) ∷ event.RegionMade filled copied 1 ∷ event.BegunCopy task 0 16 32 ∷ []
+
+copy_in_turn : AllInTurn header outside (command.Copy task 0 16 task 32) copy_group (event.Line 7 ∷ settled)
+copy_in_turn = (
+  (record { task = 0; access = Copying 0 16 32; waits = record { waits = refl; at = record { host = 0; entry = entry; lives = refl; found = refl }; left = omega arith }; on_host = refl; unmarked = λ store. refl; comes = record { top = 0; top_page = 0; steps = 0; is_top = record { object = refl; page = refl }; walks = (refl, refl) }; number = refl; live = refl; ready = refl; away = refl; unasked = refl; known = refl }, tt),
+  (((refl, refl), tt), ((refl, tt), tt)),
+)
+
+-- the page comes, and is copied; the copy ends, and right behind that stands the entry of what it filled
+abbrev page_group : List Event
+page_group =
+    event.Entered task 32 16 filled 0 both Copy ∷
+    event.CopyEnded task ∷
+    event.CopiedPage task page file page copied ∷
+    event.Taken down (message.Supply page 0 false zero_page) ∷
+    event.Sent down (message.Supply page 0 false zero_page) ∷
+    event.Taken up (message.Request 1 page 1) ∷
+    []
+
+page_in_turn : AllInTurn header outside (command.Settle 100) page_group settles_again
+page_in_turn = (
+  (record { idle = refl; host = 0; lives = refl; whole = refl; inside = omega arith; made = omega arith; used = λ above. refl; file = λ is. refl; unfilled = refl }, refl),
+  (
+    (record { address = 0; bytes = 16; to = 32; waits = refl; all = refl }, tt),
+    (
+      (record { address = 0; bytes = 16; to = 32; waits = record { waits = refl; at = record { host = 0; entry = entry; lives = refl; found = refl }; left = omega arith }; next = refl; declared = omega arith; supplied = refl; is_top = record { object = refl; page = refl }; here = refl; region = 1; filled = refl; inside = omega arith; away = refl; unasked = refl }, tt),
+      (
+        ((refl, (refl, omega arith)), tt),
+        (
+          ((record { access = 1; taken = refl; unanswered = refl }, record { kept = refl; read = refl }, refl, refl, λ temporary. never (sym temporary), λ told. never told), tt),
+          (((refl, (refl, omega arith)), tt), tt),
+        ),
+      ),
+    ),
+  ),
+)
+
+follows : FollowsInTurn header outside commands history
+follows = (
+  asked,
+  page_group,
+  refl,
+  record { more = page_group; is = refl; follows = (refl, (tt, (tt, (tt, (tt, (tt, tt)))))); licensed = page_in_turn },
+  inr refl,
+  (
+    settled,
+    copy_group,
+    refl,
+    record { more = event.Sent up (message.Request 1 page 1) ∷ []; is = refl; follows = (tt, tt); licensed = copy_in_turn },
+    tt,
+    (
+      opened,
+      ready_group,
+      refl,
+      record { more = ready_group; is = refl; follows = (tt, (tt, (tt, tt))); licensed = ready_in_turn },
+      inr refl,
+      (
+        made,
+        map_group,
+        refl,
+        record { more = []; is = refl; follows = tt; licensed = map_in_turn },
+        tt,
+        ([], event.TaskMade task host ∷ [], refl, record { more = []; is = refl; follows = tt; licensed = ((tt, tt), tt) }, tt, refl),
+      ),
+    ),
+  ),
+)
+
+pub canonical : CanonicalFor header outside commands history
+canonical =
+    record {
+      follows = follows;
+      holds =
+          record {
+            own_bytes = own_bytes;
+            flat_bytes = flat_bytes;
+            frames = frames;
+            prompt = prompts;
+            paid = all_paid;
+            served = each_step (AllServed header) (served header unshared) history;
+            one_writer = one_writer header unshared history;
+            pages = λ o p shared. not_shared header unshared o shared;
+          };
+      rests = record { prompt = prompt_now; paid = paid_now; served = served header unshared history };
+      ended = all_ended;
+      last = ends_nobody header history refl;
+      recalled = each_step (AllRecalled header) (recalls header unshared) history;
+      recalls = recalls header unshared history;
+    }

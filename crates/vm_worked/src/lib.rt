@@ -1,0 +1,25 @@
+//! Worked histories: what is canonical, what is legal and not canonical, and what isn't legal.
+//!
+//! They are lists of events that stand here whole, the newest first, so that the definitions of what a history has to be are seen
+//! to hold of something, and to refuse something.
+#![tactic(auto)]
+
+ghost use Rattle.std.specs.Prelude.{List};
+ghost use Rattle.vm_model.specs.declared.command.Numbered.{Numbered};
+ghost use Rattle.vm_legal.specs.Legal.{CanonicalFor, LegalFor};
+ghost use Rattle.vm_quiet.specs.Unended as unended;
+ghost use Rattle.vm_worked.specs.Worked as worked;
+
+/// A whole history that is as the rules give it for its commands: a task maps a file of one page, and copies the page to an address
+/// of its own. The copy is a slow one, which waits for the file's pager; when the page has come it is copied, the copy ends, and its
+/// task gets the entry. So it is legal too.
+pub fn a_run_with_a_slow_copy_is_canonical()
+    ensures canonical { CanonicalFor worked.header worked.outside worked.commands worked.history }
+    ensures legal { LegalFor worked.header worked.outside worked.commands worked.history }
+{}
+
+/// The same history without its last two events, in which the copy never ends, is not legal, whatever the commands are: the task
+/// still waits behind the last step, and has no page left to wait for.
+pub fn a_copy_that_never_ends_is_not_legal()
+    ensures { (commands : List Numbered) → LegalFor unended.header unended.outside commands unended.history → ⊥ }
+{}
