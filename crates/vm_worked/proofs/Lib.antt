@@ -1,2 +1,4 @@
 pub mod SlowCopy
 pub mod Steps
+pub mod Swapped
+pub mod Turns

@@ -32,7 +32,7 @@ use Rattle.vm_quiet.proofs.Letters.{never}
 use Rattle.vm_quiet.specs.Unended.{copied, down, file, filled, host, mapped, page, task, up, zero_page}
 use Rattle.vm_quiet.specs.Unended as unended
 use Rattle.vm_worked.specs.Worked.{both, commands, header, history, outside}
-use Rattle.vm_worked.proofs.Steps.{each_step, ends_nobody, nobody, number_is, one_host, one_writer, owes_nothing, recalls, served, suffice, not_shared}
+use Rattle.vm_worked.proofs.Steps.{clash, each_step, ends_nobody, nobody, number_is, one_host, one_writer, owes_nothing, recalls, served, suffice, not_shared}
 
 -- the moments at which a step has ended
 
@@ -108,9 +108,6 @@ held past holds pages controls =
 
     of_file : (o : ℕ) → o < 1 → IsUnheld header 0 o past → IsUnheld header 0 0 past
     of_file o below unheld = let first : o ≡ 0 = omega (arith, below) in subst (λ (k : ℕ). IsUnheld header 0 k past) first unheld
-
-clash : true ≡ false → ⊥
-clash is = absurd (cc)
 
 nothing_opened : IsSwept header 0 opened
 nothing_opened = held opened (λ unheld. clash (unheld 0 refl)) (λ o p other unreached. rw other refl) (λ o other. rw other refl)
@@ -218,9 +215,6 @@ prompt_supplied =
     (record { waits = waits_supplied; on_host = refl; object = 0; page = 0; place = record { top = 0; top_page = 0; steps = 0; is_top = record { object = refl; page = refl }; leads = (refl, refl) }; what = AnAnswer refl })
     nothing_supplied)
 
-idle : (past : List Event) → ((t : ℕ) → waiting t past ≡ None) → IsSwept header 0 past → Prompt header past
-idle past none swept = one_host header refl past (nobody header past none swept)
-
 prompts : BeforeSteps (Prompt header) history
 prompts = (
   prompt_supplied,
@@ -229,14 +223,14 @@ prompts = (
     (
       prompt_asked,
       (
-        idle settled (λ t. neither (0 == t)) nothing_settled,
+        nobody header refl settled (λ t. neither (0 == t)) nothing_settled,
         (
-          idle readied (λ t. neither (0 == t)) nothing_readied,
+          nobody header refl readied (λ t. neither (0 == t)) nothing_readied,
           (
-            idle settles (λ t. neither (0 == t)) nothing_settles,
+            nobody header refl settles (λ t. neither (0 == t)) nothing_settles,
             (
-              idle opened (λ t. neither (0 == t)) nothing_opened,
-              (idle made (λ t. neither (0 == t)) (bare made (λ o p. refl) (λ o. refl)), (idle [] (λ t. refl) (bare [] (λ o p. refl) (λ o. refl)), tt)),
+              nobody header refl opened (λ t. neither (0 == t)) nothing_opened,
+              (nobody header refl made (λ t. neither (0 == t)) (bare made (λ o p. refl) (λ o. refl)), (nobody header refl [] (λ t. refl) (bare [] (λ o p. refl) (λ o. refl)), tt)),
             ),
           ),
         ),
@@ -246,7 +240,7 @@ prompts = (
 )
 
 prompt_now : Prompt header history
-prompt_now = idle history (λ t. ended (0 == t)) nothing_left
+prompt_now = nobody header refl history (λ t. ended (0 == t)) nothing_left
 
 -- what steps owe
 

@@ -32,6 +32,9 @@ second_of : (a b : Bool) → a && b ≡ true → b ≡ true
 second_of true b is = is
 second_of false b is = never is
 
+pub clash : true ≡ false → ⊥
+clash is = absurd (cc)
+
 -- nothing is shared
 
 pub not_shared : {A : Type 0} (header : Header) → NoneIsShared header → (o : ℕ) → is_shared header o ≡ true → A
@@ -106,16 +109,17 @@ ends_nobody header past none h o p is task waits free = absurd (cc)
 no_access : {A : Type 0} (access : Access) → ◌≡◌ {A = Option Access} None (Some access) → A
 no_access access is = absurd (cc)
 
--- where nobody waits nobody waits in vain
-pub nobody : (header : Header) (past : List Event) → ((task : ℕ) → waiting task past ≡ None) → IsSwept header 0 past → PromptAt header 0 past
-nobody header past none swept =
-    record {
-      leads = λ t access is lives. no_access access (sym (none t) ∙ is);
-      waits = λ t access waits on. no_access access (sym (none t) ∙ waits.waits);
-      swept = swept;
-    }
-
 -- there is one host
 pub one_host : (header : Header) → length header.frames.items ≡ 1 → (past : List Event) → PromptAt header 0 past → Prompt header past
 one_host header one past at zero below = at
 one_host header one past at (suc h) below = absurd (omega (arith, below, one))
+
+-- where nobody waits nobody waits in vain
+pub nobody : (header : Header) → length header.frames.items ≡ 1 → (past : List Event) → ((task : ℕ) → waiting task past ≡ None) → IsSwept header 0 past → Prompt header past
+nobody header one past none swept =
+    one_host header one past
+    (record {
+      leads = λ t access is lives. no_access access (sym (none t) ∙ is);
+      waits = λ t access waits on. no_access access (sym (none t) ∙ waits.waits);
+      swept = swept;
+    })

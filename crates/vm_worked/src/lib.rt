@@ -8,6 +8,7 @@ ghost use Rattle.std.specs.Prelude.{List};
 ghost use Rattle.vm_model.specs.declared.command.Numbered.{Numbered};
 ghost use Rattle.vm_legal.specs.Legal.{CanonicalFor, LegalFor};
 ghost use Rattle.vm_quiet.specs.Unended as unended;
+ghost use Rattle.vm_worked.specs.Swapped as swapped;
 ghost use Rattle.vm_worked.specs.Worked as worked;
 
 /// A whole history that is as the rules give it for its commands: a task maps a file of one page, and copies the page to an address
@@ -18,8 +19,16 @@ pub fn a_run_with_a_slow_copy_is_canonical()
     ensures legal { LegalFor worked.header worked.outside worked.commands worked.history }
 {}
 
-/// The same history without its last two events, in which the copy never ends, is not legal, whatever the commands are: the task
-/// still waits behind the last step, and has no page left to wait for.
+/// The same history without its last two events, in which the copy never ends, is legal for no commands: the task still waits behind
+/// the last step, and has no page left to wait for.
 pub fn a_copy_that_never_ends_is_not_legal()
     ensures { (commands : List Numbered) → LegalFor unended.header unended.outside commands unended.history → ⊥ }
+{}
+
+/// A whole history that is legal, and not the one that the rules give: a task loads both pages of fresh memory, and ends, and the
+/// second page goes before the first. To be legal a page of an object to which no region leads may go at any time; but the rules take
+/// the pages of an object that ends by rising number. So it is canonical for no commands.
+pub fn legal_and_not_canonical()
+    ensures legal { LegalFor swapped.header swapped.outside swapped.commands swapped.history }
+    ensures not_canonical { (commands : List Numbered) → CanonicalFor swapped.header swapped.outside commands swapped.history → ⊥ }
 {}
