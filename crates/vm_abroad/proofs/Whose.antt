@@ -7,13 +7,13 @@ use Rattle.vm_model.specs.declared.event.Event.TheVariants as event
 use Rattle.vm_model.specs.declared.message.Channel.TheVariants.{Up, Down}
 use Rattle.vm_model.specs.declared.script.Header.{Header}
 use Rattle.vm_model.specs.Local.{is_on}
-use Rattle.vm_legal.specs.Homes.{EntersNext, begins_here, gives_frame, is_home}
+use Rattle.vm_legal.specs.Homes.{EntersNext, IsOnlyOfHost, begins_here, gives_frame, is_home}
 use Rattle.vm_legal.specs.Licences.{HasCause}
 use Rattle.vm_legal.specs.Living.{lives_on}
 use Rattle.vm_legal.specs.Outside.{Outside}
 use Rattle.vm_legal.specs.Stretches.{EachIn}
 use Rattle.vm_abroad.specs.Sound.{IsAbroad, Sound}
-use Rattle.vm_abroad.specs.Whose.{IsNewTask, IsOfHost, IsOnlyOfHost}
+use Rattle.vm_abroad.specs.Whose.{IsNewTask, IsOfHost}
 use Rattle.vm_abroad.proofs.Regions.{kind_of}
 use Rattle.vm_abroad.proofs.Sounds.{both_left, one_home, shut_before, used_of}
 

@@ -1,16 +1,12 @@
 -- An event of one host is no other's.
-use Rattle.std.specs.Prelude.{ℕ, ◌≡◌, true, false, List, None}
+use Rattle.std.specs.Prelude.{ℕ, ◌≡◌, false, List, None}
 use Rattle.vm_model.specs.declared.event.Event.{Event}
 use Rattle.vm_model.specs.declared.event.Event.TheVariants as event
 use Rattle.vm_model.specs.declared.script.Header.{Header}
 use Rattle.vm_model.specs.Tasks.{host_of}
-use Rattle.vm_legal.specs.Homes.{EntersNext, is_home, is_open}
+use Rattle.vm_legal.specs.Homes.{EntersNext, IsOnlyOfHost, is_open}
 use Rattle.vm_legal.specs.Licences.{HasCause}
 use Rattle.vm_legal.specs.Outside.{Outside}
-
--- whosever the event is, it is this host's
-abbrev pub IsOnlyOfHost : Header → ℕ → Event → List Event → Type 0
-IsOnlyOfHost header g e past = (h : ℕ) → is_home header h e past ≡ true → h ≡ g
 
 -- a task that begins doesn't live yet
 abbrev pub IsNewTask : Event → List Event → Type 0

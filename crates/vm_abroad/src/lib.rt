@@ -15,7 +15,7 @@ ghost use Rattle.vm_model.specs.Moments.{EachEvent};
 ghost use Rattle.vm_legal.specs.Accesses.{is_ready};
 ghost use Rattle.vm_legal.specs.Follows.{FollowsSoFar};
 ghost use Rattle.vm_legal.specs.Frames.{frames_after, frames_held, frames_wired, returns_out};
-ghost use Rattle.vm_legal.specs.Homes.{EntersNext, is_home};
+ghost use Rattle.vm_legal.specs.Homes.{EntersNext, IsOnlyOfHost, is_home};
 ghost use Rattle.vm_legal.specs.Licences.{HasCause};
 ghost use Rattle.vm_legal.specs.Outside.{Outside};
 ghost use Rattle.vm_legal.specs.Prompt.{EachLeads, HostIsFull, IsSwept, NoneInVain};
@@ -24,7 +24,7 @@ ghost use Rattle.vm_abroad.specs.Own.{own_change, own_effect, own_last, own_live
 ghost use Rattle.vm_abroad.specs.Run as run;
 ghost use Rattle.vm_abroad.specs.Same.{SameFacts, SameForHost};
 ghost use Rattle.vm_abroad.specs.Sound.{IsAbroad, Knows, Sound};
-ghost use Rattle.vm_abroad.specs.Whose.{IsNewTask, IsOfHost, IsOnlyOfHost, IsShut};
+ghost use Rattle.vm_abroad.specs.Whose.{IsNewTask, IsOfHost, IsShut};
 
 /// Where regions are in use, and what their tables say of one host, it reads the same behind events that
 /// are nothing to it; and so it goes on.

@@ -10,7 +10,7 @@ pub use Rattle.vm_abroad.proofs.Sounds.{sound_start}
 pub use Rattle.vm_abroad.proofs.Whose.{abroad_of_own, own_of_home}
 pub use Rattle.vm_abroad.specs.Home.{copying_host, first_of as first_home, home_of}
 pub use Rattle.vm_abroad.specs.Sound.{IsAbroad}
-pub use Rattle.vm_abroad.specs.Whose.{IsNewTask, IsOfHost, IsOnlyOfHost}
+pub use Rattle.vm_abroad.specs.Whose.{IsNewTask, IsOfHost}
 pub use Rattle.vm_base.specs.declared.code.Code.{Code}
 pub use Rattle.vm_base.specs.declared.ids.HostId.{HostId}
 pub use Rattle.vm_base.specs.declared.ids.ObjectId.{ObjectId}
@@ -36,7 +36,7 @@ pub use Rattle.vm_legal.specs.InTurn.{WaitsAt}
 pub use Rattle.vm_legal.specs.Follows.{IsConsequence}
 pub use Rattle.vm_legal.specs.InTurn.{IsDoneInTurn}
 pub use Rattle.vm_legal.specs.Frames.{FramesSuffice, Suffice, frames_free, frames_used}
-pub use Rattle.vm_legal.specs.Homes.{EntersNext, gives_frame, is_home}
+pub use Rattle.vm_legal.specs.Homes.{EntersNext, IsOnlyOfHost, gives_frame, is_home}
 pub use Rattle.vm_legal.specs.Licences.{HasCause, IsBehind, PagerSends, ReturnsOn, Says, owed, zeroes}
 pub use Rattle.vm_legal.specs.InTurn.{AllInTurn, LicensedInTurn}
 pub use Rattle.vm_legal.specs.Outside.{Outside, is_file, is_file_kept, is_file_kind, kind_in, kind_of}
@@ -62,5 +62,6 @@ pub use Rattle.vm_objects.specs.declared.row.ObjectRow.{ObjectRow}
 pub use Rattle.vm_shadow.specs.declared.ids.Ids.{Ids}
 pub use native.Mathlib.Decide.{ℕ_discrete}
 pub use Rattle.vm_hosts.specs.Hosts.{AllQueued, AllRest, AreNew, HostTable, knows_file}
-pub use Rattle.vm_hosts.specs.Steps.{ActsOn, Began, EndsInTurn, EventsFollow, Heads, PagerStep, PartInTurn, ServeInTurn, Stretch, Went}
-pub use Rattle.vm_hosts.specs.Steps.ServeInTurn.{NextServes, NoneServed}
+pub use Rattle.vm_hosts.specs.Steps.{ActsOn, Began, EventsFollow, Heads, PagerStep, PartInTurn, Stretch, Went}
+pub use Rattle.vm_legal.specs.Serving.{EndsInTurn, ServeInTurn}
+pub use Rattle.vm_legal.specs.Serving.ServeInTurn.{NextServes, NoneServed}

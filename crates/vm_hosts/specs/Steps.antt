@@ -1,5 +1,5 @@
 -- What the hosts do in a step.
-use Rattle.std.specs.Prelude.{ℕ, suc, ◌≡◌, ◌<◌, Bool, true, List, [], ◌∷◌, ◌++◌, length, reverse, Some}
+use Rattle.std.specs.Prelude.{ℕ, ◌≡◌, ◌<◌, Bool, true, List, [], ◌∷◌, ◌++◌, length, reverse, Some}
 use Rattle.vm_base.specs.declared.ids.HostId.{HostId}
 use Rattle.vm_base.specs.declared.ids.ObjectId.{ObjectId}
 use Rattle.vm_model.specs.declared.command.Command.{Command}
@@ -17,8 +17,8 @@ use Rattle.vm_legal.specs.Homes.{gives_frame}
 use Rattle.vm_legal.specs.InTurn.{AllInTurn}
 use Rattle.vm_legal.specs.Outside.{Outside}
 use Rattle.vm_legal.specs.Prompt.{Prompt}
+use Rattle.vm_legal.specs.Serving.{EndsInTurn, ServeInTurn}
 use Rattle.vm_legal.specs.Stretches.{AllInner, EachIn, EachOf, MomentsIn}
-use Rattle.vm_abroad.specs.Whose.{IsOnlyOfHost}
 use Rattle.vm_kernel.specs.Abroad.{IsNobodys}
 use Rattle.vm_kernel.specs.Begun.{SomeKernelSays, acts_on}
 use Rattle.vm_hosts.specs.Hosts.{AllQueued, AllRest, HostTable}
@@ -57,20 +57,6 @@ pub record StepHasEnded (header : Header) (hosts : HostTable) (past : List Event
   pub rests : AllRest header hosts past
   pub queues : AllQueued header hosts past
   pub prompt : Prompt header past
-
--- The hosts below a number have served their frame queues, by rising number: the events of each stand together, behind those of the
--- hosts below it.
-pub data ServeInTurn (header : Header) (past : List Event) : ℕ → List Event → Type 0 where
-  NoneServed : ServeInTurn header past 0 []
-  NextServes : (h : ℕ) → (events more : List Event) → ServeInTurn header past h events → EachIn (IsOnlyOfHost header h) more (events ++ past) → ServeInTurn header past (suc h) (more ++ events)
-
--- what one host did, and then all hosts served their queues by rising number
-pub record EndsInTurn (header : Header) (host : ℕ) (past events : List Event) : Type 0 where
-  pub front : List Event
-  pub served : List Event
-  pub is : events ≡ served ++ front
-  pub own : EachIn (IsOnlyOfHost header host) front past
-  pub turns : ServeInTurn header (front ++ past) (length header.frames.items) served
 
 -- behind a message that a host has just taken stands what it did of it, and then all hosts serve; else they serve at once
 abbrev pub PartInTurn : Header → List Event → List Event → Type 0

@@ -17,7 +17,7 @@ pub use Rattle.vm_abroad.proofs.Waits.{leads_now, swept_now, vain_now}
 pub use Rattle.vm_abroad.specs.Home.{HaveHomes, home_of, object_home}
 pub use Rattle.vm_abroad.specs.Same.{SameFacts, SameForHost}
 pub use Rattle.vm_abroad.specs.Sound.{IsAbroad, IsAmong, IsHeldOn, IsRegionOf, Knows, Sound, holds}
-pub use Rattle.vm_abroad.specs.Whose.{IsOfHost, IsOnlyOfHost, IsShut}
+pub use Rattle.vm_abroad.specs.Whose.{IsOfHost, IsShut}
 pub use Rattle.vm_base.proofs.Options.{none_of}
 pub use Rattle.vm_base.specs.Entries.{AllWholePages, AreEntries, HasWholePages, InOrder, allows, by_address, cut, entered, entry_at, inherited, is_range, meets_range, most_entries, page_at, parts_in, protected, removed, rewritten}
 pub use Rattle.vm_base.specs.Pages.{IsAccessSize, little_endian, little_endian_bytes, with_bytes}
@@ -48,7 +48,7 @@ pub use Rattle.vm_legal.specs.InTurn.{WaitsAt}
 pub use Rattle.vm_legal.specs.Follows.{IsConsequence, head}
 pub use Rattle.vm_legal.specs.InTurn.{EndsNext, IsDoneInTurn, IsEnd}
 pub use Rattle.vm_legal.specs.Frames.{Suffice, frames_free, frames_held, frames_used, frames_wired, returns_out}
-pub use Rattle.vm_legal.specs.Homes.{EntersNext, begins_here, is_home, is_used, starts_copy}
+pub use Rattle.vm_legal.specs.Homes.{EntersNext, IsOnlyOfHost, begins_here, is_home, is_used, starts_copy}
 pub use Rattle.vm_legal.specs.Licences.{Created, Creates, Enters, Fails, GivesBack, HasCause, ReturnCause, ReturnsOn, Unreached, desired_access, owed}
 pub use Rattle.vm_legal.specs.InTurn.{AllInTurn, CausedInTurn, LicensedInTurn}
 pub use Rattle.vm_legal.specs.Living.{lives_on, tasks}

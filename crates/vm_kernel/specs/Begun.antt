@@ -12,7 +12,7 @@ use Rattle.vm_legal.specs.Bytes.{OwnBytes}
 use Rattle.vm_legal.specs.Follows.{IsConsequence, head}
 use Rattle.vm_legal.specs.InTurn.{IsDoneInTurn}
 use Rattle.vm_legal.specs.Frames.{Suffice}
-use Rattle.vm_legal.specs.Homes.{EntersNext}
+use Rattle.vm_legal.specs.Homes.{EntersNext, IsOnlyOfHost}
 use Rattle.vm_legal.specs.InTurn.{AllInTurn}
 use Rattle.vm_legal.specs.Living.{lives_on}
 use Rattle.vm_legal.specs.Outside.{Outside, is_file}
@@ -20,7 +20,6 @@ use Rattle.vm_legal.specs.Prompt.{PromptAt}
 use Rattle.vm_legal.specs.Refusal.{refusal}
 use Rattle.vm_legal.specs.Stretches.{AllInner, EachIn, EachOf, MomentsIn}
 use Rattle.vm_abroad.specs.Home.{home_of, object_home}
-use Rattle.vm_abroad.specs.Whose.{IsOnlyOfHost}
 use Rattle.vm_shadow.specs.declared.ids.Ids.{Ids}
 use Rattle.vm_kernel.specs.Matches.{HasOrder, HasWaits, Matches, Rests, host_id}
 use Rattle.vm_kernel.specs.Serving.{HasQueue}

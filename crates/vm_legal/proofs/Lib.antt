@@ -10,6 +10,7 @@ pub mod Owing
 pub mod Pageouts
 pub mod Paying
 pub mod Served
+pub mod Serving
 pub mod SoFar
 pub mod Stretched
 pub mod Turns

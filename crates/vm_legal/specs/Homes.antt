@@ -75,3 +75,7 @@ EntersNext e past = (region : ℕ) → is_open region past ≡ true → enters r
 -- in use on the host, but for the one moment at which a region is in use everywhere
 abbrev pub is_used : Header → ℕ → ℕ → List Event → Bool
 is_used header h region past = in_use header h region past && not (is_open region past)
+
+-- whosever the event is, it is this host's
+abbrev pub IsOnlyOfHost : Header → ℕ → Event → List Event → Type 0
+IsOnlyOfHost header g e past = (h : ℕ) → is_home header h e past ≡ true → h ≡ g

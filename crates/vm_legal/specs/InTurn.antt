@@ -23,6 +23,7 @@ use Rattle.vm_legal.specs.Frames.{frames_free}
 use Rattle.vm_legal.specs.Licences.{Caused, DeviceFails, DropCause, Drops, Ended, Fails, GivesBack, HasSlot, IsBackingOf, IsBehind, MaySendUp, ReturnCause, TakesReturn, Unreached}
 use Rattle.vm_legal.specs.Outside.{Outside, is_shared}
 use Rattle.vm_legal.specs.Prompt.{Awaits}
+use Rattle.vm_legal.specs.Serving.{HostsServed}
 use Rattle.vm_legal.specs.Steps.{before_step, error_taken, fails_task, since}
 use Rattle.vm_legal.specs.Walks.{page_on}
 
@@ -88,6 +89,11 @@ EndsWaiters header host object page past =
 -- whichever error the step took
 abbrev pub EndsAll : Header → List Event → Type 0
 EndsAll header past = (host object page : ℕ) → error_taken header.size past ≡ Some (record { host = host; object = object; page = page }) → EndsWaiters header host object page past
+
+-- a step that has ended has ended each access that waited for the page of its error, and its hosts have served by rising number
+pub record StepIsInTurn (header : Header) (past : List Event) : Type 0 where
+  pub ended : EndsAll header past
+  pub served : HostsServed header past
 
 -- the event ends the access of a task that did what it was to do
 abbrev pub IsEnd : ℕ → Event → Type 0

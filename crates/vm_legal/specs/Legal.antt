@@ -12,7 +12,7 @@ use Rattle.vm_legal.specs.Bytes.{OwnBytes, FlatBytes}
 use Rattle.vm_legal.specs.Debts.{IsPaid}
 use Rattle.vm_legal.specs.Follows.{Follows, FollowsSoFar}
 use Rattle.vm_legal.specs.Frames.{FramesSuffice}
-use Rattle.vm_legal.specs.InTurn.{AllRecalled, EndsAll, FollowsInTurn, FollowsSoFarInTurn}
+use Rattle.vm_legal.specs.InTurn.{AllRecalled, FollowsInTurn, FollowsSoFarInTurn, StepIsInTurn}
 use Rattle.vm_legal.specs.Outside.{Outside, is_shared}
 use Rattle.vm_legal.specs.Prompt.{AllServed, Prompt}
 use Rattle.vm_legal.specs.Walks.{page_on}
@@ -72,9 +72,9 @@ pub record CanonicalFor (header : Header) (outside : Outside) (commands : List N
   pub follows : FollowsInTurn header outside commands history
   pub holds : Holds header outside history
   pub rests : IsAtRest header history
-  -- whenever a step has ended, an error that it took has ended each access that waited for its page
-  pub ended : BeforeSteps (EndsAll header) history
-  pub last : EndsAll header history
+  -- whenever a step has ended, an error that it took has ended each access that waited for its page, and the hosts have served by rising number
+  pub ended : BeforeSteps (StepIsInTurn header) history
+  pub last : StepIsInTurn header history
   -- and of each page of shared memory all hosts that stand in the way of the first in line are awaited
   pub recalled : BeforeSteps (AllRecalled header) history
   pub recalls : AllRecalled header history
@@ -90,7 +90,7 @@ pub record CanonicalSoFar (script : Script) (outside : Outside) (history : List 
   pub follows : FollowsSoFarInTurn script.header outside run history
   pub holds : Holds script.header outside history
   pub rests : IsAtRest script.header history
-  pub ended : BeforeSteps (EndsAll script.header) history
-  pub last : EndsAll script.header history
+  pub ended : BeforeSteps (StepIsInTurn script.header) history
+  pub last : StepIsInTurn script.header history
   pub recalled : BeforeSteps (AllRecalled script.header) history
   pub recalls : AllRecalled script.header history

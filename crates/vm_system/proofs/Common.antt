@@ -113,7 +113,7 @@ pub use Rattle.vm_system.specs.Refusing.{channel_code, code_at}
 pub use Rattle.vm_system.specs.Sends.{AreFresh, Delivered, made_by, opened}
 pub use Rattle.vm_system.specs.Settling.{DevicesCounted, StaysOpen}
 pub use Rattle.vm_system.specs.Stands.{Agrees, AllFilesServe, AllServe, AllTold, AreEmpty, AreNamedApart, AreNumbered, FilesAreKept, IsSupplied, PagingIsKept, SystemStands}
-pub use Rattle.vm_system.specs.Steps.{DevicesHaveCause, EndsCut, GrowsWithinLimit, HasMore, IsBelowLimit, IsMemoryStop, KeepsCanonical, KeepsOpen, LeavesBacking, LegalCut, CanonicalOpen, MayBegin, MayCut, MayCutOpen, arms, devices, is_device, is_idle, is_kept_in, lined, settles, takes_any, takes_up, took_any, took_up}
+pub use Rattle.vm_system.specs.Steps.{DevicesHaveCause, EndsCut, GrowsWithinLimit, HasMore, IsBelowLimit, IsMemoryStop, KeepsCanonical, KeepsOpen, LeavesBacking, CanonicalCut, CanonicalOpen, MayBegin, MayCut, MayCutOpen, arms, devices, is_device, is_idle, is_kept_in, lined, settles, takes_any, takes_up, took_any, took_up}
 pub use Rattle.vm_system.specs.Takings.{Followed, MayBeCut, MayTakeFrom, PagerHasAnswered, TakesStep, Took}
 pub use Rattle.vm_system.specs.declared.state.State.{State}
 pub use Rattle.vm_system.specs.declared.stop.SystemStop.{SystemStop}

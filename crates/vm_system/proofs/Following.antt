@@ -1,11 +1,17 @@
 -- What the kernels say leaves the pagers and what was stored.
 use Rattle.vm_system.proofs.Common.{Agrees, AllFilesServe, AllInner, AllServe, AllServed, AllTold, Bool, CanTellAll, Command, Content, EachIn, Event, FilesAreKept, FilesCarry, Followed, Going, Header, HostId, HostTable, HostsPart, IsOrderly, IsPaid, Lawful, List, Outside, PagerHasAnswered, PagingIsKept, Posts, SameHosts, ServerStands, SlotTable, SlotsFit, Some, SomeKernelSays, Spares, SparesFiles, SparesPaging, State, Stretch, Told, ap, content_of, devices, paid_more, refl, reverse, slice_get, subst, sym, true, ℕ, ◌++◌, ◌∙◌, ◌≡◌, ServerTable}
 use Rattle.vm_model.specs.declared.event.Device.TheVariants.{Files, Paging}
+use Rattle.vm_model.specs.declared.event.Event.TheVariants as event
 use Rattle.vm_system.proofs.Agreeing.{carry_spared, content_stays, devices_said, files_spared, serve_said, spared_said}
 use Rattle.vm_system.proofs.Lawfulness.{lawful_more, others_said, recalled_more, served_more, server_more}
 use Rattle.vm_system.proofs.Sayings.{can_say, orderly_said}
 use Rattle.vm_system.proofs.Silent.{all_settled}
 use Rattle.vm_legal.specs.InTurn.{AllRecalled}
+use Rattle.vm_legal.specs.Serving.{HostsServed}
+use Rattle.vm_hosts.specs.Steps.{PartInTurn}
+use Rattle.vm_system.proofs.Served.{served_up}
+use Rattle.std.proofs.Common.{[], ◌∷◌}
+use Rattle.vm_model.specs.declared.message.Channel.TheVariants.{Up}
 
 pub same_pagers : (old new : State) → SameHosts old new → new.pagers.items ≡ old.pagers.items
 same_pagers old new same = rw same.pagers refl
@@ -125,6 +131,10 @@ followed given host washed old new events answered passed size pagers files decl
     let owed : IsPaid header past = subst (λ (z : List Event). IsPaid header z) answered.is answered.paid in
     let served : AllServed header past = subst (λ (z : List Event). AllServed header z) answered.is answered.served in
     let recalled : AllRecalled header past = subst (λ (z : List Event). AllRecalled header z) answered.is answered.recalled in
+    let step = answered.answers in
+    let part : PartInTurn header ((step.told ++ event.Taken (Up host step.object) step.m ∷ []) ++ given.past) events = subst (λ (z : List Event). PartInTurn header (z ++ given.past) events) step.is passed.turns in
+    let turns : HostsServed header (events ++ past) = subst (λ (z : List Event). HostsServed header (events ++ (z ++ given.past))) (sym step.is)
+    (served_up header host step.object step.m step.told events given.past step.inner step.nobodys stretch.inner part) in
     record {
       stands = record {
         built = answered.built;
@@ -140,6 +150,7 @@ followed given host washed old new events answered passed size pagers files decl
       is = now;
       follows = passed.follows;
       prompt = rw now passed.ended.prompt;
+      turns = rw now turns;
     }
 
 -- and leaves what was stored

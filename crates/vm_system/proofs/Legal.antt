@@ -3,7 +3,7 @@ use Rattle.std.proofs.Common.{zero, suc, length, refl, ap, ℕ, Some, None, Opti
 use Rattle.vm_base.specs.declared.ids.ObjectId.{ObjectId}
 use Rattle.vm_base.specs.declared.ids.TaskId.{TaskId}
 use Rattle.vm_legal.specs.Follows.{clean_head, map_head}
-use Rattle.vm_system.proofs.Common.{AllInner, AllInTurn, AllServed, Began, Bool, Code, Command, EachEvent, EachIn, EachOf, Entry, Event, FlatBytes, FollowsSoFarInTurn, FramesSuffice, HasCause, Header, Holds, HostTable, IfNone, IsAtRest, IsConsequence, IsDoneInTurn, IsDoneSoFar, IsGroupInTurn, IsPaid, IsRunInTurn, IsWholeInTurn, IsWholeSoFarInTurn, KeepsCanonical, List, MomentsIn, None, Numbered, Option, Outside, OwnBytes, Prompt, Some, Went, [], acting, answers, ap, code_where, copies, copies_from, copy_refusal, each_both, each_whole, entries_of, entry_at, false, has_copy_mark, head, host_of, if◌then◌else◌, inl, inner_both, is_copied, is_copy_full, is_elsewhere, is_fork_full, is_full, is_idle, is_none, is_range, is_some, length, licensed_both, marked_below, marked_regions, meets_range, moment_last, moments_both, moments_whole, most_entries, nat_le, new_marks, next_object, next_region, not, of_both, refl, refusal, region_of, reverse, settles, so_far, steps_whole, subst, suc, sym, takings_more, true, waiting, zero, ℕ, ◌++◌, ◌+◌, ◌/◌, ◌∙◌, ◌∷◌, ◌≡◌, AllSupplied}
+use Rattle.vm_system.proofs.Common.{AllInner, AllInTurn, AllServed, Began, Bool, Code, Command, EachEvent, EachIn, EachOf, Entry, Event, FlatBytes, FollowsSoFarInTurn, FramesSuffice, HasCause, Header, Holds, HostTable, IfNone, IsAtRest, IsConsequence, IsDoneInTurn, IsGroupInTurn, IsPaid, IsRunInTurn, IsWholeInTurn, IsWholeSoFarInTurn, KeepsCanonical, List, MomentsIn, None, Numbered, Option, Outside, OwnBytes, Prompt, Some, Went, [], acting, answers, ap, code_where, copies, copies_from, copy_refusal, each_both, each_whole, entries_of, entry_at, false, has_copy_mark, head, host_of, if◌then◌else◌, inl, inner_both, is_copied, is_copy_full, is_elsewhere, is_fork_full, is_full, is_idle, is_none, is_range, is_some, length, licensed_both, marked_below, marked_regions, meets_range, moment_last, moments_both, moments_whole, most_entries, nat_le, new_marks, next_object, next_region, not, of_both, refl, refusal, region_of, reverse, settles, so_far, steps_whole, subst, suc, sym, takings_more, true, waiting, zero, ℕ, ◌++◌, ◌+◌, ◌/◌, ◌∙◌, ◌∷◌, ◌≡◌, AllSupplied}
 use Rattle.std.proofs.Common.{◌||◌, ◌&&◌, nat_lt}
 use Rattle.vm_base.specs.declared.code.Code.TheVariants as code
 use Rattle.vm_model.specs.declared.event.Event.TheVariants as event
@@ -19,7 +19,10 @@ use Rattle.vm_system.proofs.Lawfulness.{others_said, recalled_more, served_more}
 use Rattle.vm_system.proofs.Sharing.{none_temporary}
 use Rattle.vm_legal.proofs.Turns.{so_far_of as weak_so_far}
 use Rattle.vm_legal.specs.Follows.{SoFarBy}
-use Rattle.vm_legal.specs.InTurn.{AllRecalled, EndsAll}
+use Rattle.vm_legal.specs.InTurn.{AllRecalled, StepIsInTurn}
+use Rattle.vm_legal.specs.Serving.{HostsServed}
+use Rattle.vm_legal.proofs.Serving.{one_served}
+use Rattle.vm_system.proofs.Served.{nobodys_own}
 use Rattle.vm_model.specs.Moments.{BeforeSteps}
 use Rattle.vm_system.proofs.Silent.{ends_lined}
 
@@ -135,6 +138,7 @@ pub record IsStep (header : Header) (outside : Outside) (c : Numbered) (h events
   pub inner : AllInner events
   pub rests : IsAtRest header h → IsAtRest header (events ++ event.Line c.line ∷ h)
   pub recalls : AllRecalled header h → AllRecalled header (events ++ event.Line c.line ∷ h)
+  pub turns : HostsServed header (events ++ event.Line c.line ∷ h)
 
 pub legal_step : (header : Header) (outside : Outside) (c : Numbered) (h events : List Event) → AllSupplied header → IsStep header outside c h events
     → KeepsCanonical header outside c h (events ++ event.Line c.line ∷ h)
@@ -155,9 +159,9 @@ legal_step header outside c h events supplied step run legal =
       pages = pages_legal header outside (events ++ past) causes own;
     } in
     let rests = step.rests legal.rests in
-    let ended : BeforeSteps (EndsAll header) (events ++ past) = steps_whole (EndsAll header) events past step.inner (legal.last, legal.ended) in
+    let ended : BeforeSteps (StepIsInTurn header) (events ++ past) = steps_whole (StepIsInTurn header) events past step.inner (legal.last, legal.ended) in
     let recalled : BeforeSteps (AllRecalled header) (events ++ past) = steps_whole (AllRecalled header) events past step.inner (legal.recalls, legal.recalled) in
-    let last : EndsAll header (events ++ past) = ends_lined header c.line events h step.inner in
+    let last : StepIsInTurn header (events ++ past) = record { ended = ends_lined header c.line events h step.inner; served = step.turns } in
     record {
       so_far = record { follows = follows; holds = holds; rests = rests; ended = ended; last = last; recalled = recalled; recalls = step.recalls legal.recalls };
       whole = λ none. record { follows = (h, events, refl, step.made, step.whole none, legal.follows); holds = holds; rests = rests; ended = ended; last = last; recalled = recalled; recalls = step.recalls legal.recalls };
@@ -179,6 +183,7 @@ legal_refused header outside c why h supplied refused = legal_step header outsid
     served = served_more header (event.Refused why ∷ event.Line c.line ∷ []) h (tt, (tt, tt)) rests.served;
   };
   recalls = λ recalled. recalled_more header (event.Refused why ∷ event.Line c.line ∷ []) h (tt, (tt, tt)) recalled;
+  turns = one_served header 0 (event.Refused why ∷ []) (event.Line c.line ∷ h) tt tt (tt, tt) (nobodys_own header 0 (event.Refused why ∷ []) (event.Line c.line ∷ h) (tt, tt));
 })
 
 -- a command's head, and what follows from it
@@ -197,6 +202,7 @@ legal_began header outside c h events hosts supplied fine began =
       inner = stretch.inner;
       rests = λ rests. record { prompt = began.ended.prompt; paid = began.paid; served = served_said header c.line h events (others_said header events (event.Line c.line ∷ h) stretch.said) rests.served };
       recalls = λ recalled. recalled_said header c.line h events (others_said header events (event.Line c.line ∷ h) stretch.said) recalled;
+      turns = record { before = event.Line c.line ∷ h; events = events; is = refl; begins = tt; inner = stretch.inner; host = began.host; acts = tt; turns = began.turns };
     })
 
 idle_done : (header : Header) (group past : List Event) (doing : Command) → is_idle doing ≡ true → IsDoneInTurn header doing group past
@@ -235,6 +241,16 @@ legal_passed header outside c h asked events hosts supplied idle fine is says we
       };
       recalls = λ recalled. recalled_said header c.line h events
           (subst (EachOf (IsServerOther header)) (sym went.is) (of_both (IsServerOther header) more asked (others_said header more (asked ++ past) stretch.said) says.silent)) recalled;
+      turns = record {
+        before = past;
+        events = events;
+        is = refl;
+        begins = tt;
+        inner = inner;
+        host = 0;
+        acts = tt;
+        turns = record { front = asked; served = more; is = went.is; own = nobodys_own header 0 asked past says.nobodys; turns = went.turns };
+      };
     })
 
 -- a settle begins with its line
@@ -248,4 +264,5 @@ legal_settle header outside line count h supplied = legal_step header outside (r
   inner = tt;
   rests = λ rests. record { prompt = prompt_line header line h rests.prompt; paid = paid_inner header line h [] tt refl; served = served_said header line h [] tt rests.served };
   recalls = λ recalled. recalled_said header line h [] tt recalled;
+  turns = one_served header 0 [] (event.Line line ∷ h) tt tt tt tt;
 })

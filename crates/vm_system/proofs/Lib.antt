@@ -24,6 +24,7 @@ pub mod Posting
 pub mod Resting
 pub mod Sayings
 pub mod Sending
+pub mod Served
 pub mod Settled
 pub mod Sharing
 pub mod Silent

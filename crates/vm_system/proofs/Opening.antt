@@ -1,5 +1,5 @@
 -- A history stays legal with one message more taken.
-use Rattle.vm_system.proofs.Common.{AllInTurn, AllServed, AreSame, BeforeSteps, Channel, ChannelId, Command, EachEvent, EachIn, EachMoment, Event, FollowsSoFarInTurn, FramesSuffice, HasCause, HasMore, Header, Holds, IsConsequence, IsGroupInTurn, IsPaid, KeepsOpen, CanonicalOpen, Letter, List, MayBeCut, MayCutOpen, MayTakeFrom, Message, None, Numbered, Outside, OwnBytes, Prompt, Some, State, Step, SystemStands, TakesStep, Took, [], ap, append-nil, append_assoc, channel_number, channel_of_first, cut_of, each_both, each_whole, false, inl, inr, is_some, licensed_both, messages_on, moments_whole, oldest_channel, queue, queue_is, refl, so_far, steps_whole, subst, sym, takings, takings_more, true, undelivered, ℕ, ◌++◌, ◌∙◌, ◌∷◌, ◌≡◌, AllSupplied}
+use Rattle.vm_system.proofs.Common.{AllInTurn, AllServed, AreSame, BeforeSteps, Channel, ChannelId, Command, EachEvent, EachIn, EachMoment, Event, FollowsSoFarInTurn, FramesSuffice, HasCause, HasMore, Header, Holds, IsConsequence, IsGroupInTurn, IsPaid, KeepsOpen, CanonicalOpen, Letter, List, MayBeCut, MayCutOpen, MayTakeFrom, Message, None, Numbered, Outside, OwnBytes, Prompt, Some, State, Step, SystemStands, TakesStep, Took, [], ap, append-nil, append_assoc, channel_number, channel_of_first, each_both, each_whole, false, inl, inr, is_some, licensed_both, messages_on, moments_whole, oldest_channel, queue, queue_is, refl, so_far, steps_whole, subst, sym, takings, takings_more, true, undelivered, ℕ, ◌++◌, ◌∙◌, ◌∷◌, ◌≡◌, AllSupplied}
 use Rattle.vm_model.specs.declared.command.Command.TheVariants as command
 use Rattle.vm_model.specs.declared.event.Event.TheVariants as event
 use Rattle.vm_ports.specs.Ports.{oldest as oldest_on}
@@ -8,9 +8,9 @@ use Rattle.vm_system.proofs.Numbers.{is_same}
 use Rattle.vm_system.proofs.Sharing.{writers as one_writer}
 use Rattle.vm_shared.proofs.Pages.{legal as pages_legal}
 use Rattle.vm_system.proofs.Legal.{flat_of}
-use Rattle.vm_legal.proofs.Turns.{so_far_of as weak_so_far}
+use Rattle.vm_legal.proofs.Turns.{cut_in_turn, so_far_of as weak_so_far}
 use Rattle.vm_legal.specs.Follows.{FollowsSoFar}
-use Rattle.vm_legal.specs.InTurn.{AllRecalled, EndsAll}
+use Rattle.vm_legal.specs.InTurn.{AllRecalled, StepIsInTurn}
 
 -- what holds in front of a taking
 pub record HoldsUpTo (header : Header) (outside : Outside) (past : List Event) : Type 0 where
@@ -107,7 +107,7 @@ keeps_open header outside count s new stands took line run legal =
         follows = follows;
         holds = holds_taken given items step (so_far header outside (numbered ∷ run) items (weak_so_far header outside (numbered ∷ run) items follows)) (up_to_open header outside (numbered ∷ run) s stands legal);
         rests = record { prompt = took.prompt; paid = took.paid; served = took.stands.served };
-        ended = steps_taken (EndsAll header) given items step (legal.last, legal.ended);
+        ended = steps_taken (StepIsInTurn header) given items step (legal.last, legal.ended);
         last = took.ended;
         recalled = steps_taken (AllRecalled header) given items step (legal.recalls, legal.recalled);
         recalls = took.stands.recalled;
@@ -122,7 +122,12 @@ cuts_open header outside count s new stands (inr step) = inr (λ line run legal.
     let numbered : Numbered = record { line = line; command = command.Settle count } in
     let follows : FollowsSoFarInTurn header outside (numbered ∷ run) new = follows_open header outside count line run s.history.items new step legal.follows in
     let weak : FollowsSoFar header outside (numbered ∷ run) new = weak_so_far header outside (numbered ∷ run) new follows in
-    record { follows = cut_of header outside (numbered ∷ run) new weak; holds = holds_taken given new step (so_far header outside (numbered ∷ run) new weak) (up_to_open header outside (numbered ∷ run) s stands legal) })
+    record {
+      follows = cut_in_turn header outside (numbered ∷ run) new follows;
+      holds = holds_taken given new step (so_far header outside (numbered ∷ run) new weak) (up_to_open header outside (numbered ∷ run) s stands legal);
+      ended = steps_taken (StepIsInTurn header) given new step (legal.last, legal.ended);
+      recalled = steps_taken (AllRecalled header) given new step (legal.recalls, legal.recalled);
+    })
 
 -- the oldest letter of all has its channel
 pub record Foremost (made : List Channel) (number : ChannelId) (letters : List Letter) : Type 0 where

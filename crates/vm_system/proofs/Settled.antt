@@ -1,21 +1,21 @@
 -- A settle goes on being legal with each message that it takes.
-use Rattle.vm_system.proofs.Common.{Bool, Command, CountRises, Device, DevicesCounted, DevicesHaveCause, EndsCut, Err, Event, GrowsWithinLimit, Header, IsErrOf, KeepsOpen, LegalCut, CanonicalOpen, Letter, List, MayCutOpen, Numbered, Ok, Outside, StaysOpen, SystemStop, [], ap, arith, cut_of, devices, false, inl, inr, length, most_events, refl, subst, sym, undelivered, ℕ, ◌+◌, ◌<◌, ◌∙◌, ◌∷◌, ◌≡◌, ◌≢◌, ◌≤◌, ◌⊎◌}
+use Rattle.vm_system.proofs.Common.{Bool, Command, CountRises, Device, DevicesCounted, DevicesHaveCause, EndsCut, Err, Event, GrowsWithinLimit, Header, IsErrOf, KeepsOpen, CanonicalCut, CanonicalOpen, Letter, List, MayCutOpen, Numbered, Ok, Outside, StaysOpen, SystemStop, [], ap, arith, devices, false, inl, inr, length, most_events, refl, subst, sym, undelivered, ℕ, ◌+◌, ◌<◌, ◌∙◌, ◌∷◌, ◌≡◌, ◌≢◌, ◌≤◌, ◌⊎◌}
 use Rattle.std.proofs.Common.{Result}
 use Rattle.vm_system.specs.declared.stop.SystemStop.TheVariants as stops
 use Rattle.vm_system.proofs.Growth.{devices_grow, grew_more}
-use Rattle.vm_legal.proofs.Turns.{so_far_of as weak_so_far}
+use Rattle.vm_legal.proofs.Turns.{cut_in_turn}
 
 pub stays_more : (header : Header) (outside : Outside) (doing : Command) (first old new : List Event) → StaysOpen header outside doing first old → KeepsOpen header outside doing old new → StaysOpen header outside doing first new
 stays_more header outside doing first old new stays keeps = λ line run legal. (keeps line run (stays line run legal)).so_far
 
 -- what is legal so far is so where its last step may be cut
-pub may_be_cut : (header : Header) (outside : Outside) (run : List Numbered) (history : List Event) → CanonicalOpen header outside run history → LegalCut header outside run history
-may_be_cut header outside run history legal = record { follows = cut_of header outside run history (weak_so_far header outside run history legal.follows); holds = legal.holds }
+pub may_be_cut : (header : Header) (outside : Outside) (run : List Numbered) (history : List Event) → CanonicalOpen header outside run history → CanonicalCut header outside run history
+may_be_cut header outside run history legal = record { follows = cut_in_turn header outside run history legal.follows; holds = legal.holds; ended = legal.ended; recalled = legal.recalled }
 
 pub cut_more : (header : Header) (outside : Outside) (doing : Command) (first old new : List Event) → StaysOpen header outside doing first old → MayCutOpen header outside doing old new → EndsCut header outside doing first new
 cut_more header outside doing first old new stays (inl same) = λ line run legal.
     let commands : List Numbered = record { line = line; command = doing } ∷ run in
-    subst (λ (z : List Event). LegalCut header outside commands z) (sym same) (may_be_cut header outside commands old (stays line run legal))
+    subst (λ (z : List Event). CanonicalCut header outside commands z) (sym same) (may_be_cut header outside commands old (stays line run legal))
 cut_more header outside doing first old new stays (inr cuts) = λ line run legal. cuts line run (stays line run legal)
 
 -- memory ends in a taking only where one may begin

@@ -1,5 +1,6 @@
 -- An answer of a pager is taken by its host.
 use Rattle.vm_system.proofs.Common.{AllFilesServe, AllInner, AllServe, Bool, CanTellAll, Channel, ChannelId, Device, Down, EndsAll, Event, Header, HostId, HostTable, HostsPart, IsAbsencePaid, IsErrorPaid, IsLockPaid, IsPaid, IsWord, Letter, LicensedInTurn, List, MayTakeFrom, Message, None, ObjectId, Option, Posts, ServerStands, Some, Spares, State, Step, Took, Up, ap, devices, false, first, length, owed, queue, sym, taken_letter, taken_more, true, up, ℕ, ◌++◌, ◌<◌, ◌∙◌, ◌∷◌, ◌≡◌, ServerTable, subst}
+use Rattle.vm_system.proofs.Served.{served_down}
 use Rattle.vm_model.specs.declared.event.Device.TheVariants.{Files, Paging}
 use Rattle.vm_model.specs.declared.event.Event.TheVariants as event
 use Rattle.vm_system.proofs.Agreeing.{carry_other, carry_spared, devices_said, files_other, files_spared, serve_other, spared_said}
@@ -104,7 +105,7 @@ took_down given line number host object control m s new events may head passed f
       step = takes_step given channel m events new.history.items items head may.may (front_settled given s front) (front_suffice given s front) passed.follows.follows stretch.licensed stretch.own_bytes stretch.frames stretch.inner;
       prompt = rw items passed.ended.prompt;
       paid = owed;
-      ended = rw items ended;
+      ended = rw items (record { ended = ended; served = served_down header outside doing host object control m given.past new.hosts events passed });
     }
 
 -- pagers and contents have no part in that

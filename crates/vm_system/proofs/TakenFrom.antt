@@ -1,13 +1,14 @@
 -- A `take` is run.
-use Rattle.vm_system.proofs.Common.{Channel, EachIn, Event, FollowsInTurn, FollowsSoFarInTurn, FramesSuffice, Header, Holds, IsAtRest, IsConsequence, IsGroupInTurn, IsPaid, IsRunInTurn, IsWholeInTurn, KeepsCanonical, CanonicalFor, List, MayBeCut, MayCut, None, Numbered, Outside, Some, State, Step, SystemStands, TakesStep, Took, [], ap, cut_of, false, first, head, inl, inr, is_some, licensed_front, moment_last, no_request, open_of, queue, refl, refusal, so_far, subst, sym, take_head, true, ℕ, ◌++◌, ◌∷◌, ◌≡◌}
+use Rattle.vm_system.proofs.Common.{Channel, EachIn, Event, FollowsInTurn, FollowsSoFarInTurn, FramesSuffice, Header, Holds, IsAtRest, IsConsequence, IsGroupInTurn, IsPaid, IsRunInTurn, IsWholeInTurn, KeepsCanonical, CanonicalFor, List, MayBeCut, MayCut, None, Numbered, Outside, Some, State, Step, SystemStands, TakesStep, Took, [], ap, false, first, head, inl, inr, is_some, licensed_front, moment_last, no_request, queue, refl, refusal, so_far, subst, sym, take_head, true, ℕ, ◌++◌, ◌∷◌, ◌≡◌}
 use Rattle.vm_model.specs.declared.command.Command.TheVariants as command
 use Rattle.vm_model.specs.declared.event.Event.TheVariants as event
 use Rattle.vm_system.proofs.Opening.{HoldsUpTo, holds_taken, step_is, steps_taken}
 use Rattle.sms_server.proofs.Acting.{others_recall as recalled_other, others_serve as served_other}
 use Rattle.vm_system.proofs.Silent.{ends_lined, prompt_line}
-use Rattle.vm_legal.proofs.Turns.{open_in_turn, so_far_of as weak_so_far}
+use Rattle.vm_legal.proofs.Turns.{cut_in_turn, open_in_turn, so_far_of as weak_so_far}
 use Rattle.vm_legal.specs.Follows.{FollowsSoFar}
-use Rattle.vm_legal.specs.InTurn.{AllRecalled, EndsAll}
+use Rattle.vm_legal.specs.InTurn.{AllRecalled, StepIsInTurn}
+use Rattle.vm_legal.proofs.Serving.{one_served}
 use Rattle.vm_model.specs.Moments.{BeforeSteps}
 use Rattle.std.proofs.Common.{[]}
 
@@ -66,6 +67,10 @@ up_to_line header outside line run s stands legal =
       served = served_other header (event.Line line) items tt legal.rests.served;
     }
 
+-- a line alone is in its turn
+lined : (header : Header) (line : ℕ) (h : List Event) → StepIsInTurn header (event.Line line ∷ h)
+lined header line h = record { ended = ends_lined header line [] h tt; served = one_served header 0 [] (event.Line line ∷ h) tt tt tt tt }
+
 pub keeps_taken : (header : Header) (outside : Outside) (line : ℕ) (channel : Channel) (s new : State) → SystemStands header outside s → refusal header s.history.items (command.Take channel) ≡ None
     → Took (taking_of header outside line channel s.history.items) new → KeepsCanonical header outside (record { line = line; command = command.Take channel }) s.history.items new.history.items
 keeps_taken header outside line channel s new stands fine took run legal =
@@ -76,7 +81,7 @@ keeps_taken header outside line channel s new stands fine took run legal =
     let opened : FollowsSoFarInTurn header outside (numbered ∷ run) items = open_in_turn header outside (numbered ∷ run) items follows in
     let holds : Holds header outside items = holds_taken given items took.step (so_far header outside (numbered ∷ run) items (weak_so_far header outside (numbered ∷ run) items opened)) (up_to_line header outside line run s stands legal) in
     let rests : IsAtRest header items = record { prompt = took.prompt; paid = took.paid; served = took.stands.served } in
-    let ended : BeforeSteps (EndsAll header) items = steps_taken (EndsAll header) given items took.step (ends_lined header line [] s.history.items tt, (legal.last, legal.ended)) in
+    let ended : BeforeSteps (StepIsInTurn header) items = steps_taken (StepIsInTurn header) given items took.step (lined header line s.history.items, (legal.last, legal.ended)) in
     let recalled : BeforeSteps (AllRecalled header) items = steps_taken (AllRecalled header) given items took.step (recalled_other header (event.Line line) s.history.items tt legal.recalls, (legal.recalls, legal.recalled)) in
     record {
       so_far = record { follows = opened; holds = holds; rests = rests; ended = ended; last = took.ended; recalled = recalled; recalls = took.stands.recalled };
@@ -92,4 +97,9 @@ cuts_taken header outside line channel s new stands fine (inr step) = inr (λ ru
     let numbered : Numbered = record { line = line; command = command.Take channel } in
     let opened : FollowsSoFarInTurn header outside (numbered ∷ run) new = open_in_turn header outside (numbered ∷ run) new (follows_take header outside line channel run s.history.items new fine step legal.follows) in
     let weak : FollowsSoFar header outside (numbered ∷ run) new = weak_so_far header outside (numbered ∷ run) new opened in
-    record { follows = cut_of header outside (numbered ∷ run) new weak; holds = holds_taken given new step (so_far header outside (numbered ∷ run) new weak) (up_to_line header outside line run s stands legal) })
+    record {
+      follows = cut_in_turn header outside (numbered ∷ run) new opened;
+      holds = holds_taken given new step (so_far header outside (numbered ∷ run) new weak) (up_to_line header outside line run s stands legal);
+      ended = steps_taken (StepIsInTurn header) given new step (lined header line s.history.items, (legal.last, legal.ended));
+      recalled = steps_taken (AllRecalled header) given new step (recalled_other header (event.Line line) s.history.items tt legal.recalls, (legal.recalls, legal.recalled));
+    })

@@ -13,8 +13,7 @@ use Rattle.vm_model.specs.declared.message.Channel.TheVariants.{Up}
 use Rattle.vm_model.specs.declared.script.Header.{Header}
 use Rattle.vm_model.specs.Limits.{most_events}
 use Rattle.vm_model.specs.Moments.{BeforeSteps}
-use Rattle.vm_legal.specs.Follows.{FollowsCut}
-use Rattle.vm_legal.specs.InTurn.{AllRecalled, EndsAll, FollowsSoFarInTurn}
+use Rattle.vm_legal.specs.InTurn.{AllRecalled, FollowsCutInTurn, FollowsSoFarInTurn, StepIsInTurn}
 use Rattle.vm_legal.specs.Legal.{Holds, IsAtRest, CanonicalFor}
 use Rattle.vm_legal.specs.Outside.{Outside, is_file}
 use Rattle.vm_legal.specs.Steps.{takings}
@@ -31,15 +30,17 @@ pub record CanonicalOpen (header : Header) (outside : Outside) (run : List Numbe
   pub follows : FollowsSoFarInTurn header outside run history
   pub holds : Holds header outside history
   pub rests : IsAtRest header history
-  pub ended : BeforeSteps (EndsAll header) history
-  pub last : EndsAll header history
+  pub ended : BeforeSteps (StepIsInTurn header) history
+  pub last : StepIsInTurn header history
   pub recalled : BeforeSteps (AllRecalled header) history
   pub recalls : AllRecalled header history
 
--- legal for them, where the last step may be cut: that it did all, what it owes, and who waits then, is not claimed
-pub record LegalCut (header : Header) (outside : Outside) (run : List Numbered) (history : List Event) : Type 0 where
-  pub follows : FollowsCut header outside run history
+-- canonical for them, where the last step may be cut: that it did all, what it owes, and who waits then, is not claimed
+pub record CanonicalCut (header : Header) (outside : Outside) (run : List Numbered) (history : List Event) : Type 0 where
+  pub follows : FollowsCutInTurn header outside run history
   pub holds : Holds header outside history
+  pub ended : BeforeSteps (StepIsInTurn header) history
+  pub recalled : BeforeSteps (AllRecalled header) history
 
 -- the number of messages that a settle is to take
 abbrev pub settles : Command → Option ℕ
@@ -57,7 +58,7 @@ KeepsCanonical header outside numbered old new = (run : List Numbered) → Canon
 
 -- where memory ended in the step of a command, the history is as it was, or its last step is cut
 abbrev pub MayCut : Header → Outside → Numbered → List Event → List Event → Type 0
-MayCut header outside numbered old new = (new ≡ old) ⊎ ((run : List Numbered) → CanonicalFor header outside run old → LegalCut header outside (numbered ∷ run) new)
+MayCut header outside numbered old new = (new ≡ old) ⊎ ((run : List Numbered) → CanonicalFor header outside run old → CanonicalCut header outside (numbered ∷ run) new)
 
 -- a settle that has more to take goes on being canonical with one message more taken
 pub record TakesMore (header : Header) (outside : Outside) (numbered : Numbered) (run : List Numbered) (old new : List Event) : Type 0 where
@@ -70,7 +71,7 @@ KeepsOpen header outside doing old new = (line : ℕ) (run : List Numbered) → 
 
 -- memory ended, and the last step may be cut
 abbrev pub EndsCut : Header → Outside → Command → List Event → List Event → Type 0
-EndsCut header outside doing old new = (line : ℕ) (run : List Numbered) → CanonicalOpen header outside (record { line = line; command = doing } ∷ run) old → LegalCut header outside (record { line = line; command = doing } ∷ run) new
+EndsCut header outside doing old new = (line : ℕ) (run : List Numbered) → CanonicalOpen header outside (record { line = line; command = doing } ∷ run) old → CanonicalCut header outside (record { line = line; command = doing } ∷ run) new
 
 abbrev pub MayCutOpen : Header → Outside → Command → List Event → List Event → Type 0
 MayCutOpen header outside doing old new = (new ≡ old) ⊎ EndsCut header outside doing old new

@@ -12,7 +12,8 @@ use Rattle.vm_legal.specs.Debts.{IsPaid}
 use Rattle.vm_legal.specs.Follows.{IsConsequence}
 use Rattle.vm_legal.specs.Frames.{FramesSuffice}
 use Rattle.vm_legal.specs.Licences.{MayTake}
-use Rattle.vm_legal.specs.InTurn.{AllRecalled, AllInTurn, EndsAll}
+use Rattle.vm_legal.specs.InTurn.{AllRecalled, AllInTurn, StepIsInTurn}
+use Rattle.vm_legal.specs.Serving.{HostsServed}
 use Rattle.vm_legal.specs.Prompt.{AllServed, Prompt}
 use Rattle.vm_legal.specs.Stretches.{AllInner, EachIn, MomentsIn}
 use Rattle.vm_hosts.specs.Hosts.{AllRest}
@@ -48,7 +49,7 @@ pub record Took (given : Step) (new : State) : Type 0 where
   pub step : TakesStep given new.history.items
   pub prompt : Prompt given.header new.history.items
   pub paid : IsPaid given.header new.history.items
-  pub ended : EndsAll given.header new.history.items
+  pub ended : StepIsInTurn given.header new.history.items
 
 -- memory ended: nothing was told, or a part of the step
 abbrev pub MayBeCut : Step → List Event → List Event → Type 0
@@ -72,3 +73,4 @@ pub record Followed (given : Going) (new : State) : Type 0 where
   pub is : new.history.items ≡ more ++ (given.front ++ given.past)
   pub follows : EventsFollow given.header given.outside given.command (given.front ++ given.past) more
   pub prompt : Prompt given.header new.history.items
+  pub turns : HostsServed given.header new.history.items

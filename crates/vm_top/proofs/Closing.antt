@@ -13,6 +13,7 @@ use Rattle.vm_legal.proofs.Turns.{open_in_turn}
 use Rattle.vm_shared.proofs.Pages.{legal}
 use Rattle.vm_top.specs.Run.{IsOutOfEvents, IsPart, IsWholeRun}
 use Rattle.vm_legal.specs.Steps.{Asked}
+use Rattle.vm_legal.proofs.Serving.{one_served}
 use Rattle.vm_legal.specs.InTurn.{AllRecalled}
 use Rattle.vm_model.specs.Server.{Wanting}
 
@@ -69,7 +70,7 @@ none_legal script outside = record {
     served = λ object page shared some. absurd (some refl);
   };
   ended = tt;
-  last = λ host object page is. absurd (let bad : ◌≡◌ {A = Option Asked} None (Some (record { host = host; object = object; page = page })) = is in cc);
+  last = record { ended = λ host object page is. absurd (let bad : ◌≡◌ {A = Option Asked} None (Some (record { host = host; object = object; page = page })) = is in cc); served = one_served script.header 0 [] [] tt tt tt tt };
   recalled = tt;
   recalls = recalled_start script.header;
 }

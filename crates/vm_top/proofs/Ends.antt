@@ -31,14 +31,13 @@ use Rattle.vm_top.specs.Run.{CutIn, IsOutOfEvents, IsRunnable, IsWholeRun, repor
 use Rattle.vm_legal.specs.Legal.{CanonicalSoFar}
 use Rattle.vm_legal.specs.Outside.{Outside, is_file_kind, is_shared_kind}
 use Rattle.vm_quiet.specs.Quiet.{AllSupplied}
-use Rattle.vm_legal.proofs.Groups.{cut_of}
 use Rattle.vm_top.specs.Top.{IsBad, IsReadFrom, IsBadFrom, IsUnbuiltFrom, IsHeaderBuilt, NothingRun, IsRunDone, IsEventLimit, IsStopped, IsNotBuilt, IsOutputFault, IsNoMemory, WroteFailed, WroteStopped, bad_text, not_built_text}
 use Rattle.vm_top.specs.Writing.{WroteStart}
 use Rattle.vm_top.proofs.Keeping.{file_below}
 use Rattle.vm_top.proofs.Closing.{full_so_far, whole_so_far}
 use Rattle.vm_top.proofs.Readings.{no_longer}
 use Rattle.vm_top.proofs.Writings.{start_all}
-use Rattle.vm_legal.proofs.Turns.{so_far_of as weak_so_far}
+use Rattle.vm_legal.proofs.Turns.{cut_in_turn}
 
 long_bad : (bytes : List ℕ) → 1048576 < length bytes → script_of bytes ≡ Err (0, fault.TooLong)
 long_bad bytes long = let test : nat_lt 1048576 (length bytes) ≡ true = grind (arith, nat_tests) in rw test refl
@@ -204,7 +203,7 @@ runnable script keeps built = record {
 
 -- the history of a run that has ended is also one whose last step is not cut
 uncut : (run : Script) (outside : Outside) (h : List Event) → CanonicalSoFar run outside h → CutIn run outside h
-uncut run outside h legal = record { later = legal.later; run = legal.run; order = legal.order; legal = record { follows = cut_of run.header outside legal.run h (weak_so_far run.header outside legal.run h legal.follows); holds = legal.holds } }
+uncut run outside h legal = record { later = legal.later; run = legal.run; order = legal.order; legal = record { follows = cut_in_turn run.header outside legal.run h legal.follows; holds = legal.holds; ended = legal.ended; recalled = legal.recalled } }
 
 summary_failed : (report : Report) (run : Script) (outside : Outside) (h : List Event) (start after : Option (List ℕ)) → CanonicalSoFar run outside h
     → (report ≡ reports.Summary) × WroteStart start after (report_text report h) → WroteFailed report run outside h start after

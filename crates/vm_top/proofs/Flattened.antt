@@ -3,12 +3,12 @@ use Rattle.std.proofs.Common.{◌≡◌, ℕ, List, [], refl, subst, sym, Some, 
 use Rattle.vm_model.specs.declared.command.Numbered.{Numbered}
 use Rattle.vm_model.specs.declared.event.Event.{Event}
 use Rattle.vm_model.specs.declared.script.Script.{Script}
-use Rattle.vm_legal.proofs.Groups.{cut, cut_of}
+use Rattle.vm_legal.proofs.Groups.{cut}
 use Rattle.vm_legal.specs.Legal.{CanonicalSoFar}
 use Rattle.vm_legal.specs.Outside.{Outside}
 use Rattle.vm_outside.specs.Areas.{Told}
 use Rattle.vm_system.specs.Keeping.{FilesCarry}
-use Rattle.vm_system.specs.Steps.{LegalCut}
+use Rattle.vm_system.specs.Steps.{CanonicalCut}
 use Rattle.vm_system.proofs.Flattened.{flat_files}
 use Rattle.vm_shared.proofs.Currents.{copies_current}
 use Rattle.vm_system.proofs.Sharing.{none_temporary}
@@ -21,16 +21,16 @@ use Rattle.vm_top.specs.Run.{IsRunnable, outside_of}
 use Rattle.vm_top.proofs.Closing.{none_legal}
 use Rattle.vm_top.proofs.Keeping.{carried_none, files_told}
 use Rattle.vm_top.proofs.Resting.{ends_legal}
-use Rattle.vm_legal.proofs.Turns.{so_far_of as weak_so_far}
+use Rattle.vm_legal.proofs.Turns.{cut_in_turn, cut_of as weak_cut}
 
 -- legal for some commands, but that the last step may be cut
-abbrev pub IsLegalCut : Script → Outside → List Event → Type 0
-IsLegalCut run outside h = (commands : List Numbered) × LegalCut run.header outside commands h
+abbrev pub IsCanonicalCut : Script → Outside → List Event → Type 0
+IsCanonicalCut run outside h = (commands : List Numbered) × CanonicalCut run.header outside commands h
 
-cut_so_far : (run : Script) (outside : Outside) (h : List Event) → CanonicalSoFar run outside h → IsLegalCut run outside h
-cut_so_far run outside h legal = (legal.run, record { follows = cut_of run.header outside legal.run h (weak_so_far run.header outside legal.run h legal.follows); holds = legal.holds })
+cut_so_far : (run : Script) (outside : Outside) (h : List Event) → CanonicalSoFar run outside h → IsCanonicalCut run outside h
+cut_so_far run outside h legal = (legal.run, record { follows = cut_in_turn run.header outside legal.run h legal.follows; holds = legal.holds; ended = legal.ended; recalled = legal.recalled })
 
-pub ends_cut : (report : Report) (run : Script) (outside : Outside) (h : List Event) (before after : Option (List ℕ)) (s : Status) → EndsAs report run outside h before after s → IsLegalCut run outside h
+pub ends_cut : (report : Report) (run : Script) (outside : Outside) (h : List Event) (before after : Option (List ℕ)) (s : Status) → EndsAs report run outside h before after s → IsCanonicalCut run outside h
 ends_cut report run outside h before after status.NoMemory ends = (ends.0.run, ends.0.legal)
 ends_cut report run outside h before after status.Done ends = cut_so_far run outside h (ends_legal report run outside h before after status.Done ends (λ is. absurd (cc)))
 ends_cut report run outside h before after status.EventLimit ends = cut_so_far run outside h (ends_legal report run outside h before after status.EventLimit ends (λ is. absurd (cc)))
@@ -44,7 +44,7 @@ pub files_flat : (report : Report) (run : Script) (files paging now : List ℕ �
     → FilesCarry run.header files now h → FilesFlatAt (outside_of files paging) files now (Some run) h
 files_flat report run files paging now h before after s runs ends carry =
     let legal = ends_cut report run (outside_of files paging run.header) h before after s ends in
-    let causes = cut run.header (outside_of files paging run.header) legal.0 h legal.1.follows in
+    let causes = cut run.header (outside_of files paging run.header) legal.0 h (weak_cut run.header (outside_of files paging run.header) legal.0 h legal.1.follows) in
     flat_files run.header (outside_of files paging run.header) files now legal.0 h legal.1 (copies_current run.header (outside_of files paging run.header) h (none_temporary run.header runs.built.supplied) causes legal.1.holds.own_bytes)
     (files_told run.header files paging) carry
 
@@ -52,7 +52,7 @@ files_flat report run files paging now h before after s runs ends carry =
 none_flat : (run : Script) (files paging : List ℕ → Told) → FilesFlatAt (outside_of files paging) files files (Some run) []
 none_flat run files paging =
     let legal = none_legal run (outside_of files paging run.header) in
-    flat_files run.header (outside_of files paging run.header) files files [] [] (record { follows = refl; holds = legal.holds }) tt (files_told run.header files paging) (carried_none run.header files)
+    flat_files run.header (outside_of files paging run.header) files files [] [] (record { follows = refl; holds = legal.holds; ended = tt; recalled = tt }) tt (files_told run.header files paging) (carried_none run.header files)
 
 pub files_none_flat : (run : Script) (files paging : List ℕ → Told) (h : List Event) → h ≡ [] → FilesFlatAt (outside_of files paging) files files (Some run) h
 files_none_flat run files paging h none = subst (FilesFlatAt (outside_of files paging) files files (Some run)) (sym none) (none_flat run files paging)

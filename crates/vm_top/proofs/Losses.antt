@@ -8,6 +8,7 @@ use Rattle.vm_model.specs.declared.event.Event.TheVariants as event
 use Rattle.vm_model.specs.declared.script.Script.{Script}
 use Rattle.vm_legal.specs.Outside.{Outside}
 use Rattle.vm_legal.proofs.Groups.{cut}
+use Rattle.vm_legal.proofs.Turns.{cut_of as weak_cut}
 use Rattle.vm_losses.specs.Losses.{ever, is_device_event}
 use Rattle.vm_losses.proofs.Losses.{fails_unslotted}
 use Rattle.vm_outside.specs.Causes.{CountRises}
@@ -43,7 +44,7 @@ pub loses_unslotted : (report : Report) (run : Script) (outside : Outside) (h : 
 loses_unslotted report run outside h before after s ends files paging =
     let legal = ends_cut report run outside h before after s ends in
     let none = no_device h files paging in
-    (none, fails_unslotted run.header outside h (cut run.header outside legal.0 h legal.1.follows) none)
+    (none, fails_unslotted run.header outside h (cut run.header outside legal.0 h (weak_cut run.header outside legal.0 h legal.1.follows)) none)
 
 -- nothing has happened
 pub loses_nothing : (run : Script) (h : List Event) → h ≡ [] → LosesUnslotted (Some run) h

@@ -18,7 +18,7 @@ use Rattle.vm_legal.specs.Steps.{before_step, takings}
 use Rattle.vm_legal.specs.Undelivered.{undelivered}
 use Rattle.vm_outside.specs.Arming.{Arming, ArmedLater}
 use Rattle.vm_system.proofs.Settled.{may_be_cut}
-use Rattle.vm_system.specs.Steps.{DevicesHaveCause, GrowsWithinLimit, HasMore, IsMemoryStop, KeepsOpen, LegalCut, CanonicalOpen, MayCutOpen, TakesMore, settles, took_up}
+use Rattle.vm_system.specs.Steps.{DevicesHaveCause, GrowsWithinLimit, HasMore, IsMemoryStop, KeepsOpen, CanonicalCut, CanonicalOpen, MayCutOpen, TakesMore, settles, took_up}
 use Rattle.vm_top.specs.Arming.{is_untouched, ran_of}
 use Rattle.vm_top.specs.Run.{CutIn, RanAs, front_of, text_so_far}
 use Rattle.vm_top.specs.Running.{BackingRuns, FaultCounts, IsBetweenCommands, RunStops, RunTaking, Running, Settles, Turned, counted}
@@ -186,7 +186,7 @@ take_stops report given old new now f0 f1 p0 p1 e0 e1 settles grew below may fil
       later = behind given old;
       run = settle_at given settles.line ∷ settles.run;
       order = order_of given (settle_at given settles.line) settles.run old settles.here;
-      legal = subst (LegalCut given.running.script.header given.running.outside (settle_at given settles.line ∷ settles.run)) (sym same)
+      legal = subst (CanonicalCut given.running.script.header given.running.outside (settle_at given settles.line ∷ settles.run)) (sym same)
           (may_be_cut given.running.script.header given.running.outside (settle_at given settles.line ∷ settles.run) old settles.legal);
     }
     by_way (inr cut) = record {

@@ -13,6 +13,7 @@ use Rattle.vm_legal.specs.Legal.{CanonicalFor}
 use Rattle.vm_legal.specs.Outside.{Outside}
 use Rattle.vm_legal.specs.Prompt.{EachLeads, NoneInVain}
 use Rattle.vm_shared.proofs.Pages.{legal}
+use Rattle.vm_legal.proofs.Serving.{one_served}
 use Rattle.vm_top.specs.Run.{IsRunnable}
 use Rattle.vm_top.specs.Writing.{oldest_items}
 use Rattle.vm_top.proofs.Closing.{recalled_start}
@@ -62,7 +63,7 @@ legal_start header outside = record {
     served = λ object page shared some. absurd (some refl);
   };
   ended = tt;
-  last = λ host object page is. absurd (nothing is);
+  last = record { ended = λ host object page is. absurd (nothing is); served = one_served header 0 [] [] tt tt tt tt };
   recalled = tt;
   recalls = recalled_start header;
 }

@@ -19,11 +19,10 @@ use Rattle.vm_model.specs.Text.{text, line_of}
 use Rattle.vm_legal.specs.Legal.{CanonicalFor}
 use Rattle.vm_legal.specs.Outside.{Outside}
 use Rattle.vm_legal.specs.Steps.{takings}
-use Rattle.vm_legal.proofs.Groups.{cut_of as follows_cut}
-use Rattle.vm_legal.proofs.Turns.{legal_of, open_in_turn, so_far_of as weak_so_far}
+use Rattle.vm_legal.proofs.Turns.{cut_in_turn, legal_of, open_in_turn}
 use Rattle.vm_outside.specs.Arming.{Arming, ArmedLater}
 use Rattle.vm_system.proofs.Settled.{may_be_cut}
-use Rattle.vm_system.specs.Steps.{DevicesHaveCause, GrowsWithinLimit, IsNextCanonical, KeepsCanonical, LeavesBacking, LegalCut, CanonicalOpen, MayCut, IsBelowLimit, IsMemoryStop, arms, settles, takes_any, took_up}
+use Rattle.vm_system.specs.Steps.{DevicesHaveCause, GrowsWithinLimit, IsNextCanonical, KeepsCanonical, LeavesBacking, CanonicalCut, CanonicalOpen, MayCut, IsBelowLimit, IsMemoryStop, arms, settles, takes_any, took_up}
 use Rattle.vm_system.specs.declared.stop.SystemStop.{SystemStop}
 use Rattle.vm_system.specs.declared.stop.SystemStop.TheVariants as stops
 use Rattle.vm_top.specs.Arming.{BackingLeft, FailuresCounted, is_untouched, ran_of}
@@ -115,8 +114,8 @@ shown_grown reports.History start now old new grew wrote =
     subst (WroteStart start now) (sym (ap text grew.is ∙ grown.1)) (front_start start now (text old) grown.0 wrote)
 shown_grown reports.Summary start now old new grew wrote = start_all start now [] wrote
 
-pub cut_whole : (header : Header) (outside : Outside) (run : List Numbered) (h : List Event) → CanonicalFor header outside run h → LegalCut header outside run h
-cut_whole header outside run h legal = record { follows = follows_cut header outside run h (weak_so_far header outside run h (open_in_turn header outside run h legal.follows)); holds = legal.holds }
+pub cut_whole : (header : Header) (outside : Outside) (run : List Numbered) (h : List Event) → CanonicalFor header outside run h → CanonicalCut header outside run h
+cut_whole header outside run h legal = record { follows = cut_in_turn header outside run h (open_in_turn header outside run h legal.follows); holds = legal.holds; ended = legal.ended; recalled = legal.recalled }
 
 -- the commands that are left behind the next one
 abbrev pub left_of : {F P : Type 0} → Running F P → List Event → List Numbered
@@ -166,7 +165,7 @@ turn_cut report given n old new now follows grew legal may wrote = (by_way may, 
       later = take (length given.script.commands.items - count_of is_line old) given.script.commands.items;
       run = ran_of given.script old;
       order = order_at given.script.commands.items (count_of is_line old);
-      legal = subst (LegalCut given.script.header given.outside (ran_of given.script old)) (sym same) (cut_whole given.script.header given.outside (ran_of given.script old) old legal);
+      legal = subst (CanonicalCut given.script.header given.outside (ran_of given.script old)) (sym same) (cut_whole given.script.header given.outside (ran_of given.script old) old legal);
     }
     by_way (inr cut) = record {
       later = left_of given old;
@@ -203,7 +202,7 @@ backing_halted header outside who commands n old new start before after follows 
     same_ran : new ≡ old → oldest_items (count_of is_line new) commands ≡ run
     same_ran same = ap (λ z. oldest_items (count_of is_line z) commands) same
 
-    here : before_last_line new ≡ old → LegalCut header outside (n ∷ run) new → oldest_items (count_of is_line new) commands ≡ n ∷ run
+    here : before_last_line new ≡ old → CanonicalCut header outside (n ∷ run) new → oldest_items (count_of is_line new) commands ≡ n ∷ run
     here front cut =
         let made = cut.follows in
         ap (λ z. oldest_items z commands) (lines_more new old made.1 made.0 n.line front made.2) ∙ follows

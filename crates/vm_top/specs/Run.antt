@@ -23,7 +23,7 @@ use Rattle.vm_outside.specs.Areas.{Told, read_at}
 use Rattle.pg_file.specs.Stands.{name_of}
 use Rattle.pg_slots.specs.Contents.{area_name}
 use Rattle.vm_system.specs.Stands.{IsSupplied}
-use Rattle.vm_system.specs.Steps.{HasMore, LegalCut, CanonicalOpen}
+use Rattle.vm_system.specs.Steps.{HasMore, CanonicalCut, CanonicalOpen}
 use Rattle.vm_top.specs.Writing.{WroteStart, WroteBeyond}
 use Rattle.vm_top.specs.declared.run.RunEnd.{RunEnd}
 use Rattle.vm_top.specs.declared.run.RunEnd.TheVariants as end
@@ -112,12 +112,12 @@ pub record FailedIn (script : Script) (outside : Outside) (history : List Event)
   pub legal : CanonicalOpen script.header outside (next ∷ run) history
   pub written : WroteBeyond before after (text (front_of next.command history)) (text history)
 
--- memory ended: the history is legal as far as it goes, and its last step may be cut
+-- memory ended: the history is canonical as far as it goes, and its last step may be cut
 pub record CutIn (script : Script) (outside : Outside) (history : List Event) : Type 0 where
   pub later : List Numbered
   pub run : List Numbered
   pub order : script.commands.items ≡ later ++ run
-  pub legal : LegalCut script.header outside run history
+  pub legal : CanonicalCut script.header outside run history
 
 -- what is written of a history while it grows
 abbrev pub text_so_far : Report → List Event → List ℕ

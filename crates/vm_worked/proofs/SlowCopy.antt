@@ -1,7 +1,7 @@
 -- The whole history with the slow copy is canonical.
 use Rattle.std.proofs.Common.{ℕ, zero, suc, ◌≡◌, ◌<◌, ◌≤◌, Bool, Option, List, [], ◌∷◌, true, false, refl, subst, ap, sym, arith, Some, None, inl, inr}
 use Rattle.std.proofs.lemmas.Bool.Decides.{nat_tests}
-use Rattle.std.specs.Prelude.{◌==◌, ◌&&◌, if◌then◌else◌}
+use Rattle.std.specs.Prelude.{◌==◌, ◌&&◌, ◌||◌, if◌then◌else◌}
 use Rattle.vm_base.specs.declared.entry.Entry.{Entry}
 use Rattle.vm_base.specs.declared.ids.Inherit.TheVariants.{Copy, Share}
 use Rattle.vm_model.specs.declared.command.Command.TheVariants as command
@@ -19,12 +19,14 @@ use Rattle.vm_legal.specs.Accesses.{Waits}
 use Rattle.vm_legal.specs.Bytes.{FlatBytes, OwnBytes}
 use Rattle.vm_legal.specs.Debts.{IsPaid}
 use Rattle.vm_legal.specs.Frames.{FramesSuffice, frames_used}
-use Rattle.vm_legal.specs.InTurn.{AllInTurn, AllRecalled, EndsAll, FollowsInTurn}
+use Rattle.vm_legal.specs.InTurn.{AllInTurn, AllRecalled, FollowsInTurn, StepIsInTurn}
+use Rattle.vm_legal.specs.Serving.{HostsServed}
+use Rattle.vm_legal.proofs.Serving.{one_served}
 use Rattle.vm_legal.specs.Legal.{CanonicalFor}
 use Rattle.vm_legal.specs.Licences.{IsUnheld}
 use Rattle.vm_legal.specs.Outside.{is_shared}
 use Rattle.vm_legal.specs.Prompt.{AllServed, AnAnswer, IsSwept, Prompt, PromptAt, WaitsForPager}
-use Rattle.vm_legal.specs.Steps.{Letter, answers, readies, since}
+use Rattle.vm_legal.specs.Steps.{Letter, answers, error_taken, readies, since}
 use Rattle.vm_legal.specs.Walks.{Reach, page_on}
 use Rattle.vm_legal.proofs.Locks.{no_request}
 use Rattle.vm_legal.proofs.Unshared.{NoneIsShared, none_shared}
@@ -340,25 +342,70 @@ all_paid = (
 paid_now : IsPaid header history
 paid_now = owes_nothing header history refl refl refl refl refl
 
-all_ended : BeforeSteps (EndsAll header) history
-all_ended = (
-  ends_nobody header supplied refl,
+abbrev map_group : List Event
+map_group = event.Sent up (message.Init 1 16) ∷ event.Entered task 0 16 mapped 0 both Share ∷ []
+
+-- no error is taken, and all is done by the one host, or by nobody
+
+own : (h : ℕ) → (0 == h) ≡ true → h ≡ 0
+own h is = sym (number_is 0 h is)
+
+made_own : (h : ℕ) → (0 == h || false) ≡ true → h ≡ 0
+made_own h is = grind (arith, nat_tests)
+
+nobodys : (h : ℕ) → false ≡ true → h ≡ 1
+nobodys h is = absurd (cc)
+
+in_turn : (past : List Event) → error_taken header.size past ≡ None → HostsServed header past → StepIsInTurn header past
+in_turn past none served = record { ended = ends_nobody header past none; served = served }
+
+turn_supplied : StepIsInTurn header supplied
+turn_supplied = in_turn supplied refl (one_served header 1 (event.Sent down (message.Supply page 0 false zero_page) ∷ []) (event.Taken up (message.Request 1 page 1) ∷ settles_again) tt refl (tt, tt) (nobodys, tt))
+
+turn_asked : StepIsInTurn header asked
+turn_asked =
+    in_turn asked refl (one_served header 0 (event.Sent up (message.Request 1 page 1) ∷ event.RegionMade filled copied 1 ∷ event.BegunCopy task 0 16 32 ∷ []) (event.Line 7 ∷ settled) tt tt (tt, (tt, (tt, tt))) (own, (own, (own, tt))))
+
+turn_readied : StepIsInTurn header readied
+turn_readied = in_turn readied refl (one_served header 1 (event.Sent down (message.Ready false 0) ∷ []) (event.Taken up (message.Init 1 16) ∷ settles) tt refl (tt, tt) (nobodys, tt))
+
+turn_opened : StepIsInTurn header opened
+turn_opened = in_turn opened refl (one_served header 0 map_group (event.Line 5 ∷ made) tt tt (tt, (tt, tt)) (own, (own, tt)))
+
+turn_now : StepIsInTurn header history
+turn_now =
+    in_turn history refl
+    (one_served header 0 (event.Entered task 32 16 filled 0 both Copy ∷ event.CopyEnded task ∷ event.CopiedPage task page file page copied ∷ []) (event.Taken down (message.Supply page 0 false zero_page) ∷ supplied) tt refl (tt, (tt, (tt, tt)))
+    (own, (own, (own, tt))))
+
+all_in_turn : BeforeSteps (StepIsInTurn header) history
+all_in_turn = (
+  turn_supplied,
   (
-    ends_nobody header settles_again refl,
+    in_turn settles_again refl (one_served header 0 [] settles_again tt tt tt tt),
     (
-      ends_nobody header asked refl,
+      turn_asked,
       (
-        ends_nobody header settled refl,
-        (ends_nobody header readied refl, (ends_nobody header settles refl, (ends_nobody header opened refl, (ends_nobody header made refl, (ends_nobody header [] refl, tt))))),
+        in_turn settled refl (one_served header 0 [] settled tt refl tt tt),
+        (
+          turn_readied,
+          (
+            in_turn settles refl (one_served header 0 [] settles tt tt tt tt),
+            (
+              turn_opened,
+              (
+                in_turn made refl (one_served header 0 (event.TaskMade task host ∷ []) (event.Line 4 ∷ []) tt tt (tt, tt) (made_own, tt)),
+                (in_turn [] refl (one_served header 0 [] [] tt tt tt tt), tt),
+              ),
+            ),
+          ),
+        ),
       ),
     ),
   ),
 )
 
 -- each command has its group
-
-abbrev map_group : List Event
-map_group = event.Sent up (message.Init 1 16) ∷ event.Entered task 0 16 mapped 0 both Share ∷ []
 
 map_in_turn : AllInTurn header outside (command.Map task 0 16 file 0) map_group (event.Line 5 ∷ made)
 map_in_turn = (
@@ -457,8 +504,8 @@ canonical =
             pages = λ o p shared. not_shared header unshared o shared;
           };
       rests = record { prompt = prompt_now; paid = paid_now; served = served header unshared history };
-      ended = all_ended;
-      last = ends_nobody header history refl;
+      ended = all_in_turn;
+      last = turn_now;
       recalled = each_step (AllRecalled header) (recalls header unshared) history;
       recalls = recalls header unshared history;
     }
