@@ -1,4 +1,4 @@
-//! Calls of the parts of a host and of its outside: they are proved to be made as they may be, and run. They stand in a crate of their
+//! Calls of the parts of a host: they are proved to be made as they may be, and run. They stand in a crate of their
 //! own, since a crate with tests is proved twice.
 #![tactic(auto)]
 
@@ -6,8 +6,6 @@
 mod answers;
 #[cfg(test)]
 mod chains;
-#[cfg(test)]
-mod folder;
 #[cfg(test)]
 mod frames;
 #[cfg(test)]
@@ -18,8 +16,6 @@ mod maps;
 mod messages;
 #[cfg(test)]
 mod objects;
-#[cfg(test)]
-mod outside;
 #[cfg(test)]
 mod pageout;
 #[cfg(test)]
