@@ -16,7 +16,9 @@ use Rattle.vm_kernel.proofs.Ordering.{PutsInOrder}
 use Rattle.vm_kernel.proofs.Own.{named_host, own_host}
 use Rattle.vm_kernel.proofs.Shadows.{works_shadowed}
 pub use Rattle.vm_kernel.proofs.States.{state_of, with_state}
-use Rattle.vm_kernel.specs.Serving.{IsToCopy, runs_now}
+use Rattle.vm_kernel.proofs.Sourcing.{needs_it}
+use Rattle.vm_kernel.specs.Plays.{IsToCopyPage, SparesSource}
+use Rattle.vm_kernel.specs.Serving.{IsHere, IsTheSource, IsToCopy, runs_now}
 use Rattle.vm_legal.specs.Accesses as legal
 use Rattle.vm_model.specs.declared.event.Event.TheVariants as event
 use Rattle.vm_model.specs.declared.message.Message.TheVariants as message
@@ -34,7 +36,7 @@ use Rattle.std.proofs.lemmas.Bool.{and_parts}
 use Rattle.vm_kernel.proofs.Returning.{untold_temporary}
 use Rattle.vm_state.proofs.Declared.{kind_cases}
 use Rattle.std.specs.Prelude.{◌==◌}
-use Rattle.vm_kernel.proofs.Sources.{wants_copy}
+use Rattle.vm_kernel.proofs.Sources.{copies_source, only_copies, wants_copy}
 use Rattle.std.proofs.lemmas.Bool.{or_right}
 use Rattle.std.specs.Prelude.{nat_lt}
 use Rattle.vm_fault.specs.Walks.{is_copying}
@@ -426,22 +428,27 @@ frame_why header h past k ids w top t to (ToRaise steps key row finds stores out
 -- and what it is to copy
 
 found_source : (header : Header) (h : ℕ) (past : List Event) (k : Parts) (ids : Ids) (w : Waiting) (top : PageKey) → Tries header h past k ids w top → (steps : ℕ) (key : PageKey) (row : PageRow) → Finds k.memory k.chains steps top key row → Needs w.want top k.memory k.chains (Some key)
-    → IsToCopy header h k (Some key) past
+    → IsToCopyPage header h w.task key.object.0 key.page.0 past × IsHere k key
 found_source header h past k ids w top t steps key row finds needs =
     let to = leads_there header h past k ids w top t in
     let s = shown_at t.works.matches in (
       record {
-        task = w.task.0;
-        access = access_in k.maps.size to.destination w.want;
-        waits = it_waits header h past k w.task.0 w.want top t.at to;
-        on_host = refl;
-        comes = comes_at header h past k w.task.0 w.want top t.at to s steps key finds.walks;
-        wants = frame_why header h past k ids w top t to needs;
+        source = record {
+          task = w.task.0;
+          access = access_in k.maps.size to.destination w.want;
+          waits = it_waits header h past k w.task.0 w.want top t.at to;
+          on_host = refl;
+          comes = comes_at header h past k w.task.0 w.want top t.at to s steps key finds.walks;
+          wants = frame_why header h past k ids w top t to needs;
+        };
+        of = refl;
+        here = (shows_row s key.object.0 key.page.0 row finds.found finds.here).here;
       },
       (row, finds.found, finds.here),
     )
 
-frame_source : (header : Header) (h : ℕ) (past : List Event) (k : Parts) (ids : Ids) (w : Waiting) (top : PageKey) {source : Option PageKey} → Tries header h past k ids w top → Needs w.want top k.memory k.chains source → IsToCopy header h k source past
+frame_source : (header : Header) (h : ℕ) (past : List Event) (k : Parts) (ids : Ids) (w : Waiting) (top : PageKey) {source : Option PageKey} → Tries header h past k ids w top → Needs w.want top k.memory k.chains source
+    → IfSome source (λ key. IsToCopyPage header h w.task key.object.0 key.page.0 past × IsHere k key)
 frame_source header h past k ids w top t (Nowhere sinks) = tt
 frame_source header h past k ids w top t (ToAsk steps key object comes ready) = tt
 frame_source header h past k ids w top t (ToCopy steps key row finds copying out) = found_source header h past k ids w top t steps key row finds (ToCopy steps key row finds copying out)
@@ -452,6 +459,7 @@ pub record Wanting (header : Header) (h : ℕ) (w : Waiting) (may : Bool) (sourc
   pub wants : Wants header h after
   pub mine : wants.task ≡ w.task.0
   pub to_copy : IsToCopy header h k source after
+  pub exact : IsTheSource header h (SparesSource (Some w.task)) source after
   pub none : may ≡ true → free k.memory.frames ≡ 0
 
 pub wanting_of : (header : Header) (h : ℕ) (outside : Outside) (doing : Command) (past : List Event) (k : Parts) (ids : Ids) (w : Waiting) (may : Bool) (source : Option PageKey) (events : List Event) (new : FaultState) (waits2 : WaitTable)
@@ -467,12 +475,16 @@ wanting_of header h outside doing past k ids w may source events new waits2 work
     let wants : (wants : Wants header h moment) × (wants.task ≡ w.task.0) =
     (record { task = w.task.0; access = access_in k.maps.size to.destination w.want; waits = it_waits header h moment mid w.task.0 w.want f.top t.at to; on_host = refl; frame = frame_why header h moment mid f.mid.ids w f.top t to f.comes.0 }, refl) in
     let later = subst (λ (z : List Event). (wants : Wants header h (z ++ past)) × (wants.task ≡ w.task.0)) (sym same.told) wants in
-    let copies = frame_source header h moment mid f.mid.ids w f.top t f.comes.0 in
+    let found = frame_source header h moment mid f.mid.ids w f.top t f.comes.0 in
+    let copies = copies_source header h moment mid w.task source found in
+    let told : IsTheSource header h (SparesSource (Some w.task)) source moment =
+    record { is = only_copies header h moment mid w.task source found; only = needs_it header h moment mid w.task w.want f.top t.at source to (shown_at t.works.matches) f.comes.0 } in
     let here = subst (λ (z : HostParts). IsToCopy header h (record mid { memory = z }) source moment) (sym same.parts) copies in
     record {
       wants = later.0;
       mine = later.1;
       to_copy = to_copy_same source (subst (λ (z : List Event). IsToCopy header h (record mid { memory = new.parts }) source (z ++ past)) (sym same.told) here);
+      exact = subst (λ (z : List Event). IsTheSource header h (SparesSource (Some w.task)) source (z ++ past)) (sym same.told) told;
       none = λ so. ap (λ (z : HostParts). free z.frames) same.parts ∙ f.comes.1 so;
     }
   where

@@ -179,3 +179,18 @@ pub ran_swept : (header : Header) (h : ℕ) (outside : Outside) (doing : Command
 ran_swept header h outside doing past events k ids s done =
     let rests : Rests header h k ids (events ++ past) = record { matches = s.runs.matches; used = s.used; referred = s.referred; waits = s.runs.waits; order = s.runs.order; idle = s.runs.idle } in
     record { rests = rests; grows = s.runs.grows; done = done }
+
+-- what has gone is what the history says
+
+pub exit_gone : {header : Header} {h : ℕ} {task : TaskId} {past events : List Event} {k : Parts} {ids : Ids} (gone : List Entry) → Starts header h (command.Exit task) past k ids events → entries_in task.0 k.maps ≡ Some gone → gone ≡ entries_of header.size task.0 past
+exit_gone {task = task} {k = k} gone s value =
+    let m = s.rests.matches in
+    let live = lives_as task.0 k.maps gone value in
+    sym live.0 ∙ sym (m.tasks.rows task.0 (ap is_some value))
+
+pub removed_gone : {header : Header} {h : ℕ} {task : TaskId} {address bytes : ℕ} {past events : List Event} {k : Parts} {ids : Ids} (change : MapChange) (gone : List Entry) → Starts header h (command.Deallocate task address bytes) past k ids events
+    → change ≡ removal address bytes → gone ≡ parts_for k.maps task.0 change → gone ≡ parts_in header.size address bytes (entries_of header.size task.0 past)
+removed_gone {header = header} {task = task} {address = address} {bytes = bytes} {k = k} change gone s is taken =
+    let m = s.rests.matches in
+    let rows = rows_in task.0 k.maps in
+    taken ∙ (ap (λ z. parts_for k.maps task.0 z) is ∙ (ap (λ z. parts_in z address bytes rows) m.tasks.sized ∙ ap (λ z. parts_in header.size address bytes z) (sym (m.tasks.rows task.0 (ap is_some (lives_in task.0 m.tasks s.acts))))))

@@ -1,22 +1,19 @@
 -- An access that finds its page ends at once.
-use Rattle.vm_kernel.proofs.Common.{Backing, Bool, Comes, Command, EndsNext, Event, FindsPage, FrameNo, Header, HostId, HostParts, Ids, IsAt, IsNextAccess, IsOfNumber, IsTop, LegalEvents, List, Loading, ObjectRow, Option, Outside, PageKey, PageRow, Parts, RegionRow, Sight, Some, Storing, TaskId, ToRead, ToWrite, Waiting, Waits, Walks, Want, Works, [], access_in, address_in, ap, append_assoc, backing_of, count_again, entries_of, entry, entry_at, false, has_pager, inl, inr, is_again, is_known_absent, is_some, not, page_at, page_on, refl, region_of, sight, some_is, subst, suc, sym, true, zero, ℕ, ◌%◌, ◌&&◌, ◌++◌, ◌+◌, ◌∙◌, ◌∷◌, ◌≡◌, ◌⊎◌}
+use Rattle.vm_kernel.proofs.Common.{Backing, Bool, Comes, Command, EndsNext, Event, FindsPage, FrameNo, Header, HostId, HostParts, Ids, IsAt, IsNextAccess, IsOfNumber, IsTop, LegalEvents, List, Loading, Option, Outside, PageKey, PageRow, Parts, RegionRow, Sight, Some, Storing, TaskId, ToRead, ToWrite, Waiting, Waits, Walks, Want, Works, [], access_in, address_in, ap, append_assoc, backing_of, count_again, entries_of, entry, entry_at, false, has_pager, inl, inr, is_again, is_some, page_at, page_on, refl, region_of, sight, some_is, subst, suc, sym, true, zero, ℕ, ◌%◌, ◌&&◌, ◌++◌, ◌∙◌, ◌∷◌, ◌≡◌, ◌⊎◌}
 use Rattle.vm_base.specs.declared.entry.Entry.{Entry}
 use Rattle.vm_fault.specs.Faults.{AfterZeros, AtOnce, Copied, Ended, FaultState, Faulted, Hits, Needs, Nowhere, Prepares, Raised, ToAsk, ToCopy, ToRaise}
 use Rattle.vm_fault.specs.Faults as fault
-use Rattle.vm_fault.specs.Walks as walks
-use Rattle.vm_fault.specs.Walks.{Finds, MayCome, StopsAsked, WalksTo, is_storing, keeps_out, top_place, writes_at}
+use Rattle.vm_fault.specs.Walks.{Finds, StopsAsked, is_storing, keeps_out, top_place, writes_at}
 use Rattle.vm_fault.specs.declared.step.FaultStep.{FaultStep}
 use Rattle.vm_fault.specs.declared.step.FaultStep.TheVariants as step
 use Rattle.vm_kernel.proofs.Attempting.{state_of}
+use Rattle.vm_kernel.proofs.Landing.{Lands, never_asked, never_comes, never_sinks, not_passed, stop_same}
 use Rattle.vm_kernel.proofs.Leading.{Leads, leads_of}
 use Rattle.vm_kernel.proofs.Numbers.{no_copy}
-use Rattle.vm_legal.specs.Walks as legal
-use Rattle.vm_legal.specs.Walks.{Passes}
 use Rattle.vm_model.specs.declared.event.Event.TheVariants as event
 use Rattle.vm_shadow.specs.Chains.{ChainTable}
-use Rattle.vm_state.proofs.Shown.{IsShown, asks_row, misses, shows_row, told_live}
-use Rattle.vm_state.proofs.Walks.{sinks_of, walks_of}
-use Rattle.vm_state.specs.Places.{place_of}
+use Rattle.vm_state.proofs.Shown.{IsShown, shows_row}
+use Rattle.vm_state.proofs.Walks.{walks_of}
 use Rattle.vm_supply.specs.declared.woken.Woken.TheVariants as woken
 use Rattle.vm_terminate.specs.Finishes.{IsReferred}
 use Rattle.vm_waits.specs.declared.waiting.Want.TheVariants as want
@@ -37,27 +34,6 @@ some_same x y e = cc
 pub walk_ends : (sights : ℕ → ℕ → Sight) (backings : ℕ → Backing) (steps o p l lp : ℕ) → (backings o).backed ≡ false → Walks sights backings steps o p l lp → (o ≡ l) × (p ≡ lp)
 walk_ends sights backings zero o p l lp bare walks = walks
 walk_ends sights backings (suc n) o p l lp bare walks = absurd (let bad : true ≡ false = sym walks.1 ∙ bare in cc)
-
--- two walks from one place that stop, each at a place that isn't passed over, stop at the same
-
-moved_passes : (sights : ℕ → ℕ → Sight) (o p l lp : ℕ) → o ≡ l → p ≡ lp → Passes (sights o p) → Passes (sights l lp)
-moved_passes sights o p l lp object page passes = subst (λ (z : ℕ). Passes (sights z lp)) object (subst (λ (z : ℕ). Passes (sights o z)) page passes)
-
-pub stop_same : (sights : ℕ → ℕ → Sight) (backings : ℕ → Backing) (n m o p l lp l2 lp2 : ℕ) → Walks sights backings n o p l lp → Walks sights backings m o p l2 lp2 → (Passes (sights l lp) → ⊥) → (Passes (sights l2 lp2) → ⊥)
-    → (n ≡ m) × (l ≡ l2) × (lp ≡ lp2)
-stop_same sights backings zero zero o p l lp l2 lp2 one two stops ends = (refl, sym one.0 ∙ two.0, sym one.1 ∙ two.1)
-stop_same sights backings zero (suc m) o p l lp l2 lp2 one two stops ends = absurd (stops (moved_passes sights o p l lp one.0 one.1 two.0))
-stop_same sights backings (suc n) zero o p l lp l2 lp2 one two stops ends = absurd (ends (moved_passes sights o p l2 lp2 two.0 two.1 one.0))
-stop_same sights backings (suc n) (suc m) o p l lp l2 lp2 one two stops ends =
-    let rest = stop_same sights backings n m (backings o).under ((backings o).shift + p) l lp l2 lp2 one.2 two.2 stops ends in
-    (ap suc rest.0, rest.1, rest.2)
-
--- and a walk that finds the page nowhere stops at none
-pub sinks_past : (sights : ℕ → ℕ → Sight) (backings : ℕ → Backing) (n m o p l lp : ℕ) → legal.Sinks sights backings n o p → Walks sights backings m o p l lp → (Passes (sights l lp) → ⊥) → ⊥
-sinks_past sights backings zero zero o p l lp sinks walks stops = stops (moved_passes sights o p l lp walks.0 walks.1 sinks.0)
-sinks_past sights backings zero (suc m) o p l lp sinks walks stops = let bad : true ≡ false = sym walks.1 ∙ sinks.1 in cc
-sinks_past sights backings (suc n) zero o p l lp sinks walks stops = stops (moved_passes sights o p l lp walks.0 walks.1 sinks.0)
-sinks_past sights backings (suc n) (suc m) o p l lp sinks walks stops = sinks_past sights backings n m (backings o).under ((backings o).shift + p) l lp sinks.2 walks.2 stops
 
 -- where a waiting access finds its page: its walk ends there, that of a store at the top place
 record FindsAt (header : Header) (h : ℕ) (past : List Event) (what : Want) (top : PageKey) : Type 0 where
@@ -172,42 +148,10 @@ record Found (header : Header) (h : ℕ) (past : List Event) (parts : HostParts)
   pub referred : IsReferred parts.objects top.object.0
   pub finds : FindsAt header h past what top
 
-not_passed : (header : Header) (h : ℕ) (past : List Event) (o p : ℕ) → (page_on header h o p past).here ≡ true → Passes (sight header h o p past) → ⊥
-not_passed header h past o p here passes = let bad : false ≡ true = sym passes.away ∙ here in cc
+lands : {header : Header} {h : ℕ} {past : List Event} {parts : HostParts} {chains : ChainTable} {what : Want} {top : PageKey} → Found header h past parts chains what top → Lands header h past parts chains top
+lands f = record { shown = f.shown; referred = f.referred; at = record { steps = f.finds.steps; object = f.finds.object; page = f.finds.page; walks = f.finds.walks; here = f.finds.here } }
 
--- it isn't nowhere
-never_sinks : {header : Header} {h : ℕ} {past : List Event} {parts : HostParts} {chains : ChainTable} {what : Want} {top : PageKey} → Found header h past parts chains what top → walks.Sinks parts chains top → ⊥
-never_sinks {header = header} {h = h} {past = past} {top = top} f sinks =
-    sinks_past (λ k q. sight header h k q past) (λ k. backing_of header k past) sinks.steps f.finds.steps top.object.0 top.page.0 f.finds.object f.finds.page (sinks_of f.shown top f.referred sinks) f.finds.walks
-    (not_passed header h past f.finds.object f.finds.page f.finds.here)
-
--- it isn't at a place that is missing, and not passed over
-never_stops : {header : Header} {h : ℕ} {past : List Event} {parts : HostParts} {chains : ChainTable} {what : Want} {top : PageKey} → Found header h past parts chains what top → (n : ℕ) (key : PageKey) → WalksTo parts chains n top key
-    → (Passes (sight header h key.object.0 key.page.0 past) → ⊥) → (page_on header h key.object.0 key.page.0 past).here ≡ false → ⊥
-never_stops {header = header} {h = h} {past = past} {top = top} f n key walks stops missing =
-    let same = stop_same (λ k q. sight header h k q past) (λ k. backing_of header k past) n f.finds.steps top.object.0 top.page.0 key.object.0 key.page.0 f.finds.object f.finds.page (walks_of f.shown n top key walks) f.finds.walks stops
-    (not_passed header h past f.finds.object f.finds.page f.finds.here) in
-    let here : (page_on header h key.object.0 key.page.0 past).here ≡ true =
-    subst (λ (z : ℕ). (page_on header h z key.page.0 past).here ≡ true) (sym same.1) (subst (λ (z : ℕ). (page_on header h f.finds.object z past).here ≡ true) (sym same.2) f.finds.here) in
-    let bad : false ≡ true = sym missing ∙ here in
-    cc
-
--- the page of an object with a pager may come
-never_comes : {header : Header} {h : ℕ} {past : List Event} {parts : HostParts} {chains : ChainTable} {what : Want} {top : PageKey} → Found header h past parts chains what top → (n : ℕ) (key : PageKey) (object : ObjectRow) → MayCome parts chains n top key object
-    → has_pager object.state ≡ true → ⊥
-never_comes {header = header} {h = h} {past = past} f n key object comes told =
-    let missing = misses f.shown key.object.0 key.page.0 comes.absent in
-    let may_have : (sight header h key.object.0 key.page.0 past).may_have ≡ true =
-    ap (λ z. is_some z && not (is_known_absent header (place_of key.object.0 key.page.0) (page_on header h key.object.0 key.page.0 past))) (told_live f.shown key.object.0 object comes.known told) ∙ ap not (missing.known ∙ comes.may_have) in
-    never_stops f n key comes.walks (λ passes. (let bad : false ≡ true = sym passes.without ∙ may_have in cc)) missing.away
-
--- a page that is asked stops a walk
-never_asked : {header : Header} {h : ℕ} {past : List Event} {parts : HostParts} {chains : ChainTable} {what : Want} {top : PageKey} → Found header h past parts chains what top → (n : ℕ) (key : PageKey) (row : PageRow) → StopsAsked parts chains n top key row → ⊥
-never_asked f n key row stops =
-    let asks = asks_row f.shown key.object.0 key.page.0 row stops.found stops.away in
-    never_stops f n key stops.walks (λ passes. (let bad : false ≡ true = sym passes.unasked ∙ asks.asked in cc)) asks.away
-
--- and no lock keeps the access out where it is
+-- no lock keeps the access out where it is
 never_locked : {header : Header} {h : ℕ} {past : List Event} {parts : HostParts} {chains : ChainTable} {what : Want} {top : PageKey} → Found header h past parts chains what top → (n : ℕ) (key : PageKey) (row : PageRow) → Finds parts chains n top key row
     → keeps_out row.lock (writes_at what n) ≡ true → ⊥
 never_locked {header = header} {h = h} {past = past} {what = what} {top = top} f n key row finds locked =
@@ -248,29 +192,29 @@ ended_next : {header : Header} {h : ℕ} {past : List Event} {what : Want} {top 
     → Ended host task what top at value old new chains before after → EndsNext task.0 before after
 ended_next {what = what} host task at value old new chains before after f (AtOnce steps key row finds none out e hits told) = hits_next task what key row.frame at value e old new before after hits told
 ended_next host task at value old new chains before after f (Raised steps key row finds stores out frame copied hit raises keeps e hits touched told) = never (never_below f steps key row finds stores)
-ended_next host task at value old new chains before after f (AfterZeros sinks frame brought brings keeps e hits told) = never (never_sinks f sinks)
+ended_next host task at value old new chains before after f (AfterZeros sinks frame brought brings keeps e hits told) = never (never_sinks (lands f) sinks)
 ended_next {what = what} host task at value old new chains before after f (Copied address pages next target is steps key row finds out is_none copies) = never (subst IsOfNumber is f.number)
 
 never_needs : {header : Header} {h : ℕ} {past : List Event} {parts : HostParts} {chains : ChainTable} {what : Want} {top : PageKey} {source : Option PageKey} → Found header h past parts chains what top → Needs what top parts chains source → ⊥
-never_needs f (Nowhere sinks) = never_sinks f sinks
-never_needs f (ToAsk steps key object comes ready) = never_comes f steps key object comes (ap has_pager ready)
+never_needs f (Nowhere sinks) = never_sinks (lands f) sinks
+never_needs f (ToAsk steps key object comes ready) = never_comes (lands f) steps key object comes (ap has_pager ready)
 never_needs f (ToRaise steps key row finds stores out) = never_below f steps key row finds stores
 never_needs {what = what} f (ToCopy steps key row finds copying out) = no_copy what f.number copying
 
 comes_next : {header : Header} {h : ℕ} {past : List Event} {what : Want} {top : PageKey} (host : HostId) (task : TaskId) (may : Bool) (at : ℕ) (answer : FaultStep) (old new : FaultState) → Found header h past old.parts old.chains what top
     → fault.Comes host task what may top at answer old new → EndsNext task.0 old.events new.events
 comes_next host task may at (step.Done value) old new f comes = ended_next host task at value old.parts new.parts old.chains old.events new.events f comes
-comes_next host task may at (step.Ask key) old new f comes = never (never_comes f comes.steps key comes.object comes.comes (ap has_pager comes.ready))
+comes_next host task may at (step.Ask key) old new f comes = never (never_comes (lands f) comes.steps key comes.object comes.comes (ap has_pager comes.ready))
 comes_next {what = what} host task may at (step.Unlock key) old new f comes =
     never (never_locked f comes.steps key comes.row comes.finds comes.locked)
 comes_next host task may at (step.WaitReady object) old new f comes =
     let why = comes.0 in
-    never (never_comes f why.0 why.1 why.2 why.3 (ap has_pager why.4))
+    never (never_comes (lands f) why.0 why.1 why.2 why.3 (ap has_pager why.4))
 comes_next {what = what} {top = top} host task may at (step.WaitAnswer key) old new f comes = by comes.0.why
   where
     by : (Finds old.parts old.chains comes.0.steps top key comes.0.row × (keeps_out comes.0.row.lock (writes_at what comes.0.steps) ≡ true) × (comes.0.row.unlock_sent ≡ true)) ⊎ StopsAsked old.parts old.chains comes.0.steps top key comes.0.row → EndsNext task.0 old.events new.events
     by (inl locked) = never (never_locked f comes.0.steps key comes.0.row locked.0 locked.1)
-    by (inr stops) = never (never_asked f comes.0.steps key comes.0.row stops)
+    by (inr stops) = never (never_asked (lands f) comes.0.steps key comes.0.row stops)
 comes_next host task may at (step.NeedFrame source) old new f comes = never (never_needs f comes.0)
 
 -- an access that is run once and finds its page ends

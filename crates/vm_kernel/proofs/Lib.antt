@@ -37,6 +37,7 @@ pub mod Heeding
 pub mod Holding
 pub mod Known
 pub mod Laundering
+pub mod Landing
 pub mod Leading
 pub mod Locked
 pub mod Locking
@@ -46,6 +47,7 @@ pub mod Mine
 pub mod Numbers
 pub mod Opening
 pub mod Ordering
+pub mod Outgoing
 pub mod Own
 pub mod Pagemaking
 pub mod Pageout
@@ -74,6 +76,7 @@ pub mod Shares
 pub mod Sharing
 pub mod Shown
 pub mod Sources
+pub mod Sourcing
 pub mod Sparing
 pub mod States
 pub mod Stopping
@@ -83,6 +86,7 @@ pub mod Tasks
 pub mod Terminating
 pub mod Turning
 pub mod Uncopied
+pub mod Underneath
 pub mod Unlocking
 pub mod Untold
 pub mod Uses

@@ -1,11 +1,12 @@
 -- A pageout reclaims pages, one after another.
-use Rattle.vm_kernel.proofs.Common.{Command, EachGone, EachOf, Event, FreesOrReturns, Grows, Header, Ids, IfSome, IsDoneInTurn, IsReclaim, LegalEvents, List, None, Option, Outside, PageKey, Parts, Ran, Reclaim, ReclaimsOnly, Rests, Some, Starts, [], ap, departures, eqb_tells, head, host_id, inl, inr, of_both, page_key, refl, some_is, subst, sym, ℕ, ◌++◌, ◌+◌, ◌∙◌, ◌∷◌, ◌≡◌, ◌⊎◌}
+use Rattle.vm_kernel.proofs.Common.{Command, EachGone, EachOf, Event, FreesOrReturns, Grows, Header, Ids, IfSome, IsDoneInTurn, IsReclaim, LegalEvents, List, None, Option, Outside, PageKey, Paging, Parts, Ran, Reclaim, ReclaimsOnly, Rests, Some, Starts, TaskId, [], ap, departures, eqb_tells, first_in_queue, head, host_id, inl, inr, of_both, page_key, refl, some_is, subst, sym, ℕ, ◌++◌, ◌+◌, ◌∙◌, ◌∷◌, ◌≡◌, ◌⊎◌}
 use Rattle.vm_model.specs.declared.command.Command.TheVariants as command
 use Rattle.vm_model.specs.declared.event.Event.TheVariants as event
 use Rattle.vm_pageout.specs.declared.answer.Reclaim.TheVariants as reclaim
 use Rattle.vm_kernel.proofs.Growing.{grows_goes}
 use Rattle.vm_kernel.proofs.Reclaims.{exhausted, source_of}
-use Rattle.vm_kernel.specs.Serving.{IsToCopy}
+use Rattle.vm_kernel.specs.Plays.{FrontCopies, IsKeptSource, PlaysBy, SparesSource, SparesSourceSince}
+use Rattle.vm_kernel.specs.Serving.{IsTheSource, IsToCopy}
 use Rattle.vm_legal.specs.Prompt.{IsSource}
 
 -- the page of both, where that is the same
@@ -44,6 +45,32 @@ spares_one header h k first other spared moment past was now same apart = elim (
       }
   | inr not ↦ subst (λ (z : Option PageKey). SparesOne header h k z moment past) (sym (apart not)) (record { now = tt; was = tt })
 ]
+
+-- so it is the page that a pageout spares
+both_some : (A B : PageKey → Type 0) (x : Option PageKey) → IfSome x A → IfSome x B → IfSome x (λ key. A key × B key)
+both_some A B None a b = tt
+both_some A B (Some key) a b = (a, b)
+
+pub source_since : (header : Header) (h : ℕ) (front : Option TaskId) (first other spared : Option PageKey) (moment past : List Event) → IsTheSource header h (SparesSource front) first moment → IsTheSource header h (SparesSource front) other past
+    → (first ≡ other → spared ≡ other) → ((first ≡ other → ⊥) → spared ≡ None) → IsTheSource header h (SparesSourceSince front moment) spared past
+source_since header h front first other spared moment past was now same apart =
+    record {
+      is = elim (same_or_not first other) [
+        | inl is ↦
+            subst (λ (z : Option PageKey). IfSome z (λ key. IsKeptSource header h (SparesSourceSince front moment) key.object.0 key.page.0 past)) (sym (same is))
+            (both_some _ _ other now.is (subst (λ (z : Option PageKey). IfSome z (λ key. FrontCopies header h front key.object.0 key.page.0 moment)) is was.is))
+        | inr not ↦ subst (λ (z : Option PageKey). IfSome z (λ key. IsKeptSource header h (SparesSourceSince front moment) key.object.0 key.page.0 past)) (sym (apart not)) tt
+      ];
+      only = λ o p (here, then). same (was.only o p then ∙ sym (now.only o p here)) ∙ now.only o p here;
+    }
+
+-- the front is the one that stood first
+pub plays_first : {header : Header} {past before after : List Event} {old new : Paging} {q now : List TaskId} → now ≡ q → PlaysBy header (SparesSourceSince (first_in_queue now) past) past before old after new → PlaysBy header (SparesSourceSince (first_in_queue q) past) past before old after new
+plays_first {header = header} {past = past} {before = before} {after = after} {old = old} {new = new} same plays = subst (λ (z : List TaskId). PlaysBy header (SparesSourceSince (first_in_queue z) past) past before old after new) same plays
+
+pub first_source : (header : Header) (h : ℕ) (source : Option PageKey) (q now : List TaskId) (events past : List Event) → now ≡ q → events ≡ [] → IsTheSource header h (SparesSource (first_in_queue q)) source (events ++ past) → IsTheSource header h (SparesSource (first_in_queue now)) source past
+first_source header h source q now events past same none is =
+    subst (λ (z : List TaskId). IsTheSource header h (SparesSource (first_in_queue z)) source past) (sym same) (subst (λ (z : List Event). IsTheSource header h (SparesSource (first_in_queue q)) source (z ++ past)) none is)
 
 -- so many pages have gone, and nothing else was done; a page was to be copied when that began
 pub record Reclaiming (header : Header) (h : ℕ) (outside : Outside) (doing : Command) (count done : ℕ) (first : Option PageKey) (past : List Event) (k : Parts) (ids : Ids) (events : List Event) : Type 0 where

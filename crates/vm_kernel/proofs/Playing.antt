@@ -16,17 +16,36 @@ use Rattle.vm_queues.specs.Queues.{added, marked}
 use Rattle.vm_shadow.specs.declared.region_row.RegionRow.{RegionRow}
 use Rattle.vm_waits.specs.declared.waiting.Want.TheVariants as want
 use Rattle.vm_legal.specs.Licences.{ReturnOn}
-use Rattle.vm_kernel.specs.Plays.{Looks, AreSpared, Arrives, AsUnreached, AsVictim, Departs, uncreated}
+use Rattle.vm_kernel.specs.Plays.{AreSpared, Arrives, AsLocked, AsUnheld, AsUnreached, AsVictim, Departs, DepartsFrom, DoesBy, Looks, PlaysBy, Reclaims, ReclaimsNone, Sparing, uncreated}
 use Rattle.vm_kernel.proofs.Pages.{itself}
 
 -- first some events, and then some more
-pub plays_both : {header : Header} {past before mid : List Event} {old k : Paging} {after : List Event} {new : Paging} → Plays header past before old mid k → Plays header past mid k after new → Plays header past before old after new
+pub plays_both : {header : Header} {by : Sparing} {past before mid : List Event} {old k : Paging} {after : List Event} {new : Paging} → PlaysBy header by past before old mid k → PlaysBy header by past mid k after new → PlaysBy header by past before old after new
 plays_both one Still = one
 plays_both one (Looks host events inner new rest searches) = Looks host events inner new (plays_both one rest) searches
 plays_both one (Then e events inner new rest does) = Then e events inner new (plays_both one rest) does
 
-pub plays_still : (header : Header) (past events : List Event) (k : Paging) → Plays header past events k events k
-plays_still header past events k = Still
+pub plays_still : (header : Header) (by : Sparing) (past events : List Event) (k : Paging) → PlaysBy header by past events k events k
+plays_still header by past events k = Still
+
+-- where no page is reclaimed, none is wrongly
+
+departs_any : {header : Header} {h : ℕ} {past : List Event} {object page : ℕ} {old new : Paging} (by : Sparing) → DepartsFrom header h ReclaimsNone past object page old new → DepartsFrom header h by past object page old new
+departs_any by (AsVictim victim) = absurd victim.may
+departs_any by (AsUnreached none departs) = AsUnreached none departs
+departs_any by (AsUnheld unheld) = AsUnheld unheld
+departs_any by (AsLocked locked) = AsLocked locked
+
+does_any : (header : Header) (by : Sparing) (past : List Event) (e : Event) (old new : Paging) → Does header past e old new → DoesBy header by past e old new
+does_any header by past (event.Dropped host object page) old new does = departs_any by does
+does_any header by past (event.Sent (Up host object) (message.Return control page dirty false bytes)) old new (inl victim) = absurd victim.may
+does_any header by past (event.Sent (Up host object) (message.Return control page dirty false bytes)) old new (inr other) = inr other
+does_any header by past other old new does = does
+
+pub plays_any : {header : Header} {past before : List Event} {old : Paging} {after : List Event} {new : Paging} (by : Sparing) → Plays header past before old after new → PlaysBy header by past before old after new
+plays_any by Still = Still
+plays_any by (Looks host events mid new rest searches) = absurd searches.may
+plays_any {header = header} {past = past} by (Then e events mid new rest does) = Then e events mid new (plays_any by rest) (does_any header by (events ++ past) e mid new does)
 
 -- nothing has happened
 pub plays_none : (header : Header) (past before after : List Event) (old new : Paging) → after ≡ before → new ≡ old → Plays header past before old after new
@@ -34,9 +53,9 @@ plays_none header past before after old new told same =
     subst (λ (z : List Event). Plays header past before old z new) (sym told) (subst (λ (z : Paging). Plays header past before old before z) (sym same) Still)
 
 -- from the start of a call
-pub called_plays : {header : Header} {past before after : List Event} {k now : Parts} {new : Paging} → k ≡ now → before ≡ [] → Plays header past before (paging k) after new → Plays header past [] (paging now) after new
-called_plays {header} {past} {before} {after} {k} {now} {new} same none plays =
-    subst (λ (z : Parts). Plays header past [] (paging z) after new) same (subst (λ (z : List Event). Plays header past z (paging k) after new) none plays)
+pub called_plays : {header : Header} {past before after : List Event} {k now : Parts} {new : Paging} (by : Parts → Sparing) → k ≡ now → before ≡ [] → PlaysBy header (by k) past before (paging k) after new → PlaysBy header (by now) past [] (paging now) after new
+called_plays {header} {past} {before} {after} {k} {now} {new} by same none plays =
+    subst (λ (z : Parts). PlaysBy header (by z) past [] (paging z) after new) same (subst (λ (z : List Event). PlaysBy header (by k) past z (paging k) after new) none plays)
 
 -- one event
 pub plays_one : (header : Header) (past before after : List Event) (e : Event) (old new : Paging) → after ≡ e ∷ before → Does header (before ++ past) e old new → Plays header past before old after new
@@ -263,10 +282,10 @@ searched_twice q =
     ap spared (balanced_done (queues_after_search q) none) ∙ spared_done (queues_after_search q) (front_plain b.inactive (take (shortage x) x.active)) none
 
 -- a victim was looked for, and each page on the lists is spared
-pub plays_looked : (header : Header) (h : ℕ) (past events : List Event) (skip : List FrameNo) (k : Parts) (lists : Queues) → AreSpared header h (events ++ past) (paging k).frame_at skip → AllSkipped skip k.memory.queues → lists ≡ queues_after_search k.memory.queues
-    → Plays header past events (paging k) events (paging (record k { memory = record k.memory { queues = lists } }))
-plays_looked header h past events skip k lists sources all is =
-    Looks h events (paging k) _ Still (record { skip = skip; spared = sources; all = all; is = ap (λ (z : Queues). record (paging k) { queues = z }) is })
+pub plays_looked : (header : Header) (h : ℕ) (by : Sparing) (past events : List Event) (skip : List FrameNo) (k : Parts) (lists : Queues) → Reclaims by → AreSpared header h by (events ++ past) (paging k).frame_at skip → AllSkipped skip k.memory.queues
+    → lists ≡ queues_after_search k.memory.queues → PlaysBy header by past events (paging k) events (paging (record k { memory = record k.memory { queues = lists } }))
+plays_looked header h by past events skip k lists may sources all is =
+    Looks h events (paging k) _ Still (record { may = may; skip = skip; spared = sources; all = all; is = ap (λ (z : Queues). record (paging k) { queues = z }) is })
 
 -- nothing stands in front but what a return needs
 uncreated_same : (past : List Event) → owed past ≡ None → uncreated past ≡ past
@@ -279,14 +298,15 @@ pub plays_dropped : (header : Header) (past before after : List Event) (host : H
 plays_dropped header past before after host key old new none departs told = plays_told told (AsUnreached none departs)
 
 -- the victim has gone; the lists may have been searched before
-victim_of : (header : Header) (host : ℕ) (past : List Event) (skip : List FrameNo) (key : PageKey) (row : PageRow) (held : Bool) (bytes : List ℕ) (k k2 : Parts) (mid : Queues) → queues_after_search mid ≡ queues_after_search k.memory.queues
-    → AreSpared header host past (paging k).frame_at skip → IsChosen skip row mid → Changes key row.frame (Some row) None held bytes (queues_except row.frame.0 (queues_after_search mid)) (looked (record k.memory { queues = mid })) k2.memory
-    → IsVictim header host past key.object.0 key.page.0 (paging k) (paging k2)
-victim_of header host past skip key row held bytes k k2 mid same sources victim page =
+victim_of : (header : Header) (host : ℕ) (by : Sparing) (past : List Event) (skip : List FrameNo) (key : PageKey) (row : PageRow) (held : Bool) (bytes : List ℕ) (k k2 : Parts) (mid : Queues) → queues_after_search mid ≡ queues_after_search k.memory.queues
+    → Reclaims by → AreSpared header host by past (paging k).frame_at skip → IsChosen skip row mid → Changes key row.frame (Some row) None held bytes (queues_except row.frame.0 (queues_after_search mid)) (looked (record k.memory { queues = mid })) k2.memory
+    → IsVictim header host by past key.object.0 key.page.0 (paging k) (paging k2)
+victim_of header host by past skip key row held bytes k k2 mid same may sources victim page =
     let o = key.object.0 in
     let p = key.page.0 in
     let here = here_is (row_at k.memory.resident o p) row row.frame page.found victim.here refl in
     record {
+      may = may;
       skip = skip;
       spared = sources;
       victim = ap (victim_frame skip) (sym same) ∙ victim.victim ∙ sym here;
@@ -299,18 +319,18 @@ victim_of header host past skip key row held bytes k k2 mid same sources victim 
     }
 
 -- a page was reclaimed, where one is on a list that isn't skipped; the lists may have been searched before
-pub reclaim_plays_from : (header : Header) (h : ℕ) (past : List Event) (ids : Ids) (skip : List FrameNo) (answer : Reclaim) (k k2 : Parts) (mid : Queues) (before after : List Event) → Rests header h k ids (before ++ past) → AreSpared header h (before ++ past) (paging k).frame_at skip
+pub reclaim_plays_from : (header : Header) (h : ℕ) (by : Sparing) (past : List Event) (ids : Ids) (skip : List FrameNo) (answer : Reclaim) (k k2 : Parts) (mid : Queues) (before after : List Event) → Rests header h k ids (before ++ past) → Reclaims by → AreSpared header h by (before ++ past) (paging k).frame_at skip
     → queues_after_search mid ≡ queues_after_search k.memory.queues → (f : ℕ) → is_queued mid f ≡ true → is_skipped skip f ≡ false
-    → ReclaimEffects answer k.host skip (record k.memory { queues = mid }) k2.memory k.laundry k2.laundry before after → Plays header past before (paging k) after (paging k2)
-reclaim_plays_from header h past ids skip reclaim.Freed k k2 mid before after rests sources same f queued unskipped is =
-    plays_told is.events
-    (AsVictim (victim_of header k.host.0 (before ++ past) skip is.key is.row _ _ k k2 mid same (subst (λ (z : ℕ). AreSpared header z (before ++ past) (paging k).frame_at skip) (sym rests.matches.host) sources) is.victim is.page))
-reclaim_plays_from header h past ids skip reclaim.Returned k k2 mid before after rests sources same f queued unskipped is =
-    subst (λ (z : List Event). Plays header past before (paging k) z (paging k2)) (sym is.events)
-    (Then goes (told_from is.object.state creation before) (paging k) (paging k2) (made is.object.state) (inl (subst (λ (z : List Event). IsVictim header k.host.0 z is.key.object.0 is.key.page.0 (paging k) (paging k2)) (sym (bare is.object.state)) victim)))
+    → ReclaimEffects answer k.host skip (record k.memory { queues = mid }) k2.memory k.laundry k2.laundry before after → PlaysBy header by past before (paging k) after (paging k2)
+reclaim_plays_from header h by past ids skip reclaim.Freed k k2 mid before after rests may sources same f queued unskipped is =
+    subst (λ (z : List Event). PlaysBy header by past before (paging k) z (paging k2)) (sym is.events)
+    (Then _ before (paging k) (paging k2) Still (AsVictim (victim_of header k.host.0 by (before ++ past) skip is.key is.row _ _ k k2 mid same may (subst (λ (z : ℕ). AreSpared header z by (before ++ past) (paging k).frame_at skip) (sym rests.matches.host) sources) is.victim is.page)))
+reclaim_plays_from header h by past ids skip reclaim.Returned k k2 mid before after rests may sources same f queued unskipped is =
+    subst (λ (z : List Event). PlaysBy header by past before (paging k) z (paging k2)) (sym is.events)
+    (Then goes (told_from is.object.state creation before) (paging k) (paging k2) (made is.object.state) (inl (subst (λ (z : List Event). IsVictim header k.host.0 by z is.key.object.0 is.key.page.0 (paging k) (paging k2)) (sym (bare is.object.state)) victim)))
   where
-    victim : IsVictim header k.host.0 (before ++ past) is.key.object.0 is.key.page.0 (paging k) (paging k2)
-    victim = victim_of header k.host.0 (before ++ past) skip is.key is.row _ _ k k2 mid same (subst (λ (z : ℕ). AreSpared header z (before ++ past) (paging k).frame_at skip) (sym rests.matches.host) sources) is.victim is.page
+    victim : IsVictim header k.host.0 by (before ++ past) is.key.object.0 is.key.page.0 (paging k) (paging k2)
+    victim = victim_of header k.host.0 by (before ++ past) skip is.key is.row _ _ k k2 mid same may (subst (λ (z : ℕ). AreSpared header z by (before ++ past) (paging k).frame_at skip) (sym rests.matches.host) sources) is.victim is.page
 
     goes : Event
     goes = sends k.host is.key (message.Return (controlled is.object).control is.key.page is.row.dirty false (page_in k.memory.frames is.row.frame.0))
@@ -318,7 +338,7 @@ reclaim_plays_from header h past ids skip reclaim.Returned k k2 mid before after
     creation : Event
     creation = sends k.host is.key (message.Create (controlled is.object).control k.memory.buffers.size)
 
-    made : (pager : PagerState) → Plays header past before (paging k) (told_from pager creation before) (paging k)
+    made : (pager : PagerState) → PlaysBy header by past before (paging k) (told_from pager creation before) (paging k)
     made state.Without = Then creation before (paging k) (paging k) Still refl
     made state.Sent = Still
     made state.Ready = Still
@@ -327,12 +347,12 @@ reclaim_plays_from header h past ids skip reclaim.Returned k k2 mid before after
     bare state.Without = refl
     bare state.Sent = uncreated_same (before ++ past) rests.matches.settled.none_owed
     bare state.Ready = uncreated_same (before ++ past) rests.matches.settled.none_owed
-reclaim_plays_from header h past ids skip reclaim.Nothing k k2 mid before after rests sources same f queued unskipped is =
+reclaim_plays_from header h by past ids skip reclaim.Nothing k k2 mid before after rests may sources same f queued unskipped is =
     absurd (let bad : true ≡ false = sym (is.skipped f queued) ∙ unskipped in cc)
 
 -- and where they were
-pub reclaim_plays : (header : Header) (h : ℕ) (past : List Event) (ids : Ids) (skip : List FrameNo) (answer : Reclaim) (k k2 : Parts) (before after : List Event) → Rests header h k ids (before ++ past) → AreSpared header h (before ++ past) (paging k).frame_at skip
+pub reclaim_plays : (header : Header) (h : ℕ) (by : Sparing) (past : List Event) (ids : Ids) (skip : List FrameNo) (answer : Reclaim) (k k2 : Parts) (before after : List Event) → Rests header h k ids (before ++ past) → Reclaims by → AreSpared header h by (before ++ past) (paging k).frame_at skip
     → KeepsPages k.memory.queues (queues_after_search k.memory.queues) → (f : ℕ) → is_queued k.memory.queues f ≡ true → is_skipped skip f ≡ false
-    → ReclaimEffects answer k.host skip (record k.memory { queues = queues_after_search k.memory.queues }) k2.memory k.laundry k2.laundry before after → Plays header past before (paging k) after (paging k2)
-reclaim_plays header h past ids skip answer k k2 before after rests sources keeps f queued unskipped is =
-    reclaim_plays_from header h past ids skip answer k k2 (queues_after_search k.memory.queues) before after rests sources (searched_twice k.memory.queues) f (keeps f ∙ queued) unskipped is
+    → ReclaimEffects answer k.host skip (record k.memory { queues = queues_after_search k.memory.queues }) k2.memory k.laundry k2.laundry before after → PlaysBy header by past before (paging k) after (paging k2)
+reclaim_plays header h by past ids skip answer k k2 before after rests may sources keeps f queued unskipped is =
+    reclaim_plays_from header h by past ids skip answer k k2 (queues_after_search k.memory.queues) before after rests may sources (searched_twice k.memory.queues) f (keeps f ∙ queued) unskipped is

@@ -85,7 +85,7 @@ pub wants_there : (header : Header) (h : ℕ) (outside : Outside) (doing : Comma
 wants_there header h outside doing past k ids w may source last events new waits2 works is now runs =
     let r = runs_to header h outside doing past events k ids w may (step.NeedFrame source) last new works is now runs in
     let there = wanting_of header h outside doing past (kernel_there k r) r.mid.ids (with_want w r.what) may source r.mid.events new waits2 r.works r.is now r.ran in
-    record { wants = there.wants; mine = there.mine; to_copy = there.to_copy; none = there.none }
+    record { wants = there.wants; mine = there.mine; to_copy = there.to_copy; exact = there.exact; none = there.none }
 
 -- it has ended
 
@@ -258,6 +258,7 @@ joins_queue header h outside doing past k ids w may source last events new waits
       wants = there.wants;
       mine = there.mine;
       to_copy = there.to_copy;
+      exact = there.exact;
       none = there.none;
       again = agains;
       queued = queues;

@@ -6,8 +6,8 @@ use Rattle.vm_kernel.proofs.Own.{lives_here, rows_here}
 use Rattle.vm_kernel.proofs.Pages.{itself}
 use Rattle.vm_base.specs.Pages.{page_positive}
 use Rattle.vm_kernel.proofs.Shown.{page_left, shown_at, waiting_place, want_address}
-use Rattle.vm_kernel.specs.Plays.{AreSpared, frame_here}
-use Rattle.vm_kernel.specs.Serving.{FreesBut, IsHere, IsToCopy, SkipLocked, frame_spared, frames_locked, frames_spared, option_list}
+use Rattle.vm_kernel.specs.Plays.{AreSpared, EachSpared, IsKeptSource, IsSpared, Sparing, frame_here}
+use Rattle.vm_kernel.specs.Serving.{FreesBut, IsHere, IsTheSource, IsToCopy, SkipLocked, frame_spared, frames_locked, frames_spared, option_list}
 use Rattle.vm_kernel.specs.Taking.{page_waited}
 use Rattle.vm_legal.specs.Accesses.{WaitsUnlocked}
 use Rattle.vm_queues.specs.Queues.{is_skipped}
@@ -198,30 +198,45 @@ skips_one k key here =
 -- and no other is
 
 -- one more page may be spared
-spared_more : (header : Header) (h : ℕ) (k : Parts) (past : List Event) (reason : On) (rest : List FrameNo) (x : Option FrameNo) → frame_spared k.memory.resident (page_waited reason) ≡ x → ((key : PageKey) (row : PageRow) → reason ≡ on.Page key → row_at k.memory.resident key.object.0 key.page.0 ≡ Some row → row.here ≡ true → WaitsUnlocked header h key.object.0 key.page.0 past)
-    → AreSpared header h past (paging k).frame_at rest → AreSpared header h past (paging k).frame_at (option_list x ++ rest)
-spared_more header h k past reason rest None is waits others = others
-spared_more header h k past reason rest (Some f) is waits others =
+spared_more : (header : Header) (h : ℕ) (by : Sparing) (k : Parts) (past : List Event) (reason : On) (rest : List FrameNo) (x : Option FrameNo) → frame_spared k.memory.resident (page_waited reason) ≡ x → ((key : PageKey) (row : PageRow) → reason ≡ on.Page key → row_at k.memory.resident key.object.0 key.page.0 ≡ Some row → row.here ≡ true → WaitsUnlocked header h key.object.0 key.page.0 past)
+    → EachSpared header h by past (paging k).frame_at rest → EachSpared header h by past (paging k).frame_at (option_list x ++ rest)
+spared_more header h by k past reason rest None is waits others = others
+spared_more header h by k past reason rest (Some f) is waits others =
     let page = waited_frame k.memory.resident reason f is in
     let row = here_row (row_at k.memory.resident page.0.object.0 page.0.page.0) f page.2 in
     ((page.0.object.0, page.0.page.0, inr (waits page.0 row.0 page.1 row.1 row.2), page.2), others)
 
-spared_locked : (header : Header) (h : ℕ) (k : Parts) (ids : Ids) (past : List Event) (ws : List Waiting) → Matches header h k ids [] past → HasWaits k woken.Nobody past → HasSlow header k past → EachOnce ws → ((t : ℕ) (v : Waiting) → entry ws t ≡ Some v → entry k.waits.rows t ≡ Some v)
-    → AreSpared header h past (paging k).frame_at (frames_locked k.memory.resident ws)
-spared_locked header h k ids past [] m waits copies once stand = tt
-spared_locked header h k ids past (w ∷ ws) m waits copies once stand =
-    spared_more header h k past w.on (frames_locked k.memory.resident ws) (frame_spared k.memory.resident (page_waited w.on)) refl
+spared_locked : (header : Header) (h : ℕ) (by : Sparing) (k : Parts) (ids : Ids) (past : List Event) (ws : List Waiting) → Matches header h k ids [] past → HasWaits k woken.Nobody past → HasSlow header k past → EachOnce ws → ((t : ℕ) (v : Waiting) → entry ws t ≡ Some v → entry k.waits.rows t ≡ Some v)
+    → EachSpared header h by past (paging k).frame_at (frames_locked k.memory.resident ws)
+spared_locked header h by k ids past [] m waits copies once stand = tt
+spared_locked header h by k ids past (w ∷ ws) m waits copies once stand =
+    spared_more header h by k past w.on (frames_locked k.memory.resident ws) (frame_spared k.memory.resident (page_waited w.on)) refl
     (λ key row on_page found here. waits_for_unlock header h k ids past key.object.0 key.page.0 w.task.0 row w m waits copies found here (first_stands w ws k.waits.rows stand) on_page)
-    (spared_locked header h k ids past ws m waits copies once.1 (later_stand w ws k.waits.rows once stand))
+    (spared_locked header h by k ids past ws m waits copies once.1 (later_stand w ws k.waits.rows once stand))
 
-pub are_spared : (header : Header) (h : ℕ) (k : Parts) (ids : Ids) (past : List Event) (spared : Option PageKey) → Matches header h k ids [] past → HasWaits k woken.Nobody past → HasSlow header k past → EachOnce k.waits.rows → IsToCopy header h k spared past
-    → AreSpared header h past (paging k).frame_at (frames_spared k.memory.resident spared k.waits.rows)
-are_spared header h k ids past None m waits copies once to_copy = spared_locked header h k ids past k.waits.rows m waits copies once (λ t v there. there)
-are_spared header h k ids past (Some key) m waits copies once to_copy =
+each_spared : (header : Header) (h : ℕ) (k : Parts) (ids : Ids) (past : List Event) (by : Sparing) (spared : Option PageKey) → Matches header h k ids [] past → HasWaits k woken.Nobody past → HasSlow header k past → EachOnce k.waits.rows → IsToCopy header h k spared past
+    → IfSome spared (λ key. IsKeptSource header h by key.object.0 key.page.0 past) → EachSpared header h by past (paging k).frame_at (frames_spared k.memory.resident spared k.waits.rows)
+each_spared header h k ids past by None m waits copies once to_copy source = spared_locked header h by k ids past k.waits.rows m waits copies once (λ t v there. there)
+each_spared header h k ids past by (Some key) m waits copies once to_copy source =
     let here = to_copy.1 in
     let frame = ap frame_here here.1 ∙ here_frame here.0 here.2 in
-    subst (λ (z : Option FrameNo). AreSpared header h past (paging k).frame_at (option_list z ++ frames_locked k.memory.resident k.waits.rows)) (sym frame)
-    ((key.object.0, key.page.0, inl to_copy.0, frame), spared_locked header h k ids past k.waits.rows m waits copies once (λ t v there. there))
+    subst (λ (z : Option FrameNo). EachSpared header h by past (paging k).frame_at (option_list z ++ frames_locked k.memory.resident k.waits.rows)) (sym frame)
+    ((key.object.0, key.page.0, inl source, frame), spared_locked header h by k ids past k.waits.rows m waits copies once (λ t v there. there))
+
+-- each page that is spared is skipped where it is here
+skips_spared : (header : Header) (h : ℕ) (k : Parts) (ids : Ids) (past : List Event) (by : Sparing) (spared : Option PageKey) → Matches header h k ids [] past → HasWaits k woken.Nobody past → ((o p : ℕ) → IsKeptSource header h by o p past → spared ≡ Some (page_key o p))
+    → (o p : ℕ) (frame : FrameNo) → IsSpared header h by o p past → (paging k).frame_at o p ≡ Some frame → is_skipped (frames_spared k.memory.resident spared k.waits.rows) frame.0 ≡ true
+skips_spared header h k ids past by spared m waits only o p frame why is =
+    let row = here_row (row_at k.memory.resident o p) frame is in
+    subst (λ (z : FrameNo). is_skipped (frames_spared k.memory.resident spared k.waits.rows) z.0 ≡ true) row.3 (elim why [
+      | inl source ↦ subst (λ (z : Option PageKey). is_skipped (frames_spared k.memory.resident z k.waits.rows) row.0.frame.0 ≡ true) (sym (only o p source)) (skips_one k (page_key o p) (row.0, row.1, row.2))
+      | inr locked ↦ skips_locked header h k ids past spared m waits o p row.0 row.1 (sym (shows_row (shown_at m) o p row.0 row.1 row.2).unlocking ∙ locked.unlocking)
+    ])
+
+pub are_spared : (header : Header) (h : ℕ) (k : Parts) (ids : Ids) (past : List Event) (by : Sparing) (spared : Option PageKey) → Matches header h k ids [] past → HasWaits k woken.Nobody past → HasSlow header k past → EachOnce k.waits.rows → IsToCopy header h k spared past
+    → IsTheSource header h by spared past → AreSpared header h by past (paging k).frame_at (frames_spared k.memory.resident spared k.waits.rows)
+are_spared header h k ids past by spared m waits copies once to_copy source =
+    record { each = each_spared header h k ids past by spared m waits copies once to_copy source.is; all = skips_spared header h k ids past by spared m waits source.only }
 
 -- what a reclaim leaves, by the pages that are spared
 

@@ -13,7 +13,9 @@ use Rattle.vm_kernel.proofs.Growing.{free_is}
 use Rattle.vm_kernel.proofs.Ordering.{oldest_first}
 use Rattle.std.proofs.lemmas.Bool.{or_left, or_right}
 use Rattle.vm_kernel.proofs.Pages.{itself}
-use Rattle.vm_kernel.proofs.Playing.{or_turned}
+use Rattle.vm_kernel.proofs.Playing.{or_turned, plays_any, plays_both}
+use Rattle.vm_kernel.specs.Plays.{Paging, Plays, PlaysBy, Sparing, SparesSource, Still, paging}
+use Rattle.vm_kernel.specs.Turns.{Leaves, Stays}
 
 -- the queue
 
@@ -70,24 +72,30 @@ did_kept mine others (ForAsked claims front is host key control steps row found 
     ForAsked claims front is host key control steps row (mine refl ∙ found) waits (λ t w early at. let one = others refl t early in none t w one.0 (sym one.1 ∙ at))
 
 -- the rows of those who left are as they were
-claims_kept : (rows rows2 : List Waiting) (first : Option TaskId) (left : List TaskId) (events : List Event) → ((t : ℕ) → is_listed t left ≡ true → entry rows2 t ≡ entry rows t) → ClaimsInTurn rows first left events → ClaimsInTurn rows2 first left events
-claims_kept rows rows2 first [] events same claims = claims
-claims_kept rows rows2 first (task ∷ left) events same (claims, late, own, early, is, none, did, before) = (
-  claims,
-  late,
-  own,
-  early,
-  is,
-  none,
-  did_kept (λ claiming. same task.0 (or_left (task.0 == task.0) (is_listed task.0 left) (itself task.0))) (λ claiming t there. (there, same t (or_right (task.0 == t) (is_listed t left) there))) did,
-  claims_kept rows rows2 (Some task) left early (λ t there. same t (or_right (task.0 == t) (is_listed t left) there)) before,
-)
+claims_kept : {header : Header} {past before : List Event} {old : Paging} {rows rows2 : List Waiting} {first : Option TaskId} {left : List TaskId} {events : List Event} {new : Paging} → ((t : ℕ) → is_listed t left ≡ true → entry rows2 t ≡ entry rows t)
+    → ClaimsInTurn header past before old rows first left events new → ClaimsInTurn header past before old rows2 first left events new
+claims_kept same (Stays first late new none plays) = Stays first late new none plays
+claims_kept same (Leaves first task left claims late own early mid ran new before did ran_so none plays) =
+    Leaves first task left claims late own early mid ran new
+    (claims_kept (λ t there. same t (or_right (task.0 == t) (is_listed t left) there)) before)
+    (did_kept (λ claiming. same task.0 (or_left (task.0 == task.0) (is_listed task.0 left) (itself task.0))) (λ claiming t there. (there, same t (or_right (task.0 == t) (is_listed t left) there))) did)
+    ran_so
+    none
+    plays
 
 -- more happens, but no access is run but the first of the queue, who copies pages
-claims_late : (rows : List Waiting) (first : Option TaskId) (left : List TaskId) (more events : List Event) → EachOf (RunsFront first) more → ClaimsInTurn rows first left events → ClaimsInTurn rows first left (more ++ events)
-claims_late rows first [] more events none claims = of_both (RunsFront first) more events none claims
-claims_late rows first (task ∷ left) more events quiet (claims, late, own, early, is, none, one, before) =
-    (claims, more ++ late, own, early, ap (λ z. more ++ z) is ∙ sym (append_assoc more late (own ++ early)), of_both (RunsFront first) more late quiet none, one, before)
+claims_late : {header : Header} {past before : List Event} {old : Paging} {rows : List Waiting} {first : Option TaskId} {left : List TaskId} {events : List Event} {mid : Paging} (more : List Event) (new : Paging) → EachOf (RunsFront first) more
+    → PlaysBy header (SparesSource first) past (events ++ before) mid (more ++ (events ++ before)) new → ClaimsInTurn header past before old rows first left events mid → ClaimsInTurn header past before old rows first left (more ++ events) new
+claims_late {header = header} {past = past} {before = before} {old = old} more new quiet plays (Stays first late mid none was) =
+    Stays first (more ++ late) new (of_both (RunsFront first) more late quiet none)
+    (subst (λ (z : List Event). PlaysBy header (SparesSource first) past before old z new) (sym (append_assoc more late before)) (plays_both was plays))
+claims_late {header = header} {past = past} {before = before} {old = old} {rows = rows} more new quiet plays (Leaves first task left claims late own early start ran mid others did ran_so none was) =
+    let behind = own ++ (early ++ before) in
+    let same : (late ++ (own ++ early)) ++ before ≡ late ++ behind = append_assoc late (own ++ early) before ∙ ap (λ z. late ++ z) (append_assoc own early before) in
+    let next : PlaysBy header (SparesSource first) past (late ++ behind) mid (more ++ (late ++ behind)) new = subst (λ (z : List Event). PlaysBy header (SparesSource first) past z mid (more ++ z) new) same plays in
+    subst (λ (z : List Event). ClaimsInTurn header past before old rows first (task ∷ left) z new) (append_assoc more late (own ++ early))
+    (Leaves first task left claims (more ++ late) own early start ran new others did ran_so (of_both (RunsFront first) more late quiet none)
+    (subst (λ (z : List Event). PlaysBy header (SparesSource first) past behind ran z new) (sym (append_assoc more late behind)) (plays_both was next)))
 
 -- nor is it by an event of no access
 none_runs : (first : Option TaskId) (e : Event) → RunsNone e → RunsFront first e
@@ -317,25 +325,39 @@ restarts_more header h past q w may wants old new before after was next run want
 -- leaving
 
 -- the queue as it was, or some have left
-abbrev pub Serving : WaitTable → WaitTable → List Event → List Event → Type 0
-Serving first_in_queue now before events = ((now ≡ first_in_queue) × (events ≡ before)) ⊎ LeavesInTurn first_in_queue.queue now before events
+abbrev pub Serving : Header → List Event → Parts → Parts → List Event → List Event → Type 0
+Serving header past start now before events = ((now ≡ start) × (events ≡ before)) ⊎ LeavesInTurn header past start now before events
 
-pub leaves_of : (start now : WaitTable) (before events : List Event) → Serving start now before events → AreQueued now.rows now.queue → LeavesInTurn start.queue now before events
-leaves_of start now before events (inr leaves) line = leaves
-leaves_of start now before events (inl (same, told)) line =
-    record { left = []; queue = sym (ap (λ z. z.queue) same); once = subst (λ (z : WaitTable). EachListedOnce z.queue) same line.once; served = []; told = told; turns = tt }
+pub leaves_of : (header : Header) (past : List Event) (start now : Parts) (before events : List Event) → Serving header past start now before events → AreQueued now.waits.rows now.waits.queue → LeavesInTurn header past start now before events
+leaves_of header past start now before events (inr leaves) line = leaves
+leaves_of header past start now before events (inl (same, told)) line =
+    record {
+      left = [];
+      queue = sym (ap (λ (z : Parts). z.waits.queue) same);
+      once = subst (λ (z : Parts). EachListedOnce z.waits.queue) same line.once;
+      served = [];
+      told = told;
+      turns = Stays (first_in_queue now.waits.queue) [] (paging now) tt (subst (λ (z : Parts). PlaysBy header (SparesSource (first_in_queue now.waits.queue)) past before (paging z) before (paging now)) same Still);
+    }
+
+-- by the events that were added
+told_plays : {header : Header} {by : Sparing} {past after : List Event} {old new : Paging} (start served more before : List Event) → before ≡ served ++ start → after ≡ more ++ before → PlaysBy header by past before old after new
+    → PlaysBy header by past (served ++ start) old (more ++ (served ++ start)) new
+told_plays {header = header} {by = by} {past = past} {old = old} {new = new} start served more before was told plays =
+    subst (λ (z : List Event). PlaysBy header by past z old (more ++ z) new) was (subst (λ (z : List Event). PlaysBy header by past before old z new) told plays)
 
 -- who left did so in front of the one that stands first now
-turns_kept : (w : Waiting) (old new : WaitTable) (left : List TaskId) (served : List Event) → first_in_queue old.queue ≡ Some w.task → ((t : ℕ) → is_listed t left ≡ true → entry new.rows t ≡ entry old.rows t) → ClaimsInTurn old.rows (first_in_queue old.queue) left served
-    → ClaimsInTurn new.rows (Some w.task) left served
-turns_kept w old new left served front same turns = claims_kept old.rows new.rows (Some w.task) left served same (subst (λ (z : Option TaskId). ClaimsInTurn old.rows z left served) front turns)
+turns_kept : {header : Header} {past before : List Event} {start mid : Paging} (w : Waiting) (old new : WaitTable) (left : List TaskId) (served : List Event) → first_in_queue old.queue ≡ Some w.task → ((t : ℕ) → is_listed t left ≡ true → entry new.rows t ≡ entry old.rows t)
+    → ClaimsInTurn header past before start old.rows (first_in_queue old.queue) left served mid → ClaimsInTurn header past before start new.rows (Some w.task) left served mid
+turns_kept {header = header} {past = past} {before = before} {start = start} {mid = mid} w old new left served front same turns =
+    claims_kept same (subst (λ (z : Option TaskId). ClaimsInTurn header past before start old.rows z left served mid) front turns)
 
 -- the front was run
-pub leaves_ran : (q : List TaskId) (w : Waiting) (may wants : Bool) (old new : WaitTable) (start before after : List Event) → LeavesInTurn q old start before → AreQueued old.rows old.queue → first_in_queue old.queue ≡ Some w.task → is_frame w.on ≡ true
-    → RunsOnce w may wants old new before after → LeavesInTurn q new start after
-leaves_ran q w may true old new start before after was line front frame run =
-    let s = split w.task old.queue front in
-    let same : new.queue ≡ old.queue = subst (λ (z : Bool). new.queue ≡ (if z then old.queue else old.queue ++ w.task ∷ [])) frame run.queue in
+pub leaves_ran : (header : Header) (past : List Event) (q old new : Parts) (w : Waiting) (may wants : Bool) (start before after : List Event) → LeavesInTurn header past q old start before → AreQueued old.waits.rows old.waits.queue → first_in_queue old.waits.queue ≡ Some w.task
+    → is_frame w.on ≡ true → RunsOnce w may wants old.waits new.waits before after → Plays header past before (paging old) after (paging new) → LeavesInTurn header past q new start after
+leaves_ran header past q old new w may true start before after was line front frame run plays =
+    let s = split w.task old.waits.queue front in
+    let same : new.waits.queue ≡ old.waits.queue = subst (λ (z : Bool). new.waits.queue ≡ (if z then old.waits.queue else old.waits.queue ++ w.task ∷ [])) frame run.queue in
     let once : EachListedOnce (reverse was.left ++ w.task ∷ s.rest) = subst EachListedOnce (was.queue ∙ ap (λ z. reverse was.left ++ z) s.is) was.once in
     record {
       left = was.left;
@@ -344,51 +366,51 @@ leaves_ran q w may true old new start before after was line front frame run =
       served = run.more ++ was.served;
       told = run.told ∙ (ap (λ z. run.more ++ z) was.told ∙ sym (append_assoc run.more was.served start));
       turns =
-          subst (λ (z : Option TaskId). ClaimsInTurn new.rows z was.left (run.more ++ was.served)) (sym (ap first_in_queue same ∙ front))
-          (claims_late new.rows (Some w.task) was.left run.more was.served (front_quiet (run.nothing refl)) (turns_kept w old new was.left was.served front (λ t there. run.rest t (apart_left w.task was.left s.rest t once there)) was.turns));
+          subst (λ (z : Option TaskId). ClaimsInTurn header past start (paging q) new.waits.rows z was.left (run.more ++ was.served) (paging new)) (sym (ap first_in_queue same ∙ front))
+          (claims_late run.more (paging new) (front_quiet (run.nothing refl)) (plays_any (SparesSource (Some w.task)) (told_plays start was.served run.more before was.told run.told plays))
+          (turns_kept w old.waits new.waits was.left was.served front (λ t there. run.rest t (apart_left w.task was.left s.rest t once there)) was.turns));
     }
-leaves_ran q w may false old new start before after was line front frame run =
-    let s = split w.task old.queue front in
+leaves_ran header past q old new w may false start before after was line front frame run plays =
+    let s = split w.task old.waits.queue front in
     let once : EachListedOnce (reverse was.left ++ w.task ∷ s.rest) = subst EachListedOnce (was.queue ∙ ap (λ z. reverse was.left ++ z) s.is) was.once in
-    let rest : new.queue ≡ s.rest = run.queue ∙ (ap (queue_without w.task.0) s.is ∙ others_first w.task s.rest (subst EachListedOnce s.is line.once)) in
+    let rest : new.waits.queue ≡ s.rest = run.queue ∙ (ap (queue_without w.task.0) s.is ∙ others_first w.task s.rest (subst EachListedOnce s.is line.once)) in
     record {
       left = w.task ∷ was.left;
       queue = was.queue ∙ (ap (λ z. reverse was.left ++ z) s.is ∙ (sym (append_assoc (reverse was.left) (w.task ∷ []) s.rest) ∙ (ap (λ z. z ++ s.rest) (sym (reverse_step w.task was.left)) ∙ ap (λ z. reverse (w.task ∷ was.left) ++ z) (sym rest))));
       once = was.once;
       served = run.more ++ was.served;
       told = run.told ∙ (ap (λ z. run.more ++ z) was.told ∙ sym (append_assoc run.more was.served start));
-      turns = (
-        run.claims,
-        [],
-        run.more,
-        was.served,
-        refl,
-        tt,
-        did_kept (λ claiming. refl) (λ claiming t there. (apart_left w.task was.left s.rest t once there, refl)) run.did,
-        turns_kept w old new was.left was.served front (λ t there. run.rest t (apart_left w.task was.left s.rest t once there)) was.turns,
-      );
+      turns =
+          Leaves (first_in_queue new.waits.queue) w.task was.left run.claims [] run.more was.served (paging old) (paging new) (paging new)
+          (turns_kept w old.waits new.waits was.left was.served front (λ t there. run.rest t (apart_left w.task was.left s.rest t once there)) was.turns)
+          (did_kept (λ claiming. refl) (λ claiming t there. (apart_left w.task was.left s.rest t once there, refl)) run.did)
+          (told_plays start was.served run.more before was.told run.told plays)
+          tt
+          Still;
     }
 
--- pages were reclaimed
-pub leaves_gone : (h : ℕ) (q : List TaskId) (old new : WaitTable) (start before after : List Event) → LeavesInTurn q old start before → new ≡ old → EachGone h before after → LeavesInTurn q new start after
-leaves_gone h q old new start before after was same gone =
-    subst (λ (z : WaitTable). LeavesInTurn q z start after) (sym same)
-    (record {
+-- pages were reclaimed for the front
+pub leaves_gone : (header : Header) (h : ℕ) (past : List Event) (q old new : Parts) (start before after : List Event) → LeavesInTurn header past q old start before → new.waits ≡ old.waits → EachGone h before after
+    → PlaysBy header (SparesSource (first_in_queue old.waits.queue)) past before (paging old) after (paging new) → LeavesInTurn header past q new start after
+leaves_gone header h past q old new start before after was same gone plays =
+    let first = first_in_queue old.waits.queue in
+    let turns = claims_late gone.more (paging new) (each_none first gone.more (each_quiet h gone.more gone.each)) (told_plays start was.served gone.more before was.told gone.is plays) was.turns in
+    record {
       left = was.left;
-      queue = was.queue;
+      queue = was.queue ∙ ap (λ (z : WaitTable). reverse was.left ++ z.queue) (sym same);
       once = was.once;
       served = gone.more ++ was.served;
       told = gone.is ∙ (ap (λ z. gone.more ++ z) was.told ∙ sym (append_assoc gone.more was.served start));
-      turns = claims_late old.rows (first_in_queue old.queue) was.left gone.more was.served (each_none (first_in_queue old.queue) gone.more (each_quiet h gone.more gone.each)) was.turns;
-    })
+      turns = subst (λ (z : WaitTable). ClaimsInTurn header past start (paging q) z.rows (first_in_queue z.queue) was.left (gone.more ++ was.served) (paging new)) (sym same) turns;
+    }
 
 -- the row of the front alone is another
-pub others_ran : (q : List TaskId) (w : Waiting) (may wants : Bool) (first_rows : List Waiting) (old new : WaitTable) (start before after : List Event) → LeavesInTurn q old start before → first_in_queue old.queue ≡ Some w.task → RunsOnce w may wants old new before after
-    → KeepsOthers q first_rows old.rows → KeepsOthers q first_rows new.rows
-others_ran q w may wants first_rows old new start before after was front run kept = λ t out.
-    let s = split w.task old.queue front in
-    let there : is_listed w.task.0 q ≡ true = ap (is_listed w.task.0) (was.queue ∙ ap (λ z. reverse was.left ++ z) s.is) ∙ listed_mid w.task (reverse was.left) s.rest in
-    run.rest t (λ same. (let bad : true ≡ false = sym there ∙ (ap (λ z. is_listed z q) (sym same) ∙ out) in cc)) ∙ kept t out
+pub others_ran : (header : Header) (past : List Event) (q old new : Parts) (w : Waiting) (may wants : Bool) (first_rows : List Waiting) (start before after : List Event) → LeavesInTurn header past q old start before → first_in_queue old.waits.queue ≡ Some w.task
+    → RunsOnce w may wants old.waits new.waits before after → KeepsOthers q.waits.queue first_rows old.waits.rows → KeepsOthers q.waits.queue first_rows new.waits.rows
+others_ran header past q old new w may wants first_rows start before after was front run kept = λ t out.
+    let s = split w.task old.waits.queue front in
+    let there : is_listed w.task.0 q.waits.queue ≡ true = ap (is_listed w.task.0) (was.queue ∙ ap (λ z. reverse was.left ++ z) s.is) ∙ listed_mid w.task (reverse was.left) s.rest in
+    run.rest t (λ same. (let bad : true ≡ false = sym there ∙ (ap (λ z. is_listed z q.waits.queue) (sym same) ∙ out) in cc)) ∙ kept t out
 
 pub others_gone : (q : List TaskId) (first_rows : List Waiting) (old new : WaitTable) → new ≡ old → KeepsOthers q first_rows old.rows → KeepsOthers q first_rows new.rows
 others_gone q first_rows old new same kept = subst (λ (z : WaitTable). KeepsOthers q first_rows z.rows) (sym same) kept

@@ -21,6 +21,7 @@ use Rattle.vm_legal.specs.Refusal.{refusal}
 use Rattle.vm_legal.specs.Stretches.{AllInner, EachIn, EachOf, MomentsIn}
 use Rattle.vm_abroad.specs.Home.{home_of, object_home}
 use Rattle.vm_shadow.specs.declared.ids.Ids.{Ids}
+use Rattle.vm_kernel.specs.Plays.{Sparing}
 use Rattle.vm_kernel.specs.Matches.{HasOrder, HasWaits, Matches, Rests, host_id}
 use Rattle.vm_kernel.specs.Serving.{HasQueue}
 use Rattle.vm_supply.specs.declared.woken.Woken.TheVariants as woken
@@ -44,6 +45,15 @@ pub record Doing : Type 0 where
   pub outside : Outside
   pub past : List Event
   pub command : Command
+
+-- what is done, and which page is spared where one is reclaimed
+pub record DoingSparing : Type 0 where
+  pub header : Header
+  pub host : ℕ
+  pub outside : Outside
+  pub past : List Event
+  pub command : Command
+  pub by : Sparing
 
 -- what a kernel says: to pagers alone, from its own host, and with whole pages; tasks are made there
 abbrev pub KernelSays : ℕ → ℕ → Event → Type 0

@@ -2,6 +2,7 @@ pub mod Abroad
 pub mod Begun
 pub mod Built
 pub mod Changes
+pub mod Endings
 pub mod Fits
 pub mod Forking
 pub mod Mapping

@@ -2,6 +2,9 @@
 use Rattle.std.specs.Prelude.{ℕ, ◌<◌, ◌⊎◌, ◌≡◌, ◌==◌, ◌&&◌, true, false, List, [], ◌∷◌, ◌++◌, Option, Some, None, if◌then◌else◌}
 use Rattle.vm_base.specs.declared.ids.FrameNo.{FrameNo}
 use Rattle.vm_base.specs.declared.ids.ObjectId.{ObjectId}
+use Rattle.vm_base.specs.declared.ids.TaskId.{TaskId}
+use Rattle.vm_model.specs.declared.command.Command.{Command}
+use Rattle.vm_model.specs.declared.command.Command.TheVariants as command
 use Rattle.vm_model.specs.declared.event.Event.{Event}
 use Rattle.vm_model.specs.declared.event.Event.TheVariants as event
 use Rattle.vm_model.specs.declared.message.Channel.TheVariants.{Up}
@@ -12,12 +15,13 @@ use Rattle.vm_model.specs.Words.{in_range}
 use Rattle.vm_legal.specs.Accesses.{WaitsUnlocked}
 use Rattle.vm_legal.specs.Licences.{IsUnheld, LockRequest, lock_taken}
 use Rattle.vm_legal.specs.Prompt.{IsSource}
-use Rattle.vm_legal.specs.Walks.{Reach}
+use Rattle.vm_legal.specs.Walks.{Reach, page_on}
 use Rattle.vm_pageout.specs.Reclaims.{queues_after_search}
-use Rattle.vm_queues.specs.Queues.{AllSkipped, Queues, added, is_queued, queues_except, victim_frame, with_reference}
+use Rattle.vm_queues.specs.Queues.{AllSkipped, Queues, added, is_queued, is_skipped, queues_except, victim_frame, with_reference}
 use Rattle.vm_resident.specs.Resident.{row_at}
 use Rattle.vm_resident.specs.declared.page_row.PageRow.{PageRow}
 use Rattle.vm_supply.specs.Answers.{AnswerOutcome, Supplied}
+use Rattle.vm_waits.specs.Waits.{first_in_queue}
 use Rattle.vm_kernel.specs.declared.parts.Parts.{Parts}
 
 -- the frame of each page that is here, and the lists of these frames
@@ -57,19 +61,56 @@ pub record Departs (object page : ℕ) (lists : Queues) (old new : Paging) : Typ
   pub here : old.frame_at object page ≡ Some frame
   pub is : new ≡ record { frame_at = places_with_frame object page None old.frame_at; queues = queues_except frame.0 lists }
 
--- a page is spared: an access is to copy it which wants a frame, or somebody waits for its unlock
-abbrev pub IsSpared : Header → ℕ → ℕ → ℕ → List Event → Type 0
-IsSpared header host object page past = IsSource header host object page past ⊎ WaitsUnlocked header host object page past
+-- a page is here, and a task is to copy it: it wants a frame, and its walk ends there
+pub record IsToCopyPage (header : Header) (host : ℕ) (task : TaskId) (object page : ℕ) (past : List Event) : Type 0 where
+  pub source : IsSource header host object page past
+  pub of : source.task ≡ task.0
+  pub here : (page_on header host object page past).here ≡ true
+
+-- the front of a frame queue is to copy it, if anybody stands there
+abbrev pub FrontCopies : Header → ℕ → Option TaskId → ℕ → ℕ → List Event → Type 0
+FrontCopies header host None object page past = ⊥
+FrontCopies header host (Some front) object page past = IsToCopyPage header host front object page past
+
+-- whether a call reclaims pages, and which page it spares then
+pub data Sparing : Type 0 where
+  -- it reclaims none
+  ReclaimsNone : Sparing
+  -- it spares the one that the front of the frame queue is to copy
+  SparesSource : (front : Option TaskId) → Sparing
+  -- it spares that one, if the front was to copy it behind these events already
+  SparesSourceSince : (front : Option TaskId) → (moment : List Event) → Sparing
+
+abbrev pub Reclaims : Sparing → Type 0
+Reclaims ReclaimsNone = ⊥
+Reclaims other = Unit {0}
+
+-- the page that it spares
+abbrev pub IsKeptSource : Header → ℕ → Sparing → ℕ → ℕ → List Event → Type 0
+IsKeptSource header host ReclaimsNone object page past = ⊥
+IsKeptSource header host (SparesSource front) object page past = FrontCopies header host front object page past
+IsKeptSource header host (SparesSourceSince front moment) object page past = FrontCopies header host front object page past × FrontCopies header host front object page moment
+
+-- a page is spared: it is that one, or somebody waits for its unlock
+abbrev pub IsSpared : Header → ℕ → Sparing → ℕ → ℕ → List Event → Type 0
+IsSpared header host by object page past = IsKeptSource header host by object page past ⊎ WaitsUnlocked header host object page past
 
 -- each frame is that of a page that is spared
-abbrev pub AreSpared : Header → ℕ → List Event → (ℕ → ℕ → Option FrameNo) → List FrameNo → Type 0
-AreSpared header host past frame_at [] = Unit {0}
-AreSpared header host past frame_at (frame ∷ frames) = ((o p : ℕ) × IsSpared header host o p past × (frame_at o p ≡ Some frame)) × AreSpared header host past frame_at frames
+abbrev pub EachSpared : Header → ℕ → Sparing → List Event → (ℕ → ℕ → Option FrameNo) → List FrameNo → Type 0
+EachSpared header host by past frame_at [] = Unit {0}
+EachSpared header host by past frame_at (frame ∷ frames) =
+    ((o p : ℕ) × IsSpared header host by o p past × (frame_at o p ≡ Some frame)) × EachSpared header host by past frame_at frames
+
+-- the frames are those of the pages that are spared, and of no others
+pub record AreSpared (header : Header) (host : ℕ) (by : Sparing) (past : List Event) (frame_at : ℕ → ℕ → Option FrameNo) (skip : List FrameNo) : Type 0 where
+  pub each : EachSpared header host by past frame_at skip
+  pub all : (o p : ℕ) (frame : FrameNo) → IsSpared header host by o p past → frame_at o p ≡ Some frame → is_skipped skip frame.0 ≡ true
 
 -- the page that has gone is the victim: the one that the lists choose, where no page is skipped but what is spared
-pub record IsVictim (header : Header) (host : ℕ) (past : List Event) (object page : ℕ) (old new : Paging) : Type 0 where
+pub record IsVictim (header : Header) (host : ℕ) (by : Sparing) (past : List Event) (object page : ℕ) (old new : Paging) : Type 0 where
+  pub may : Reclaims by
   pub skip : List FrameNo
-  pub spared : AreSpared header host past old.frame_at skip
+  pub spared : AreSpared header host by past old.frame_at skip
   pub victim : victim_frame skip (queues_after_search old.queues) ≡ old.frame_at object page
   pub departs : Departs object page (queues_after_search old.queues) old new
 
@@ -88,11 +129,11 @@ pub record DepartsLocked (host : ℕ) (past : List Event) (object page : ℕ) (o
   pub departs : Departs object page old.queues old new
 
 -- a page goes as the victim, or for a lock request, or its object is in no chain, or nothing holds it, and then its pages go in any order
-pub data DepartsFrom (header : Header) (host : ℕ) (past : List Event) (object page : ℕ) (old new : Paging) : Type 0 where
-  AsVictim : IsVictim header host past object page old new → DepartsFrom header host past object page old new
-  AsUnreached : (Reach header host object past → ⊥) → Departs object page old.queues old new → DepartsFrom header host past object page old new
-  AsUnheld : DepartsUnheld header host past object page old new → DepartsFrom header host past object page old new
-  AsLocked : DepartsLocked host past object page old new → DepartsFrom header host past object page old new
+pub data DepartsFrom (header : Header) (host : ℕ) (by : Sparing) (past : List Event) (object page : ℕ) (old new : Paging) : Type 0 where
+  AsVictim : IsVictim header host by past object page old new → DepartsFrom header host by past object page old new
+  AsUnreached : (Reach header host object past → ⊥) → Departs object page old.queues old new → DepartsFrom header host by past object page old new
+  AsUnheld : DepartsUnheld header host past object page old new → DepartsFrom header host by past object page old new
+  AsLocked : DepartsLocked host past object page old new → DepartsFrom header host by past object page old new
 
 -- in front of the create that a return needs
 abbrev pub uncreated : List Event → List Event
@@ -114,29 +155,42 @@ pub record CopiesBoth (object page target index : ℕ) (old new : Paging) : Type
   pub source : Marks object page marked new
 
 -- what an event behind a history says of the lists
-abbrev pub Does : Header → List Event → Event → Paging → Paging → Type 0
-Does header past (event.Loaded task object page value) old new = Marks object.0 page.0 old new
-Does header past (event.Stored task object page at size value) old new = Marks object.0 page.0 old new
-Does header past (event.Zeroed host object page) old new = Arrives object.0 page.0 old new
-Does header past (event.Raised host lower lower_page upper upper_page) old new = Copies lower.0 lower_page.0 upper.0 upper_page.0 old new
-Does header past (event.CopiedPage task page object object_page target) old new = CopiesBoth object.0 object_page.0 target.0 page.0 old new
-Does header past (event.Dropped host object page) old new = DepartsFrom header host.0 past object.0 page.0 old new
-Does header past (event.Sent (Up host object) (message.Return control page dirty false bytes)) old new =
-    IsVictim header host.0 (uncreated past) object.0 page.0 old new ⊎ (DepartsUnheld header host.0 past object.0 page.0 old new ⊎ DepartsLocked host.0 past object.0 page.0 old new)
-Does header past other old new = new ≡ old
+abbrev pub DoesBy : Header → Sparing → List Event → Event → Paging → Paging → Type 0
+DoesBy header by past (event.Loaded task object page value) old new = Marks object.0 page.0 old new
+DoesBy header by past (event.Stored task object page at size value) old new = Marks object.0 page.0 old new
+DoesBy header by past (event.Zeroed host object page) old new = Arrives object.0 page.0 old new
+DoesBy header by past (event.Raised host lower lower_page upper upper_page) old new = Copies lower.0 lower_page.0 upper.0 upper_page.0 old new
+DoesBy header by past (event.CopiedPage task page object object_page target) old new = CopiesBoth object.0 object_page.0 target.0 page.0 old new
+DoesBy header by past (event.Dropped host object page) old new = DepartsFrom header host.0 by past object.0 page.0 old new
+DoesBy header by past (event.Sent (Up host object) (message.Return control page dirty false bytes)) old new =
+    IsVictim header host.0 by (uncreated past) object.0 page.0 old new ⊎ (DepartsUnheld header host.0 past object.0 page.0 old new ⊎ DepartsLocked host.0 past object.0 page.0 old new)
+DoesBy header by past other old new = new ≡ old
 
 -- a victim was looked for, and there is none: each page on the lists is spared
-pub record Searches (header : Header) (host : ℕ) (past : List Event) (old new : Paging) : Type 0 where
+pub record Searches (header : Header) (host : ℕ) (by : Sparing) (past : List Event) (old new : Paging) : Type 0 where
+  pub may : Reclaims by
   pub skip : List FrameNo
-  pub spared : AreSpared header host past old.frame_at skip
+  pub spared : AreSpared header host by past old.frame_at skip
   pub all : AllSkipped skip old.queues
   pub is : new ≡ record old { queues = queues_after_search old.queues }
 
 -- The lists are as the events say that were added to some, one after another, and as looks for a victim left them that found none.
-pub data Plays (header : Header) (past before : List Event) (old : Paging) : List Event → Paging → Type 0 where
-  Still : Plays header past before old before old
-  Looks : (host : ℕ) (events : List Event) (mid new : Paging) → Plays header past before old events mid → Searches header host (events ++ past) mid new → Plays header past before old events new
-  Then : (e : Event) (events : List Event) (mid new : Paging) → Plays header past before old events mid → Does header (events ++ past) e mid new → Plays header past before old (e ∷ events) new
+pub data PlaysBy (header : Header) (by : Sparing) (past before : List Event) (old : Paging) : List Event → Paging → Type 0 where
+  Still : PlaysBy header by past before old before old
+  Looks : (host : ℕ) (events : List Event) (mid new : Paging) → PlaysBy header by past before old events mid → Searches header host by (events ++ past) mid new → PlaysBy header by past before old events new
+  Then : (e : Event) (events : List Event) (mid new : Paging) → PlaysBy header by past before old events mid → DoesBy header by (events ++ past) e mid new → PlaysBy header by past before old (e ∷ events) new
+
+-- and no page was reclaimed
+abbrev pub Does : Header → List Event → Event → Paging → Paging → Type 0
+Does header past e old new = DoesBy header ReclaimsNone past e old new
+
+abbrev pub Plays : Header → List Event → List Event → Paging → List Event → Paging → Type 0
+Plays header past before old events new = PlaysBy header ReclaimsNone past before old events new
+
+-- a pageout reclaims pages, and no other command does where it is begun
+abbrev pub may_reclaim : Command → List TaskId → List Event → Sparing
+may_reclaim (command.Pageout host count) queue past = SparesSourceSince (first_in_queue queue) past
+may_reclaim other queue past = ReclaimsNone
 
 -- a page that an answer supplies has come; no other answer does anything to the lists
 abbrev pub AnswerBrings : ObjectId → AnswerOutcome → Paging → Paging → Type 0

@@ -1,5 +1,5 @@
 -- Accesses are run, and the frame queue is served.
-use Rattle.std.specs.Prelude.{ℕ, ◌+◌, ◌-◌, ◌<◌, ◌≤◌, ◌≡◌, ◌⊎◌, ◌||◌, Bool, true, false, List, [], ◌∷◌, ◌++◌, Option, Some, None}
+use Rattle.std.specs.Prelude.{ℕ, ◌+◌, ◌-◌, ◌<◌, ◌≤◌, ◌≡◌, ◌⊎◌, ◌||◌, Bool, IfSome, true, false, List, [], ◌∷◌, ◌++◌, Option, Some, None}
 use Rattle.vm_base.specs.declared.ids.FrameNo.{FrameNo}
 use Rattle.vm_base.specs.declared.ids.PageKey.{PageKey}
 use Rattle.vm_queues.specs.Queues.{is_skipped}
@@ -19,7 +19,7 @@ use Rattle.vm_resident.specs.declared.page_row.PageRow.{PageRow}
 use Rattle.vm_waits.specs.Waits.{count_again, entry, is_again, is_frame, one_again, one_frame, queued}
 use Rattle.vm_waits.specs.declared.waiting.On.{On}
 use Rattle.vm_waits.specs.declared.waiting.Waiting.{Waiting}
-use Rattle.vm_kernel.specs.Plays.{frame_here}
+use Rattle.vm_kernel.specs.Plays.{IsKeptSource, Sparing, SparesSource, frame_here}
 use Rattle.vm_kernel.specs.Taking.{page_waited}
 use Rattle.vm_kernel.specs.Turns.{IsFront}
 use Rattle.vm_kernel.specs.declared.attempt.Attempt.{Attempt}
@@ -47,6 +47,11 @@ abbrev pub IsToCopy : Header → ℕ → Parts → Option PageKey → List Event
 IsToCopy header h k None past = Unit {0}
 IsToCopy header h k (Some key) past = IsSource header h key.object.0 key.page.0 past × IsHere k key
 
+-- it is the page that a reclaim spares as a source, if there is one
+pub record IsTheSource (header : Header) (h : ℕ) (by : Sparing) (source : Option PageKey) (past : List Event) : Type 0 where
+  pub is : IfSome source (λ key. IsKeptSource header h by key.object.0 key.page.0 past)
+  pub only : (o p : ℕ) → IsKeptSource header h by o p past → source ≡ Some (page_key o p)
+
 -- an access wants a frame, and stands in the queue; its region may have got an object of its own, or it has copied pages, each in a frame
 pub record JoinsQueue (header : Header) (h : ℕ) (was : Waiting) (may_claim : Bool) (source : Option PageKey) (old new : Parts) (before after : List Event) : Type 0 where
   pub claims : Bool
@@ -56,6 +61,7 @@ pub record JoinsQueue (header : Header) (h : ℕ) (was : Waiting) (may_claim : B
   pub wants : Wants header h after
   pub mine : wants.task ≡ was.task.0
   pub to_copy : IsToCopy header h new source after
+  pub exact : IsTheSource header h (SparesSource (Some was.task)) source after
   pub none : may_claim ≡ true → free new.memory.frames ≡ 0
   pub again : count_again new.waits.rows + one_again was.on ≡ count_again old.waits.rows
   pub queued : queued new.waits.rows ≡ queued old.waits.rows + (1 - one_frame was.on)

@@ -22,6 +22,8 @@ use Rattle.vm_waits.specs.Kept.{EachListedOnce}
 use Rattle.vm_waits.specs.Waits.{WaitTable, entry, first_in_queue, is_again, is_frame, is_listed, queue_without}
 use Rattle.vm_waits.specs.declared.waiting.On.TheVariants as on
 use Rattle.vm_waits.specs.declared.waiting.Waiting.{Waiting}
+use Rattle.vm_kernel.specs.Plays.{Paging, Plays, PlaysBy, SparesSource, paging}
+use Rattle.vm_kernel.specs.declared.parts.Parts.{Parts}
 
 -- the event is of no access that was run: none loads or stores, no page comes as zeros or from a region below, and none is asked for, nor its unlock
 abbrev pub RunsNone : Event → Type 0
@@ -131,21 +133,25 @@ abbrev pub RunsFront : Option TaskId → Event → Type 0
 RunsFront first (event.CopiedPage task page object object_page target) = first ≡ Some task
 RunsFront first e = RunsNone e
 
--- those who left were run one after another, and nobody else was but who stood first then, who copied pages and stayed; the last who left stands first, as the newest
--- event does
-abbrev pub ClaimsInTurn : List Waiting → Option TaskId → List TaskId → List Event → Type 0
-ClaimsInTurn rows first [] events = EachOf (RunsFront first) events
-ClaimsInTurn rows first (task ∷ left) events =
-    (claims : Bool) × (late own early : List Event) × (events ≡ late ++ (own ++ early)) × EachOf (RunsFront first) late × Did rows (λ t. is_listed t left ≡ true) task claims own × ClaimsInTurn rows (Some task) left early
+-- Those who left were run one after another, and nobody else was but who stood first then, who copied pages and stayed. Pages were reclaimed for
+-- the one who stood first then, and none while one was run.
+pub data ClaimsInTurn (header : Header) (past before : List Event) (old : Paging) (rows : List Waiting) : Option TaskId → List TaskId → List Event → Paging → Type 0 where
+  -- nobody has left
+  Stays : (first : Option TaskId) (late : List Event) (new : Paging) → EachOf (RunsFront first) late → PlaysBy header (SparesSource first) past before old (late ++ before) new → ClaimsInTurn header past before old rows first [] late new
+  -- the last who left was run behind the others, and then somebody stands first, or nobody
+  Leaves : (first : Option TaskId) (task : TaskId) (left : List TaskId) (claims : Bool) (late own early : List Event) (mid ran new : Paging)
+      → ClaimsInTurn header past before old rows (Some task) left early mid → Did rows (λ t. is_listed t left ≡ true) task claims own → Plays header past (early ++ before) mid (own ++ (early ++ before)) ran
+      → EachOf (RunsFront first) late → PlaysBy header (SparesSource first) past (own ++ (early ++ before)) ran (late ++ (own ++ (early ++ before))) new
+      → ClaimsInTurn header past before old rows first (task ∷ left) (late ++ (own ++ early)) new
 
 -- some left from the front of a queue in which nobody stood twice, nobody joined, and frames were claimed in turn
-pub record LeavesInTurn (old : List TaskId) (new : WaitTable) (before after : List Event) : Type 0 where
+pub record LeavesInTurn (header : Header) (past : List Event) (old new : Parts) (before after : List Event) : Type 0 where
   pub left : List TaskId
-  pub queue : old ≡ reverse left ++ new.queue
-  pub once : EachListedOnce old
+  pub queue : old.waits.queue ≡ reverse left ++ new.waits.queue
+  pub once : EachListedOnce old.waits.queue
   pub served : List Event
   pub told : after ≡ served ++ before
-  pub turns : ClaimsInTurn new.rows (first_in_queue new.queue) left served
+  pub turns : ClaimsInTurn header past before (paging old) new.waits.rows (first_in_queue new.waits.queue) left served (paging new)
 
 -- the rows of those who don't queue are as they were
 abbrev pub KeepsOthers : List TaskId → List Waiting → List Waiting → Type 0

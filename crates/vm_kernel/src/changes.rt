@@ -3,6 +3,7 @@ ghost use Rattle.std.specs.Prelude.{◌≡◌, OnOk};
 ghost use Rattle.vm_model.specs.declared.command.Command.TheVariants as command;
 ghost use Rattle.vm_kernel.specs.Begun.{Ran, Doing, Given, Starts};
 ghost use Rattle.vm_kernel.specs.Changes.{enter, inheritance, protection, removal};
+ghost use Rattle.vm_kernel.specs.Endings.{EndsByAddress};
 ghost use Rattle.vm_kernel.specs.Plays.{Plays, paging};
 ghost use Rattle.vm_kernel.specs.Turns.{QueueIsStill};
 
@@ -83,6 +84,7 @@ impl Parts {
         ensures ran { OnOk result (Ran given.header given.host given.outside given.command given.past self.new ids.now log.new.items) }
         ensures plays { OnOk result (Plays given.header given.past log.old.items (paging self.old) log.new.items (paging self.new)) }
         ensures quiet { OnOk result (QueueIsStill self.old.waits.queue self.new.waits.queue log.old.items log.new.items) }
+        ensures ends { OnOk result (EndsByAddress given.header given.past given.command log.new.items) }
     {
         let gone = self.maps.end_task(task);
         log.push(Event::TaskEnded { task })?;
@@ -104,6 +106,7 @@ impl Parts {
         ensures ran { OnOk result (Ran given.header given.host given.outside given.command given.past self.new ids.now log.new.items) }
         ensures plays { OnOk result (Plays given.header given.past log.old.items (paging self.old) log.new.items (paging self.new)) }
         ensures quiet { OnOk result (QueueIsStill self.old.waits.queue self.new.waits.queue log.old.items log.new.items) }
+        ensures ends { OnOk result (EndsByAddress given.header given.past given.command log.new.items) }
     {
         count_cuts(&mut self.chains, &self.maps, task, address, bytes);
         let gone = self.maps.remove(task, &removal(address, bytes))?;

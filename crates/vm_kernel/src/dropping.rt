@@ -2,13 +2,13 @@
 ghost use Rattle.std.specs.Prelude.{◌≡◌, ◌++◌, ◌⊎◌, IfOk, IfSome, None, OnOk};
 ghost use Rattle.vm_legal.specs.Reclaims.{PagesOut, Starves};
 ghost use Rattle.vm_model.specs.declared.command.Command.TheVariants as command;
-ghost use Rattle.vm_kernel.specs.Begun.{Doing, LegalEvents, Ran, Starts};
+ghost use Rattle.vm_kernel.specs.Begun.{Doing, DoingSparing, LegalEvents, Ran, Starts};
 ghost use Rattle.vm_kernel.specs.Matches.{Rests, host_id};
-ghost use Rattle.vm_kernel.specs.Serving.{FreesBut, FreesOrReturns, IsHere, IsToCopy, SkipLocked, frame_spared, frames_spared, option_list};
+ghost use Rattle.vm_kernel.specs.Serving.{FreesBut, FreesOrReturns, IsHere, IsTheSource, IsToCopy, SkipLocked, frame_spared, frames_spared, option_list};
 ghost use Rattle.vm_kernel.specs.Taking.{EachGone};
-ghost use Rattle.vm_kernel.specs.Plays.{AreSpared, Plays, paging};
+ghost use Rattle.vm_kernel.specs.Plays.{AreSpared, PlaysBy, Reclaims, SparesSource, SparesSourceSince, paging};
 ghost use Rattle.vm_kernel.specs.Turns.{QueueIsStill};
-ghost use Rattle.vm_waits.specs.Waits.{EachOnce};
+ghost use Rattle.vm_waits.specs.Waits.{EachOnce, first_in_queue};
 
 use crate::obeying::page_of;
 use crate::parts::Parts;
@@ -34,7 +34,7 @@ impl Parts {
         requires is { given.command ≡ command.Pageout (host_id given.host) count }
         requires starts { Starts given.header given.host given.command given.past self.old ids.now log.old.items }
         ensures ran { OnOk result (Ran given.header given.host given.outside given.command given.past self.new ids.now log.new.items) }
-        ensures plays { OnOk result (Plays given.header given.past log.old.items (paging self.old) log.new.items (paging self.new)) }
+        ensures plays { OnOk result (PlaysBy given.header (SparesSourceSince (first_in_queue self.old.waits.queue) given.past) given.past log.old.items (paging self.old) log.new.items (paging self.new)) }
         ensures quiet { OnOk result (QueueIsStill self.old.waits.queue self.new.waits.queue log.old.items log.new.items) }
     {
         // What the front is to copy now, it was to copy when the pageout began.
@@ -53,7 +53,8 @@ impl Parts {
     fn source(&self, ids: &Ids, log: &Events) -> Option<PageKey>
         ghost given: { Doing }
         requires { Rests given.header given.host self.now ids.now (log.now.items ++ given.past) }
-        ensures { IsToCopy given.header given.host self.now result (log.now.items ++ given.past) }
+        ensures to_copy { IsToCopy given.header given.host self.now result (log.now.items ++ given.past) }
+        ensures source { IsTheSource given.header given.host (SparesSource (first_in_queue self.now.waits.queue)) result (log.now.items ++ given.past) }
     {
         let waiting = self.waits.front()?;
         source(
@@ -103,15 +104,17 @@ impl Parts {
         spared: Option<PageKey>,
         log: &mut Events,
     ) -> Result<Reclaim, NoMemory>
-        ghost given: { Doing }
+        ghost given: { DoingSparing }
         requires rests { Rests given.header given.host self.old ids.now (log.old.items ++ given.past) }
         requires may { PagesOut given.command given.host (log.old.items ++ given.past) ⊎ Starves given.header given.host (log.old.items ++ given.past) }
         requires spared { IsToCopy given.header given.host self.old spared (log.old.items ++ given.past) }
+        requires source { IsTheSource given.header given.host given.by spared (log.old.items ++ given.past) }
+        requires reclaims { Reclaims given.by }
         ensures rests { OnOk result (Rests given.header given.host self.new ids.now (log.new.items ++ given.past)) }
         ensures goes { OnOk result (LegalEvents given.header given.host given.outside given.command given.past log.old.items log.new.items) }
         ensures reclaims { OnOk result (EachGone given.host log.old.items log.new.items) }
         ensures reclaimed { IfOk result (λ answer. FreesOrReturns given.host spared answer self.old self.new (log.old.items ++ given.past) (log.new.items ++ given.past)) }
-        ensures plays { OnOk result (Plays given.header given.past log.old.items (paging self.old) log.new.items (paging self.new)) }
+        ensures plays { OnOk result (PlaysBy given.header given.by given.past log.old.items (paging self.old) log.new.items (paging self.new)) }
         ensures spared { OnOk result (IfSome spared (λ key. IsHere self.new key)) }
     {
         let skip = self.skipped(spared)?;
@@ -125,16 +128,17 @@ impl Parts {
         skip: &[FrameNo],
         log: &mut Events,
     ) -> Result<Reclaim, NoMemory>
-        ghost given: { Doing }
+        ghost given: { DoingSparing }
         requires rests { Rests given.header given.host self.old ids.now (log.old.items ++ given.past) }
         requires may { PagesOut given.command given.host (log.old.items ++ given.past) ⊎ Starves given.header given.host (log.old.items ++ given.past) }
-        requires spared { AreSpared given.header given.host (log.old.items ++ given.past) (paging self.old).frame_at skip.now }
+        requires spared { AreSpared given.header given.host given.by (log.old.items ++ given.past) (paging self.old).frame_at skip.now }
+        requires reclaims { Reclaims given.by }
         requires locked { SkipLocked self.old.memory.resident skip.now }
         ensures rests { OnOk result (Rests given.header given.host self.new ids.now (log.new.items ++ given.past)) }
         ensures goes { OnOk result (LegalEvents given.header given.host given.outside given.command given.past log.old.items log.new.items) }
         ensures reclaims { OnOk result (EachGone given.host log.old.items log.new.items) }
         ensures reclaimed { IfOk result (λ answer. FreesBut given.host skip.now answer self.old self.new (log.old.items ++ given.past) (log.new.items ++ given.past)) }
-        ensures plays { OnOk result (Plays given.header given.past log.old.items (paging self.old) log.new.items (paging self.new)) }
+        ensures plays { OnOk result (PlaysBy given.header given.by given.past log.old.items (paging self.old) log.new.items (paging self.new)) }
     {
         // The laundry has room for a page that is here, but may be full while none is.
         let Some(_) = self.memory.queues.victim(skip) else {

@@ -10,7 +10,8 @@ ghost use Rattle.vm_model.specs.Ranges.{InRange};
 ghost use Rattle.vm_legal.specs.Refusal.{refusal};
 ghost use Rattle.vm_kernel.specs.Begun.{Doing, Given, IsLaundered, Passed, Passing, Ran, Served, Starts, acts_on, targets_here};
 ghost use Rattle.vm_kernel.specs.Built.{kernel_runs};
-ghost use Rattle.vm_kernel.specs.Plays.{Plays, PlaysAnswer, paging};
+ghost use Rattle.vm_kernel.specs.Endings.{EndsByAddress};
+ghost use Rattle.vm_kernel.specs.Plays.{PlaysAnswer, PlaysBy, may_reclaim, paging};
 ghost use Rattle.vm_resident.specs.Resident.{row_at};
 ghost use Rattle.vm_supply.specs.Answers.{outcome_of};
 ghost use Rattle.vm_state.specs.Stands.{HasTasks};
@@ -91,8 +92,9 @@ impl Kernel {
         requires starts { Starts given.header given.host command.now given.past self.old ids.old [] }
         requires built { kernel_runs command.now ≡ true }
         ensures ran { IfOk result (λ events. Ran given.header given.host given.outside command.now given.past self.new ids.new events.items) }
-        ensures plays { IfOk result (λ events. Plays given.header given.past [] (paging self.old) events.items (paging self.new)) }
+        ensures plays { IfOk result (λ events. PlaysBy given.header (may_reclaim command.now self.old.waits.queue given.past) given.past [] (paging self.old) events.items (paging self.new)) }
         ensures restarts { IfOk result (λ events. Restarted given.header given.host self.new.waits.rows given.past self.old.waits.queue self.new.waits.queue events.items) }
+        ensures ends { IfOk result (λ events. EndsByAddress given.header given.past command.now events.items) }
     {
         let mut log = Events::new(self.parts.alloc);
         self.parts.run(command, ids, &mut log)?;
@@ -159,8 +161,7 @@ impl Kernel {
         ghost given: { Doing }
         requires rests { Rests given.header given.host self.old ids.old (log.old.items ++ given.past) }
         ensures served { OnOk result (Served given.header given.host given.outside given.command given.past log.old.items self.new ids.new log.new.items) }
-        ensures plays { OnOk result (Plays given.header given.past log.old.items (paging self.old) log.new.items (paging self.new)) }
-        ensures leaves { OnOk result (LeavesInTurn self.old.waits.queue self.new.waits log.old.items log.new.items) }
+        ensures leaves { OnOk result (LeavesInTurn given.header given.past self.old self.new log.old.items log.new.items) }
         ensures others { OnOk result (KeepsOthers self.old.waits.queue self.old.waits.rows self.new.waits.rows) }
     {
         self.parts.go_on(ids, log)

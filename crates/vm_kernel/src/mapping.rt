@@ -1,5 +1,5 @@
 // Declared objects are mapped.
-ghost use Rattle.std.specs.Prelude.{◌≡◌, ◌<◌, ◌+◌, ◌^◌, ◌-◌, length, reverse, slice_get, IfSome, IsSome, OnOk, Some};
+ghost use Rattle.std.specs.Prelude.{◌≡◌, ◌<◌, ◌+◌, ◌^◌, ◌-◌, length, reverse, slice_get, IfSome, IsOk, IsSome, OnOk, Some};
 ghost use Rattle.vm_base.specs.declared.ids.RegionId.{RegionId};
 ghost use Rattle.vm_model.specs.declared.command.Command.TheVariants as command;
 ghost use Rattle.vm_objects.specs.Objects.{object_at};
@@ -93,7 +93,8 @@ impl Parts {
     // Where no control of an object lives the next one begins, and the object's pager is told of it.
     fn open(&mut self, object: ObjectId, log: &mut Events) -> Result<(), NoMemory>
         requires known { IsSome (object_at self.old.memory.objects object.0) }
-        ensures { OnOk result (IfSome (object_at self.old.memory.objects object.0) (λ known. Opens object known self.old self.new log.old.items log.new.items)) }
+        ensures opens { OnOk result (IfSome (object_at self.old.memory.objects object.0) (λ known. Opens object known self.old self.new log.old.items log.new.items)) }
+        ensures succeeds { IfSome (object_at self.old.memory.objects object.0) (λ known. known.control < 2 ^ 32 - 3 → 0 < log.old.room → IsOk result) }
     {
         let Some(known) = self.memory.objects.find(object) else {
             unreachable!()

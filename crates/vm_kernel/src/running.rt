@@ -2,7 +2,8 @@
 ghost use Rattle.std.specs.Prelude.{◌≡◌, true, OnOk};
 ghost use Rattle.vm_kernel.specs.Begun.{Given, Ran, Starts};
 ghost use Rattle.vm_kernel.specs.Built.{changes_entries, kernel_runs};
-ghost use Rattle.vm_kernel.specs.Plays.{Plays, paging};
+ghost use Rattle.vm_kernel.specs.Endings.{EndsByAddress};
+ghost use Rattle.vm_kernel.specs.Plays.{Plays, PlaysBy, may_reclaim, paging};
 ghost use Rattle.vm_kernel.specs.Turns.{Restarted};
 
 use crate::parts::Parts;
@@ -22,8 +23,9 @@ impl Parts {
         requires starts { Starts given.header given.host command.now given.past self.old ids.old log.old.items }
         requires built { kernel_runs command.now ≡ true }
         ensures ran { OnOk result (Ran given.header given.host given.outside command.now given.past self.new ids.new log.new.items) }
-        ensures plays { OnOk result (Plays given.header given.past log.old.items (paging self.old) log.new.items (paging self.new)) }
+        ensures plays { OnOk result (PlaysBy given.header (may_reclaim command.now self.old.waits.queue given.past) given.past log.old.items (paging self.old) log.new.items (paging self.new)) }
         ensures restarts { OnOk result (Restarted given.header given.host self.new.waits.rows given.past self.old.waits.queue self.new.waits.queue log.new.items) }
+        ensures ends { OnOk result (EndsByAddress given.header given.past command.now log.new.items) }
     {
         match command {
             Command::Task { task, .. } => self.make_task(ids, *task, log),
@@ -78,6 +80,7 @@ impl Parts {
         ensures ran { OnOk result (Ran given.header given.host given.outside command.now given.past self.new ids.new log.new.items) }
         ensures plays { OnOk result (Plays given.header given.past log.old.items (paging self.old) log.new.items (paging self.new)) }
         ensures restarts { OnOk result (Restarted given.header given.host self.new.waits.rows given.past self.old.waits.queue self.new.waits.queue log.new.items) }
+        ensures ends { OnOk result (EndsByAddress given.header given.past command.now log.new.items) }
     {
         match command {
             Command::Allocate {

@@ -5,11 +5,11 @@ ghost use Rattle.vm_legal.specs.Accesses.{FindsPage, Wants};
 ghost use Rattle.vm_legal.specs.InTurn.{EndsNext};
 ghost use Rattle.vm_legal.specs.Prompt.{HostIsFull, PromptAt};
 ghost use Rattle.vm_supply.specs.declared.woken.Woken.TheVariants as woken;
-ghost use Rattle.vm_waits.specs.Waits.{entry};
+ghost use Rattle.vm_waits.specs.Waits.{entry, first_in_queue};
 ghost use Rattle.vm_kernel.specs.Begun.{Doing, LegalEvents};
 ghost use Rattle.vm_kernel.specs.Matches.{Rests, Works};
-ghost use Rattle.vm_kernel.specs.Serving.{Attempts, HasQueue, IsHere, IsToCopy, QueueIsServed, RunsFirst, runs_now, wants_frame};
-ghost use Rattle.vm_kernel.specs.Plays.{Plays, paging};
+ghost use Rattle.vm_kernel.specs.Serving.{Attempts, HasQueue, IsHere, IsTheSource, IsToCopy, QueueIsServed, RunsFirst, runs_now, wants_frame};
+ghost use Rattle.vm_kernel.specs.Plays.{Plays, PlaysBy, SparesSource, paging};
 ghost use Rattle.vm_kernel.specs.Taking.{EachGone};
 ghost use Rattle.vm_kernel.specs.Turns.{KeepsOthers, LeavesInTurn, Restarted, RunsNoneYet, RunsOnce};
 
@@ -102,8 +102,7 @@ impl Parts {
         ensures rests { OnOk result (Rests given.header given.host self.new ids.new (log.new.items ++ given.past)) }
         ensures goes { OnOk result (LegalEvents given.header given.host given.outside given.command given.past log.old.items log.new.items) }
         ensures served { OnOk result (QueueIsServed given.header given.host self.new (log.new.items ++ given.past)) }
-        ensures plays { OnOk result (Plays given.header given.past log.old.items (paging self.old) log.new.items (paging self.new)) }
-        ensures leaves { OnOk result (LeavesInTurn self.old.waits.queue self.new.waits log.old.items log.new.items) }
+        ensures leaves { OnOk result (LeavesInTurn given.header given.past self.old self.new log.old.items log.new.items) }
         ensures others { OnOk result (KeepsOthers self.old.waits.queue self.old.waits.rows self.new.waits.rows) }
     {
         'serve: while let Some(waiting) = self.waits.front() {
@@ -129,14 +128,15 @@ impl Parts {
         requires rests { Rests given.header given.host self.old ids.now (log.old.items ++ given.past) }
         requires wants { Wants given.header given.host (log.old.items ++ given.past) }
         requires none { free self.old.memory.frames ≡ 0 }
-        requires source { IsToCopy given.header given.host self.old source (log.old.items ++ given.past) }
+        requires to_copy { IsToCopy given.header given.host self.old source (log.old.items ++ given.past) }
+        requires source { IsTheSource given.header given.host (SparesSource (first_in_queue self.old.waits.queue)) source (log.old.items ++ given.past) }
         ensures rests { OnOk result (Rests given.header given.host self.new ids.now (log.new.items ++ given.past)) }
         ensures goes { OnOk result (LegalEvents given.header given.host given.outside given.command given.past log.old.items log.new.items) }
         ensures waits { OnOk result (self.new.waits ≡ self.old.waits) }
         ensures reclaims { OnOk result (EachGone given.host log.old.items log.new.items) }
         ensures freed { IfOk result (λ stops. stops ≡ false → claimed self.old.memory.frames ≡ claimed self.new.memory.frames + 1) }
         ensures full { IfOk result (λ stops. stops ≡ true → HostIsFull given.header given.host (log.new.items ++ given.past)) }
-        ensures plays { OnOk result (Plays given.header given.past log.old.items (paging self.old) log.new.items (paging self.new)) }
+        ensures plays { OnOk result (PlaysBy given.header (SparesSource (first_in_queue self.old.waits.queue)) given.past log.old.items (paging self.old) log.new.items (paging self.new)) }
         ensures spared { OnOk result (IfSome source (λ key. IsHere self.new key)) }
     {
         if !self.laundry.is_empty() {
@@ -156,8 +156,7 @@ impl Parts {
         ensures goes { OnOk result (LegalEvents given.header given.host given.outside given.command given.past log.old.items log.new.items) }
         ensures queue { OnOk result (HasQueue given.header given.host self.new (log.new.items ++ given.past)) }
         ensures prompt { OnOk result (PromptAt given.header given.host (log.new.items ++ given.past)) }
-        ensures plays { OnOk result (Plays given.header given.past log.old.items (paging self.old) log.new.items (paging self.new)) }
-        ensures leaves { OnOk result (LeavesInTurn self.old.waits.queue self.new.waits log.old.items log.new.items) }
+        ensures leaves { OnOk result (LeavesInTurn given.header given.past self.old self.new log.old.items log.new.items) }
         ensures others { OnOk result (KeepsOthers self.old.waits.queue self.old.waits.rows self.new.waits.rows) }
     {
         self.serve(ids, log)

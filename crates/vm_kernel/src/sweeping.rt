@@ -1,7 +1,9 @@
 // What no entry leads to any more goes.
 ghost use Rattle.std.specs.Prelude.{◌≡◌, ◌+◌, ◌++◌, ◌<◌, [], drop, length, OnOk};
 ghost use Rattle.vm_base.specs.Entries.{by_address};
+ghost use Rattle.vm_model.specs.Regions.{region_of};
 ghost use Rattle.vm_kernel.specs.Begun.{Doing, LegalEvents};
+ghost use Rattle.vm_kernel.specs.Endings.{CountsOut, EndsBelow, EndsSoFar};
 ghost use Rattle.vm_kernel.specs.Sweeping.{Ending, EndsObject, EndsOnly, EndsRegion, IsKnownToPager, IsWhole, OnlyLoses, Releasing, Sweeps};
 ghost use Rattle.vm_kernel.specs.Plays.{Plays, paging};
 ghost use Rattle.vm_kernel.specs.Turns.{QueueIsStill};
@@ -23,6 +25,7 @@ impl Parts {
         ensures sweeps { OnOk result (Sweeps given.header given.host given.outside given.command given.past self.new ids.now [] log.new.items) }
         ensures plays { OnOk result (Plays given.header given.past log.old.items (paging self.old) log.new.items (paging self.new)) }
         ensures quiet { OnOk result (QueueIsStill self.old.waits.queue self.new.waits.queue log.old.items log.new.items) }
+        ensures ends { OnOk result (EndsSoFar given.header (log.old.items ++ given.past) (by_address gone.now) [] log.old.items log.new.items) }
     {
         'all: for i in 0..gone.len() {
             self.release(ids, gone, i, log)?;
@@ -46,6 +49,7 @@ impl Parts {
         ensures sweeps { OnOk result (Sweeps given.header given.host given.outside given.command given.past self.new ids.now given.rest log.new.items) }
         ensures plays { OnOk result (Plays given.header given.past log.old.items (paging self.old) log.new.items (paging self.new)) }
         ensures quiet { OnOk result (QueueIsStill self.old.waits.queue self.new.waits.queue log.old.items log.new.items) }
+        ensures ends { OnOk result (CountsOut given.header (log.old.items ++ given.past) (drop i (by_address gone.now)) given.rest log.old.items log.new.items) }
     {
         let region = gone.at(i).region;
         let count = count_of(&self.chains, region);
@@ -71,6 +75,7 @@ impl Parts {
         ensures pages { OnOk result (OnlyLoses self.old.memory.resident self.new.memory.resident) }
         ensures plays { OnOk result (Plays given.header given.past log.old.items (paging self.old) log.new.items (paging self.new)) }
         ensures only { OnOk result (EndsOnly log.old.items log.new.items) }
+        ensures under { OnOk result (EndsBelow given.header (log.old.items ++ given.past) (region_of given.header region.0 (log.old.items ++ given.past)).top log.old.items log.new.items) }
     {
         let object = self.chains.drop_region(region);
         if self.memory.objects.unrefer(object) > 0 {
@@ -90,6 +95,7 @@ impl Parts {
         ensures pages { OnOk result (OnlyLoses self.old.memory.resident self.new.memory.resident) }
         ensures plays { OnOk result (Plays given.header given.past log.old.items (paging self.old) log.new.items (paging self.new)) }
         ensures only { OnOk result (EndsOnly log.old.items log.new.items) }
+        ensures under { OnOk result (EndsBelow given.header (log.old.items ++ given.past) object.0 log.old.items log.new.items) }
     {
         self.memory.queues.stand_once();
         finish(

@@ -1,10 +1,12 @@
-use Rattle.vm_kernel.proofs.Common.{Command, Event, IsDoneInTurn, List, Parts, Starts, Sweeps, ap, by_address, refl, subst, sym, ◌∙◌, ◌∷◌}
+use Rattle.vm_kernel.proofs.Common.{Command, Event, IsDoneInTurn, List, Parts, Starts, Sweeps, ap, by_address, entries_of, parts_in, refl, subst, sym, ◌∙◌, ◌∷◌}
 use Rattle.vm_kernel.proofs.Playing.{plays_both, plays_told}
 use Rattle.vm_model.specs.declared.command.Command.TheVariants as command
 use Rattle.vm_model.specs.declared.event.Event.TheVariants as event
 use Rattle.vm_kernel.proofs.Changing.{all_there, entries_few, may_remove}
-use Rattle.vm_kernel.proofs.Endings.{ran_swept, sweeps_removed}
+use Rattle.vm_kernel.proofs.Endings.{ran_swept, removed_gone, sweeps_removed}
 use Rattle.vm_kernel.proofs.Growing.{on_ok}
+use Rattle.vm_kernel.proofs.Outgoing.{ends_behind, still_removed}
+use Rattle.vm_kernel.specs.Endings.{EndsByAddress}
 use Rattle.vm_kernel.proofs.parts.Parts.deallocate.Goals as goal
 
 pub count_cuts-requires-clause-end : goal.count_cuts-requires-clause-end
@@ -38,3 +40,14 @@ returns-clause-ran g c =
 
 pub returns-clause-plays : goal.returns-clause-plays
 returns-clause-plays g c = on_ok c.sweep.result _ _ (λ more. plays_both (plays_told c.in_ok-push.ensures.ok refl) more) c.sweep.ensures.plays
+
+pub returns-clause-ends : goal.returns-clause-ends
+returns-clause-ends g c =
+    let now = c.args.self.now in
+    let gone = by_address c.in_ok-gone.gone in
+    let starts = subst (λ (z : Command). Starts g.given.header g.given.host z g.given.past now c.args.ids.now c.args.log.now.items) c.requires.0 c.requires.1 in
+    let same = removed_gone c.removal.result gone starts c.removal.ensures c.in_ok-gone.ensures.taken in
+    on_ok c.sweep.result _ _
+    (λ so. subst (λ (z : Command). EndsByAddress g.given.header g.given.past z c.sweep.new.log.items) (sym c.requires.0)
+    (ends_behind g.given.header g.given.past (event.Removed c.args.task c.args.address c.args.bytes) gone (parts_in g.given.header.size c.args.address c.args.bytes (entries_of g.given.header.size c.args.task.0 g.given.past)) c.push.new.self.items c.sweep.new.log.items (c.in_ok-push.ensures.ok ∙ ap (λ z. event.Removed c.args.task c.args.address c.args.bytes ∷ z) starts.nothing) same (still_removed g.given.header c.args.task c.args.address c.args.bytes g.given.past) so))
+    c.sweep.ensures.ends

@@ -1,6 +1,7 @@
 use Rattle.vm_kernel.proofs.Growing.{on_ok}
 use Rattle.vm_kernel.proofs.Finishing.{can_finish, object_ended}
 use Rattle.vm_kernel.proofs.Served.{three_ok}
+use Rattle.vm_kernel.proofs.Underneath.{object_under}
 use Rattle.vm_kernel.proofs.parts.Parts.end_object.Goals as goal
 
 pub finish-requires : goal.finish-requires
@@ -22,3 +23,6 @@ returns-clause-only g c = on_ok c.finish.result _ _ (λ finished. (object_ended 
 
 pub returns-clause-pages : goal.returns-clause-pages
 returns-clause-pages g c = on_ok c.finish.result _ _ (λ finished. (object_ended g.given.header g.given.host g.given.outside g.given.command g.given.past g.given.who c.args.self.now c.args.ids.now g.given.rest c.args.object c.args.log.now.items c.finish.new.log.items c.finish.new.parts c.finish.new.chains c.finish.new.laundry c.requires.0 c.requires.1 finished).pages) c.finish.ensures.finished
+
+pub returns-clause-under : goal.returns-clause-under
+returns-clause-under g c = on_ok c.finish.result _ _ (object_under g.given.header g.given.host g.given.past g.given.who c.args.self.now c.args.ids.now g.given.rest c.args.object c.args.log.now.items c.finish.new.log.items c.finish.new.parts c.finish.new.chains c.finish.new.laundry c.requires.0) c.finish.ensures.finished

@@ -2,6 +2,7 @@ use Rattle.vm_kernel.proofs.Common.{Still, arith}
 use Rattle.vm_kernel.proofs.Finishing.{only_none, pager_knows}
 use Rattle.vm_kernel.proofs.Growing.{goes_none}
 use Rattle.vm_kernel.proofs.Strands.{ends_top, loses_region, referred_some, referred_there, top_referred, whole_region}
+use Rattle.vm_kernel.proofs.Underneath.{below_none}
 use Rattle.vm_kernel.proofs.parts.Parts.end_region.Goals as goal
 
 pub unrefer-requires-clause-there : goal.unrefer-requires-clause-there
@@ -37,3 +38,6 @@ returns-then-unrefer-gt0-clause-goes g c = goes_none g.given.header g.given.host
 
 pub returns-then-unrefer-gt0-clause-only : goal.returns-then-unrefer-gt0-clause-only
 returns-then-unrefer-gt0-clause-only g c = only_none c.args.log.now.items
+
+pub returns-then-unrefer-gt0-clause-under : goal.returns-then-unrefer-gt0-clause-under
+returns-then-unrefer-gt0-clause-under g c = below_none g.given.header _ _ c.args.log.now.items

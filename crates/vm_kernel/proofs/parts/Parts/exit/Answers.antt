@@ -1,9 +1,11 @@
-use Rattle.vm_kernel.proofs.Common.{Command, Event, IsDoneInTurn, List, Parts, Starts, Sweeps, ap, by_address, refl, subst, sym, ◌∙◌, ◌∷◌}
+use Rattle.vm_kernel.proofs.Common.{Command, Event, IsDoneInTurn, List, Parts, Starts, Sweeps, ap, by_address, entries_of, refl, subst, sym, ◌∙◌, ◌∷◌}
 use Rattle.vm_kernel.proofs.Playing.{plays_both, plays_told}
 use Rattle.vm_model.specs.declared.command.Command.TheVariants as command
 use Rattle.vm_model.specs.declared.event.Event.TheVariants as event
-use Rattle.vm_kernel.proofs.Endings.{ran_swept, sweeps_exit}
+use Rattle.vm_kernel.proofs.Endings.{exit_gone, ran_swept, sweeps_exit}
 use Rattle.vm_kernel.proofs.Growing.{on_ok}
+use Rattle.vm_kernel.proofs.Outgoing.{ends_behind, still_ended}
+use Rattle.vm_kernel.specs.Endings.{EndsByAddress}
 use Rattle.vm_kernel.proofs.parts.Parts.exit.Goals as goal
 
 pub sweep-requires : goal.sweep-requires
@@ -25,3 +27,14 @@ returns-clause-ran g c =
 
 pub returns-clause-plays : goal.returns-clause-plays
 returns-clause-plays g c = on_ok c.sweep.result _ _ (λ more. plays_both (plays_told c.in_ok-push.ensures.ok refl) more) c.sweep.ensures.plays
+
+pub returns-clause-ends : goal.returns-clause-ends
+returns-clause-ends g c =
+    let now = c.args.self.now in
+    let gone = by_address c.end_task-gone.result in
+    let starts = subst (λ (z : Command). Starts g.given.header g.given.host z g.given.past now c.args.ids.now c.args.log.now.items) c.requires.0 c.requires.1 in
+    let same = exit_gone gone starts c.end_task-gone.ensures.entries in
+    on_ok c.sweep.result _ _
+    (λ so. subst (λ (z : Command). EndsByAddress g.given.header g.given.past z c.sweep.new.log.items) (sym c.requires.0)
+    (ends_behind g.given.header g.given.past (event.TaskEnded c.args.task) gone (entries_of g.given.header.size c.args.task.0 g.given.past) c.push.new.self.items c.sweep.new.log.items (c.in_ok-push.ensures.ok ∙ ap (λ z. event.TaskEnded c.args.task ∷ z) starts.nothing) same (still_ended g.given.header c.args.task g.given.past) so))
+    c.sweep.ensures.ends

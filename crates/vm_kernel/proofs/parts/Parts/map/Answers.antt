@@ -34,7 +34,7 @@ maps g c =
     on_ok c.open.result _ _
     (maps_to g.given.header g.given.host c.args.task c.args.address c.args.bytes c.args.object c.args.offset g.given.past c.args.self.now c.hold.new.self c.open.new.self c.args.ids.now c.args.log.now.items _ c.open.new.log.items c.enter.new.self c.requires
     c.in_ok-hold.ensures changes (c.in_ok-push.ensures.ok ∙ ap (λ z. z ∷ c.args.log.now.items) (c.entered.ensures ∙ ap (got c.args.task) entry)))
-    c.open.ensures
+    c.open.ensures.opens
 
 pub returns-clause-ran : goal.returns-clause-ran
 returns-clause-ran g c =

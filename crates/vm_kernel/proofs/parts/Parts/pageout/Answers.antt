@@ -1,6 +1,6 @@
-use Rattle.vm_kernel.proofs.Common.{Still, arith, subst, ℕ, ◌≡◌}
+use Rattle.vm_kernel.proofs.Common.{Still, arith, first_in_queue, inl, rules, subst, ℕ, ◌≡◌}
 use Rattle.std.specs.Prelude.{◌++◌}
-use Rattle.vm_kernel.proofs.Pageout.{Reclaiming, paged_out, ran_out, reclaiming_more, reclaiming_start, spares_one}
+use Rattle.vm_kernel.proofs.Pageout.{Reclaiming, first_source, paged_out, plays_first, ran_out, reclaiming_more, reclaiming_start, source_since, spares_one}
 use Rattle.vm_kernel.proofs.Playing.{plays_both}
 use Rattle.vm_kernel.proofs.Turning.{quiet_both, quiet_gone, quiet_none}
 use Rattle.vm_kernel.proofs.parts.Parts.pageout.Goals as goal
@@ -8,10 +8,29 @@ use Rattle.vm_kernel.proofs.parts.Parts.pageout.Goals as goal
 pub pages-init : goal.pages-init
 pages-init g c =
     record {
-      reclaiming = reclaiming_start g.given.header g.given.host g.given.outside g.given.command c.args.count c.source-first.result g.given.past c.args.self.now c.args.ids.now c.args.log.now.items c.requires.0 c.requires.1 c.source-first.ensures;
+      reclaiming = reclaiming_start g.given.header g.given.host g.given.outside g.given.command c.args.count c.source-first.result g.given.past c.args.self.now c.args.ids.now c.args.log.now.items c.requires.0 c.requires.1 c.source-first.ensures.to_copy;
       plays = Still;
       quiet = quiet_none c.args.self.now.waits.queue c.args.log.now.items;
     }
+
+pub reclaim-requires : goal.reclaim-requires
+reclaim-requires g c =
+    let was = c.pages.invariant in
+    let now = c.pages.log.items ++ g.given.past in (
+      was.reclaiming.rests,
+      (
+        inl (search rules),
+        (
+          (spares_one g.given.header g.given.host c.pages.self c.source-first.result c.source.result c.same_page-spared.result g.given.past now was.reclaiming.was c.source.ensures.to_copy c.same_page-spared.ensures.same c.same_page-spared.ensures.apart).now,
+          (
+            source_since g.given.header g.given.host (first_in_queue c.pages.self.waits.queue) c.source-first.result c.source.result c.same_page-spared.result g.given.past now
+                (first_source g.given.header g.given.host c.source-first.result c.args.self.now.waits.queue c.pages.self.waits.queue c.args.log.now.items g.given.past was.quiet.queue c.requires.1.nothing c.source-first.ensures.source)
+                c.source.ensures.source c.same_page-spared.ensures.same c.same_page-spared.ensures.apart,
+            tt,
+          ),
+        ),
+      ),
+    )
 
 pub returns-in-Nothing : goal.returns-in-Nothing
 returns-in-Nothing g c =
@@ -20,8 +39,8 @@ returns-in-Nothing g c =
     record {
       ran =
           ran_out g.given.header g.given.host g.given.outside g.given.command c.args.count c.pages.counter c.source-first.result c.same_page-spared.result g.given.past c.pages.self c.reclaim.new.self c.args.ids.now c.in_ok-reclaim.field-0 c.pages.log.items c.reclaim.new.log.items was.reclaiming all.rests all.goes all.reclaims all.reclaimed c.in-Nothing.is
-          (spares_one g.given.header g.given.host c.pages.self c.source-first.result c.source.result c.same_page-spared.result g.given.past (c.pages.log.items ++ g.given.past) was.reclaiming.was c.source.ensures c.same_page-spared.ensures.same c.same_page-spared.ensures.apart).was;
-      plays = plays_both was.plays all.plays;
+          (spares_one g.given.header g.given.host c.pages.self c.source-first.result c.source.result c.same_page-spared.result g.given.past (c.pages.log.items ++ g.given.past) was.reclaiming.was c.source.ensures.to_copy c.same_page-spared.ensures.same c.same_page-spared.ensures.apart).was;
+      plays = plays_both was.plays (plays_first was.quiet.queue all.plays);
       quiet =
           quiet_both c.args.self.now.waits.queue c.pages.self.waits.queue c.reclaim.new.self.waits.queue c.args.log.now.items c.pages.log.items c.reclaim.new.log.items was.quiet
           (quiet_gone g.given.host c.pages.self.waits c.reclaim.new.self.waits c.pages.log.items c.reclaim.new.log.items all.reclaimed.waits all.reclaims);
@@ -34,7 +53,7 @@ pages-preserved g c =
     record {
       reclaiming =
           reclaiming_more g.given.header g.given.host g.given.outside g.given.command c.args.count c.pages.counter c.source-first.result c.same_page-spared.result g.given.past c.pages.self c.reclaim.new.self c.args.ids.now c.in_ok-reclaim.field-0 c.pages.log.items c.reclaim.new.log.items was.reclaiming all.rests all.goes all.reclaims all.reclaimed c.in-Freed.is;
-      plays = plays_both was.plays all.plays;
+      plays = plays_both was.plays (plays_first was.quiet.queue all.plays);
       quiet =
           quiet_both c.args.self.now.waits.queue c.pages.self.waits.queue c.reclaim.new.self.waits.queue c.args.log.now.items c.pages.log.items c.reclaim.new.log.items was.quiet
           (quiet_gone g.given.host c.pages.self.waits c.reclaim.new.self.waits c.pages.log.items c.reclaim.new.log.items all.reclaimed.waits all.reclaims);

@@ -20,10 +20,13 @@ reclaim_but-requires g c =
       (
         c.requires.1.0,
         (
-          subst (λ (z : List FrameNo). AreSpared g.given.header g.given.host before (paging k).frame_at z) (sym (skips g c))
-              (are_spared g.given.header g.given.host k c.args.ids.now before c.args.spared c.requires.0.matches c.requires.0.waits c.requires.0.used.copies c.in_ok-skip.ensures.once c.requires.1.1),
-          subst (λ (z : List FrameNo). SkipLocked k.memory.resident z) (sym (skips g c))
-              (skips_locked g.given.header g.given.host k c.args.ids.now before c.args.spared c.requires.0.matches c.requires.0.waits),
+          subst (λ (z : List FrameNo). AreSpared g.given.header g.given.host g.given.by before (paging k).frame_at z) (sym (skips g c))
+              (are_spared g.given.header g.given.host k c.args.ids.now before g.given.by c.args.spared c.requires.0.matches c.requires.0.waits c.requires.0.used.copies c.in_ok-skip.ensures.once c.requires.1.1.0 c.requires.1.1.1.0),
+          (
+            c.requires.1.1.1.1,
+            subst (λ (z : List FrameNo). SkipLocked k.memory.resident z) (sym (skips g c))
+                (skips_locked g.given.header g.given.host k c.args.ids.now before c.args.spared c.requires.0.matches c.requires.0.waits),
+          ),
         ),
       ),
     )
@@ -38,11 +41,11 @@ pub returns-clause-reclaimed : goal.returns-clause-reclaimed
 returns-clause-reclaimed g c =
     both_ok c.reclaim_but.result _ _ _
     (λ rests answer all. frees_or_returns g.given.header g.given.host c.args.self.now c.reclaim_but.new.self c.args.ids.now c.args.spared answer (c.args.log.now.items ++ g.given.past) (c.reclaim_but.new.log.items ++ g.given.past)
-    c.requires.0 rests c.in_ok-skip.ensures.once c.requires.1.1 (frees g c answer all))
+    c.requires.0 rests c.in_ok-skip.ensures.once c.requires.1.1.0 (frees g c answer all))
     c.reclaim_but.ensures.rests c.reclaim_but.ensures.reclaimed
 
 pub returns-clause-spared : goal.returns-clause-spared
 returns-clause-spared g c =
     ok_of c.reclaim_but.result _ _
-    (λ answer all. keeps_spared g.given.header g.given.host c.args.self.now c.reclaim_but.new.self c.args.spared answer (c.args.log.now.items ++ g.given.past) (c.reclaim_but.new.log.items ++ g.given.past) c.requires.1.1 (frees g c answer all))
+    (λ answer all. keeps_spared g.given.header g.given.host c.args.self.now c.reclaim_but.new.self c.args.spared answer (c.args.log.now.items ++ g.given.past) (c.reclaim_but.new.log.items ++ g.given.past) c.requires.1.1.0 (frees g c answer all))
     c.reclaim_but.ensures.reclaimed

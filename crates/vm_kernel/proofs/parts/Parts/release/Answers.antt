@@ -1,5 +1,6 @@
 use Rattle.vm_kernel.proofs.Common.{PutsEntries, Still, arith, by_address, subst, sym, ℕ, ◌-◌, ◌∙◌}
 use Rattle.vm_kernel.proofs.Ends.{ends_less, ends_still, some_left, sweeps_less, sweeps_next, sweeps_on}
+use Rattle.vm_kernel.proofs.Outgoing.{out_last, out_still}
 use Rattle.vm_kernel.proofs.parts.Parts.release.Goals as goal
 
 pub overflow_sub-count : goal.overflow_sub-count
@@ -43,3 +44,14 @@ returns-in_ok-end_region-clause-sweeps g c =
 
 pub returns-in_ok-end_region-clause-quiet : goal.returns-in_ok-end_region-clause-quiet
 returns-in_ok-end_region-clause-quiet g c = ends_still c.args.self.now.waits c.end_region.new.self.waits c.args.log.now.items c.end_region.new.log.items c.in_ok-end_region.ensures.waits c.in_ok-end_region.ensures.only
+
+pub returns-else-count-eq1-clause-ends : goal.returns-else-count-eq1-clause-ends
+returns-else-count-eq1-clause-ends g c = out_still g.given.header _ (by_address c.args.gone.now) g.given.rest c.args.i c.at.result.now c.args.log.now.items c.at.ensures c.requires.1.0
+
+pub returns-in_ok-end_region-clause-ends : goal.returns-in_ok-end_region-clause-ends
+returns-in_ok-end_region-clause-ends g c =
+    let now = c.args.self.now in
+    let entry = c.at.result.now in
+    let sweeps = sweeps_next g.given.header g.given.host g.given.outside g.given.command g.given.past now c.args.ids.now (by_address c.args.gone.now) g.given.rest c.args.i entry c.args.log.now.items c.at.ensures c.requires.1.0 c.requires.1.1 in
+    out_last g.given.header g.given.host g.given.outside g.given.command g.given.past now c.args.ids.now (by_address c.args.gone.now) g.given.rest c.args.i entry c.args.log.now.items c.end_region.new.log.items c.at.ensures c.requires.1.0 sweeps (sym c.count_of-count.ensures ∙ c.if-count-eq1.true)
+    c.in_ok-end_region.ensures.under

@@ -1,5 +1,4 @@
 use Rattle.vm_kernel.proofs.Common.{inr, true}
-use Rattle.vm_kernel.proofs.Playing.{plays_both}
 use Rattle.vm_kernel.proofs.Growing.{goes_both}
 use Rattle.vm_kernel.proofs.Served.{attempts_idle, rests_of}
 use Rattle.vm_kernel.proofs.Turning.{leaves_gone, leaves_of, leaves_ran, others_gone, others_ran}
@@ -12,31 +11,30 @@ returns-then-branch-clause-goes g c =
     (goes_both g.given.header g.given.host g.given.outside g.given.command g.given.past c.args.log.now.items c.serve.log.items c.attempt.new.log.items c.serve.invariant.goes c.in_ok-source.ensures.goes)
     c.in_ok-stops.ensures.goes
 
-pub returns-then-branch-clause-plays : goal.returns-then-branch-clause-plays
-returns-then-branch-clause-plays g c = plays_both (plays_both c.serve.invariant.plays c.in_ok-source.ensures.plays) c.in_ok-stops.ensures.plays
-
 pub returns-then-branch-clause-leaves : goal.returns-then-branch-clause-leaves
 returns-then-branch-clause-leaves g c =
+    let was = leaves_of g.given.header g.given.past c.args.self.now c.serve.self c.args.log.now.items c.serve.log.items c.serve.invariant.serving c.front.ensures.line in
     let leaves =
-    leaves_ran c.args.self.now.waits.queue c.in-Some.waiting true (wants_frame c.in_ok-source.field-0) c.serve.self.waits c.attempt.new.self.waits c.args.log.now.items c.serve.log.items c.attempt.new.log.items
-    (leaves_of c.args.self.now.waits c.serve.self.waits c.args.log.now.items c.serve.log.items c.serve.invariant.serving c.front.ensures.line) c.front.ensures.line c.in-Some.ensures.first c.in-Some.ensures.row.1 c.in_ok-source.ensures.once in
-    leaves_gone g.given.host c.args.self.now.waits.queue c.attempt.new.self.waits c.stops.new.self.waits c.args.log.now.items c.attempt.new.log.items c.stops.new.log.items leaves c.in_ok-stops.ensures.waits c.in_ok-stops.ensures.reclaims
+    leaves_ran g.given.header g.given.past c.args.self.now c.serve.self c.attempt.new.self c.in-Some.waiting true (wants_frame c.in_ok-source.field-0) c.args.log.now.items c.serve.log.items c.attempt.new.log.items was c.front.ensures.line c.in-Some.ensures.first
+    c.in-Some.ensures.row.1 c.in_ok-source.ensures.once c.in_ok-source.ensures.plays in
+    leaves_gone g.given.header g.given.host g.given.past c.args.self.now c.attempt.new.self c.stops.new.self c.args.log.now.items c.attempt.new.log.items c.stops.new.log.items leaves c.in_ok-stops.ensures.waits c.in_ok-stops.ensures.reclaims
+    c.in_ok-stops.ensures.plays
 
 pub returns-then-branch-clause-others : goal.returns-then-branch-clause-others
 returns-then-branch-clause-others g c =
-    let was = leaves_of c.args.self.now.waits c.serve.self.waits c.args.log.now.items c.serve.log.items c.serve.invariant.serving c.front.ensures.line in
+    let was = leaves_of g.given.header g.given.past c.args.self.now c.serve.self c.args.log.now.items c.serve.log.items c.serve.invariant.serving c.front.ensures.line in
     others_gone c.args.self.now.waits.queue c.args.self.now.waits.rows c.attempt.new.self.waits c.stops.new.self.waits c.in_ok-stops.ensures.waits
-    (others_ran c.args.self.now.waits.queue c.in-Some.waiting true (wants_frame c.in_ok-source.field-0) c.args.self.now.waits.rows c.serve.self.waits c.attempt.new.self.waits c.args.log.now.items c.serve.log.items c.attempt.new.log.items was c.in-Some.ensures.first
+    (others_ran g.given.header g.given.past c.args.self.now c.serve.self c.attempt.new.self c.in-Some.waiting true (wants_frame c.in_ok-source.field-0) c.args.self.now.waits.rows c.args.log.now.items c.serve.log.items c.attempt.new.log.items was c.in-Some.ensures.first
     c.in_ok-source.ensures.once c.serve.invariant.others)
 
 pub serve-preserved-else-branch : goal.serve-preserved-else-branch
 serve-preserved-else-branch g c =
-    let was = leaves_of c.args.self.now.waits c.serve.self.waits c.args.log.now.items c.serve.log.items c.serve.invariant.serving c.front.ensures.line in
+    let was = leaves_of g.given.header g.given.past c.args.self.now c.serve.self c.args.log.now.items c.serve.log.items c.serve.invariant.serving c.front.ensures.line in
     let leaves =
-    leaves_ran c.args.self.now.waits.queue c.in-Some.waiting true (wants_frame c.in_ok-source.field-0) c.serve.self.waits c.attempt.new.self.waits c.args.log.now.items c.serve.log.items c.attempt.new.log.items was c.front.ensures.line c.in-Some.ensures.first
-    c.in-Some.ensures.row.1 c.in_ok-source.ensures.once in
+    leaves_ran g.given.header g.given.past c.args.self.now c.serve.self c.attempt.new.self c.in-Some.waiting true (wants_frame c.in_ok-source.field-0) c.args.log.now.items c.serve.log.items c.attempt.new.log.items was c.front.ensures.line c.in-Some.ensures.first
+    c.in-Some.ensures.row.1 c.in_ok-source.ensures.once c.in_ok-source.ensures.plays in
     let others =
-    others_ran c.args.self.now.waits.queue c.in-Some.waiting true (wants_frame c.in_ok-source.field-0) c.args.self.now.waits.rows c.serve.self.waits c.attempt.new.self.waits c.args.log.now.items c.serve.log.items c.attempt.new.log.items was c.in-Some.ensures.first
+    others_ran g.given.header g.given.past c.args.self.now c.serve.self c.attempt.new.self c.in-Some.waiting true (wants_frame c.in_ok-source.field-0) c.args.self.now.waits.rows c.args.log.now.items c.serve.log.items c.attempt.new.log.items was c.in-Some.ensures.first
     c.in_ok-source.ensures.once c.serve.invariant.others in
     record {
       rests = c.in_ok-stops.ensures.rests;
@@ -44,26 +42,27 @@ serve-preserved-else-branch g c =
           goes_both g.given.header g.given.host g.given.outside g.given.command g.given.past c.args.log.now.items c.attempt.new.log.items c.stops.new.log.items
           (goes_both g.given.header g.given.host g.given.outside g.given.command g.given.past c.args.log.now.items c.serve.log.items c.attempt.new.log.items c.serve.invariant.goes c.in_ok-source.ensures.goes)
           c.in_ok-stops.ensures.goes;
-      plays = plays_both (plays_both c.serve.invariant.plays c.in_ok-source.ensures.plays) c.in_ok-stops.ensures.plays;
       others = others_gone c.args.self.now.waits.queue c.args.self.now.waits.rows c.attempt.new.self.waits c.stops.new.self.waits c.in_ok-stops.ensures.waits others;
-      serving = inr (leaves_gone g.given.host c.args.self.now.waits.queue c.attempt.new.self.waits c.stops.new.self.waits c.args.log.now.items c.attempt.new.log.items c.stops.new.log.items leaves c.in_ok-stops.ensures.waits c.in_ok-stops.ensures.reclaims);
+      serving =
+          inr
+          (leaves_gone g.given.header g.given.host g.given.past c.args.self.now c.attempt.new.self c.stops.new.self c.args.log.now.items c.attempt.new.log.items c.stops.new.log.items leaves c.in_ok-stops.ensures.waits c.in_ok-stops.ensures.reclaims
+          c.in_ok-stops.ensures.plays);
     }
 
 pub serve-preserved : goal.serve-preserved
 serve-preserved g c =
-    let was = leaves_of c.args.self.now.waits c.serve.self.waits c.args.log.now.items c.serve.log.items c.serve.invariant.serving c.front.ensures.line in
+    let was = leaves_of g.given.header g.given.past c.args.self.now c.serve.self c.args.log.now.items c.serve.log.items c.serve.invariant.serving c.front.ensures.line in
     record {
       rests = rests_of _ g.given.host _ _ _ c.in_ok-source.ensures.works (attempts_idle _ g.given.host _ _ _ _ _ _ _ c.in_ok-source.ensures.attempts c.serve.invariant.rests.idle);
       goes = goes_both g.given.header g.given.host g.given.outside g.given.command g.given.past c.args.log.now.items c.serve.log.items c.attempt.new.log.items c.serve.invariant.goes c.in_ok-source.ensures.goes;
-      plays = plays_both c.serve.invariant.plays c.in_ok-source.ensures.plays;
       others =
-          others_ran c.args.self.now.waits.queue c.in-Some.waiting true (wants_frame c.in_ok-source.field-0) c.args.self.now.waits.rows c.serve.self.waits c.attempt.new.self.waits c.args.log.now.items c.serve.log.items c.attempt.new.log.items was
+          others_ran g.given.header g.given.past c.args.self.now c.serve.self c.attempt.new.self c.in-Some.waiting true (wants_frame c.in_ok-source.field-0) c.args.self.now.waits.rows c.args.log.now.items c.serve.log.items c.attempt.new.log.items was
           c.in-Some.ensures.first c.in_ok-source.ensures.once c.serve.invariant.others;
       serving =
           inr
-          (leaves_ran c.args.self.now.waits.queue c.in-Some.waiting true (wants_frame c.in_ok-source.field-0) c.serve.self.waits c.attempt.new.self.waits c.args.log.now.items c.serve.log.items c.attempt.new.log.items was c.front.ensures.line
-          c.in-Some.ensures.first c.in-Some.ensures.row.1 c.in_ok-source.ensures.once);
+          (leaves_ran g.given.header g.given.past c.args.self.now c.serve.self c.attempt.new.self c.in-Some.waiting true (wants_frame c.in_ok-source.field-0) c.args.log.now.items c.serve.log.items c.attempt.new.log.items was c.front.ensures.line
+          c.in-Some.ensures.first c.in-Some.ensures.row.1 c.in_ok-source.ensures.once c.in_ok-source.ensures.plays);
     }
 
 pub returns-clause-leaves : goal.returns-clause-leaves
-returns-clause-leaves g c = leaves_of c.args.self.now.waits c.serve.self.waits c.args.log.now.items c.serve.log.items c.serve.invariant.serving c.front.ensures.line
+returns-clause-leaves g c = leaves_of g.given.header g.given.past c.args.self.now c.serve.self c.args.log.now.items c.serve.log.items c.serve.invariant.serving c.front.ensures.line

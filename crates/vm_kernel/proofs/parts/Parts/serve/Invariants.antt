@@ -1,4 +1,4 @@
-use Rattle.vm_kernel.proofs.Common.{KeepsOthers, LegalEvents, Plays, Rests, claimed, frame_count, paging, queued, ◌*◌, ◌++◌, ◌+◌}
+use Rattle.vm_kernel.proofs.Common.{KeepsOthers, LegalEvents, Rests, claimed, frame_count, queued, ◌*◌, ◌++◌, ◌+◌}
 use Rattle.vm_kernel.proofs.Turning.{Serving}
 use Rattle.vm_kernel.specs.Serving.{pages_to_copy}
 use Rattle.vm_kernel.proofs.parts.Parts.serve.Given as goal
@@ -13,9 +13,8 @@ abbrev pub invariant-serve : goal.invariant-serve
 invariant-serve g l = record {
   rests : Rests g.given.header g.given.host l.self l.ids (l.log.items ++ g.given.past);
   goes : LegalEvents g.given.header g.given.host g.given.outside g.given.command g.given.past l.fn.log.items l.log.items;
-  plays : Plays g.given.header g.given.past l.fn.log.items (paging l.fn.self) l.log.items (paging l.self);
   others : KeepsOthers l.fn.self.waits.queue l.fn.self.waits.rows l.self.waits.rows;
-  serving : Serving l.fn.self.waits l.self.waits l.fn.log.items l.log.items;
+  serving : Serving g.given.header g.given.past l.fn.self l.self l.fn.log.items l.log.items;
 }
 
 abbrev pub decreases-serve : goal.decreases-serve

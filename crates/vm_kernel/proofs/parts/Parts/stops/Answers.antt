@@ -14,7 +14,7 @@ returns-in-Returned g c =
       reclaims = all.reclaims;
       freed = λ bad. absurd (let clash : true ≡ false = bad in cc);
       full = λ same.
-          full_after g.given.header g.given.host c.args.self.now c.reclaim.new.self c.args.ids.now c.args.source c.in_ok-reclaim.field-0 (c.args.log.now.items ++ g.given.past) (c.reclaim.new.log.items ++ g.given.past) all.rests c.requires.1.1.0 c.requires.1.1.1 all.reclaimed
+          full_after g.given.header g.given.host c.args.self.now c.reclaim.new.self c.args.ids.now c.args.source c.in_ok-reclaim.field-0 (c.args.log.now.items ++ g.given.past) (c.reclaim.new.log.items ++ g.given.past) all.rests c.requires.1.1.0 c.requires.1.1.1.0 all.reclaimed
           c.in-Returned.is;
       spared = all.spared;
     }
