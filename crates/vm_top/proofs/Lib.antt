@@ -6,6 +6,7 @@ pub mod Flattened
 pub mod Keeping
 pub mod Losses
 pub mod Making
+pub mod Memory
 pub mod Readings
 pub mod Resting
 pub mod Settling

@@ -3,6 +3,7 @@ pub mod Ending
 pub mod Flat
 pub mod Losses
 pub mod Making
+pub mod Memory
 pub mod Reading
 pub mod Resting
 pub mod Run

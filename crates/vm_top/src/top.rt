@@ -14,6 +14,7 @@ ghost use Rattle.vm_legal.specs.Outside.{Outside};
 ghost use Rattle.vm_system.specs.Steps.{IsBelowLimit};
 ghost use Rattle.vm_top.specs.Arming.{FailuresBounded, FailuresCounted};
 ghost use Rattle.vm_top.specs.Losses.{HasNotFailed, LosesUnslotted};
+ghost use Rattle.vm_top.specs.Memory.{MemoryIsOne};
 ghost use Rattle.vm_top.specs.Making.{Generates};
 ghost use Rattle.vm_top.specs.Reading.{LeavesBytes, LeavesSource};
 ghost use Rattle.vm_top.specs.Resting.{CarriesAll, WaitsForFramesAlone};
@@ -193,6 +194,7 @@ fn run_read<K: Sink, F: Backing, P: Backing>(
     ensures losses { HasNotFailed device.Files (commands_run result.script result.history.items) (F.faults files.old.inner) (F.faults files.new.inner) (⟦<Armed<F> as Backing>⟧.faults files.new)
         → HasNotFailed device.Paging (commands_run result.script result.history.items) (P.faults paging.old.inner) (P.faults paging.new.inner) (⟦<Armed<P> as Backing>⟧.faults paging.new)
         → LosesUnslotted result.script result.history.items }
+    ensures linear { MemoryIsOne (outside_of (F.area files.old.inner) (P.area paging.old.inner)) result.script result.history.items }
 {
     let ran = run_script(alloc, report, &script, out, files, paging);
     let status = finish(alloc, report, &ran, out);
@@ -244,6 +246,7 @@ fn run<S: Source, K: Sink, F: Backing, P: Backing>(
     ensures losses { HasNotFailed device.Files (commands_run result.script result.history.items) (F.faults files.old.inner) (F.faults files.new.inner) (⟦<Armed<F> as Backing>⟧.faults files.new)
         → HasNotFailed device.Paging (commands_run result.script result.history.items) (P.faults paging.old.inner) (P.faults paging.new.inner) (⟦<Armed<P> as Backing>⟧.faults paging.new)
         → LosesUnslotted result.script result.history.items }
+    ensures linear { MemoryIsOne (outside_of (F.area files.old.inner) (P.area paging.old.inner)) result.script result.history.items }
 {
     let bytes = match read_all(alloc, source) {
         Ok(bytes) => bytes,
@@ -305,6 +308,7 @@ fn generate<K: Sink, F: Backing, P: Backing>(
     ensures losses { HasNotFailed device.Files (commands_run result.script result.history.items) (F.faults files.old.inner) (F.faults files.new.inner) (⟦<Armed<F> as Backing>⟧.faults files.new)
         → HasNotFailed device.Paging (commands_run result.script result.history.items) (P.faults paging.old.inner) (P.faults paging.new.inner) (⟦<Armed<P> as Backing>⟧.faults paging.new)
         → LosesUnslotted result.script result.history.items }
+    ensures linear { MemoryIsOne (outside_of (F.area files.old.inner) (P.area paging.old.inner)) result.script result.history.items }
 {
     match make_script(alloc, number, lines) {
         Ok(script) => run_read(alloc, Report::Summary, script, out, files, paging),
@@ -408,6 +412,10 @@ pub fn pagers_main<S: Source, K: Sink, F: Backing, P: Backing>(
     ensures losses { HasNotFailed device.Files (commands_run result.script result.history.items) (F.faults files.old.inner) (F.faults files.new.inner) (⟦<Armed<F> as Backing>⟧.faults files.new)
         → HasNotFailed device.Paging (commands_run result.script result.history.items) (P.faults paging.old.inner) (P.faults paging.new.inner) (⟦<Armed<P> as Backing>⟧.faults paging.new)
         → LosesUnslotted result.script result.history.items }
+
+    // At every status: memory is one. Each load and each store takes effect at one moment between its beginning and its end, and a load reads what
+    // was stored last in the order of these moments, which keeps the order of each task.
+    ensures linear { MemoryIsOne (outside_of (F.area files.old.inner) (P.area paging.old.inner)) result.script result.history.items }
 
     // At every status: where nothing is undelivered, no `device files` event stands in the history, and no control of a declared file lives on
     // its host, the file, with zeros past its end, begins with the bytes of the flat map, as far as its object goes. What stands past its

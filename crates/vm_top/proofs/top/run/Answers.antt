@@ -11,6 +11,7 @@ use Rattle.vm_model.specs.declared.event.Device.TheVariants as device
 use Rattle.vm_top.proofs.Flattened.{files_none_flat}
 use Rattle.vm_top.proofs.Keeping.{files_none, kept_none}
 use Rattle.vm_top.proofs.Losses.{loses_nothing}
+use Rattle.vm_top.proofs.Memory.{none_ordered}
 use Rattle.vm_top.proofs.Turns.{start_left}
 use Rattle.vm_top.proofs.top.run.Goals as goal
 
@@ -117,6 +118,9 @@ returns-clause-carried g c = λ uncut. none_carry c.in-Ok-read_script.script c.n
 
 pub returns-clause-losses : goal.returns-clause-losses
 returns-clause-losses g c = λ files paging. loses_nothing c.in-Ok-read_script.script c.new.result.items c.new.ensures
+
+pub returns-clause-linear : goal.returns-clause-linear
+returns-clause-linear g c = none_ordered c.in-Ok-read_script.script _ c.new.result.items c.new.ensures
 
 pub returns-clause-kept : goal.returns-clause-kept
 returns-clause-kept g c = kept_none c.in-Ok-read_script.script.header (g.F.Backing.area c.args.files.now.inner) (g.P.Backing.area c.args.paging.now.inner) c.new.result.items c.new.ensures

@@ -1,6 +1,7 @@
 use Rattle.vm_top.proofs.Flattened.{files_flat}
 use Rattle.vm_model.specs.declared.event.Device.TheVariants as device
 use Rattle.vm_top.proofs.Losses.{loses_unslotted, untold}
+use Rattle.vm_top.proofs.Memory.{one_memory}
 use Rattle.vm_top.proofs.Resting.{carries_all, waits_for_frames}
 use Rattle.vm_top.proofs.top.run_read.Goals as goal
 
@@ -21,3 +22,6 @@ returns-clause-losses g c = λ files paging.
     let ran = c.run_script-ran.ensures in
     let h = c.run_script-ran.result.history.items in
     loses_unslotted c.args.report c.args.script _ h _ _ c.finish-status.result (c.finish-status.ensures.ends c.args.script _ _ ran.ran) (untold device.Files _ _ _ _ h ran.files_bounded files) (untold device.Paging _ _ _ _ h ran.bounded paging)
+
+pub returns-clause-linear : goal.returns-clause-linear
+returns-clause-linear g c = one_memory c.args.report c.args.script _ c.run_script-ran.result.history.items _ _ c.finish-status.result (c.finish-status.ensures.ends c.args.script _ _ c.run_script-ran.ensures.ran)

@@ -1,0 +1,2 @@
+pub mod OneMemory
+pub mod Operations

@@ -1,0 +1,33 @@
+-- Memory is one: every host and task sees what was done to it in one order.
+use Rattle.std.specs.Prelude.{ℕ, ◌≡◌, List, [], ◌∷◌, true, Some, None}
+use Rattle.vm_model.specs.Bytes.{number_at}
+use Rattle.vm_model.specs.Moments.{EachEvent}
+use Rattle.vm_model.specs.Waiting.{Loading, Storing, waiting}
+use Rattle.vm_model.specs.declared.event.Event.{Event}
+use Rattle.vm_model.specs.declared.event.Event.TheVariants as event
+use Rattle.vm_model.specs.declared.script.Header.{Header}
+use Rattle.vm_legal.specs.Outside.{Outside, is_flat}
+use Rattle.vm_order.specs.Operations.{Load, Operation, memory, operations}
+
+-- each load answers what the operations before it left where it reads
+abbrev pub LoadsRead : Header → Outside → List Operation → Type 0
+LoadsRead header outside [] = Unit {0}
+LoadsRead header outside (Load task region page address bytes value ∷ past) =
+    (is_flat header outside region ≡ true → value ≡ number_at (memory header outside past region page) header.size address bytes) × LoadsRead header outside past
+LoadsRead header outside (other ∷ past) = LoadsRead header outside past
+
+-- A task begins an access only while it waits for none, and what ends is the access with which it waits: it has begun, and hasn't ended.
+abbrev pub IsOneAtATime : Event → List Event → Type 0
+IsOneAtATime (event.BegunLoad task address bytes) past = waiting task.0 past ≡ None
+IsOneAtATime (event.BegunStore task address bytes value) past = waiting task.0 past ≡ None
+IsOneAtATime (event.BegunCopy task address bytes to) past = waiting task.0 past ≡ None
+IsOneAtATime (event.Loaded task object page value) past = (address : ℕ) × (bytes : ℕ) × (waiting task.0 past ≡ Some (Loading address bytes))
+IsOneAtATime (event.Stored task object page at bytes value) past = (address : ℕ) × (waiting task.0 past ≡ Some (Storing address bytes value))
+IsOneAtATime other past = Unit {0}
+
+-- Memory is linearizable: each load and each store takes effect at one moment between its beginning and its end, that of its end; in the order of these
+-- moments each load reads what was stored last. A task has one access at a time, so that order keeps the order of each task: memory is sequentially
+-- consistent.
+pub record IsOneMemory (header : Header) (outside : Outside) (history : List Event) : Type 0 where
+  pub reads : LoadsRead header outside (operations header outside history)
+  pub tasks : EachEvent IsOneAtATime history
