@@ -1,0 +1,136 @@
+-- A page that is supplied was taken back before that, and so it was returned.
+use Rattle.std.proofs.Common.{Bool, List, None, Option, Some, [], ap, false, refl, subst, sym, true, inl, inr, ℕ, ◌&&◌, ◌∙◌, ◌∷◌, ◌==◌, ◌≡◌, ◌≤◌, if◌then◌else◌, arith}
+use Rattle.std.proofs.lemmas.Bool.{or_left, or_right}
+use Rattle.std.proofs.lemmas.Bool.Decides.{eqb_tells, nat_tests}
+use Rattle.std.specs.Prelude.{nat_lt}
+use Rattle.vm_base.specs.declared.ids.HostId.{HostId}
+use Rattle.vm_base.specs.declared.ids.ObjectId.{ObjectId}
+use Rattle.vm_base.specs.declared.ids.ObjectKind.{ObjectKind}
+use Rattle.vm_base.specs.declared.ids.ObjectKind.TheVariants.{Temp}
+use Rattle.vm_model.specs.Channels.{queue}
+use Rattle.vm_model.specs.Moments.{EachEvent}
+use Rattle.vm_model.specs.Named.{declared, named}
+use Rattle.vm_model.specs.declared.event.Event.{Event}
+use Rattle.vm_model.specs.declared.event.Event.TheVariants as event
+use Rattle.vm_model.specs.declared.message.Channel.{Channel}
+use Rattle.vm_model.specs.declared.message.Channel.TheVariants.{Down, Up}
+use Rattle.vm_model.specs.declared.message.Message.{Message}
+use Rattle.vm_model.specs.declared.message.Message.TheVariants as message
+use Rattle.vm_model.specs.declared.script.Header.{Header}
+use Rattle.vm_legal.proofs.Files.{not_file}
+use Rattle.vm_legal.specs.Licences.{HasCause, PagerSends}
+use Rattle.vm_legal.specs.Outside.{Outside, kind_in, kind_of}
+use Rattle.vm_legal.specs.Pagers.{last_return, newer, returned_in}
+use Rattle.vm_returned.specs.Returned.{TakesReturned, was_returned}
+use Rattle.vm_returned.proofs.Queued.{first_is, queue_is}
+
+-- what was returned once was returned
+returned_later : (h o p : ℕ) (e : Event) (past : List Event) → was_returned h o p past ≡ true → was_returned h o p (e ∷ past) ≡ true
+returned_later h o p (event.Sent (Up host object) (message.Return control page dirty keep bytes)) past is = or_right (host.0 == h && (object.0 == o && page.0 == p)) (was_returned h o p past) is
+returned_later h o p e past is = is
+
+itself : (n : ℕ) → (n == n) ≡ true
+itself n = elim (eqb_tells n n) [ inl same ↦ same.0 | inr apart ↦ absurd (apart.1 refl) ]
+
+-- ---- on the way up
+
+abbrev IsReturned : ℕ → ℕ → List Event → Message → Type 0
+IsReturned h o past (message.Return control page dirty keep bytes) = was_returned h o page.0 past ≡ true
+IsReturned h o past other = Unit {0}
+
+is_returned_later : (h o : ℕ) (e : Event) (past : List Event) (m : Message) → IsReturned h o past m → IsReturned h o (e ∷ past) m
+is_returned_later h o e past (message.Return control page dirty keep bytes) is = returned_later h o page.0 e past is
+is_returned_later h o e past m is = tt
+
+-- in this channel
+abbrev IsReturnedOn : Channel → List Event → Message → Type 0
+IsReturnedOn (Up host object) past m = IsReturned host.0 object.0 past m
+IsReturnedOn (Down host object control) past m = Unit {0}
+
+on_later : (c : Channel) (e : Event) (past : List Event) (m : Message) → IsReturnedOn c past m → IsReturnedOn c (e ∷ past) m
+on_later (Up host object) e past m is = is_returned_later host.0 object.0 e past m is
+on_later (Down host object control) e past m is = tt
+
+sent_up : (c : Channel) (m : Message) (past : List Event) → IsReturnedOn c (event.Sent c m ∷ past) m
+sent_up (Up host object) (message.Return control page dirty keep bytes) past =
+    or_left (host.0 == host.0 && (object.0 == object.0 && page.0 == page.0)) (was_returned host.0 object.0 page.0 past) (rw (itself host.0) (rw (itself object.0) (itself page.0)))
+sent_up (Up host object) m past = tt
+sent_up (Down host object control) m past = tt
+
+-- what a pager took last was returned to it
+
+newer_some : (x y : Option (List ℕ)) (was : List ℕ) → newer x y ≡ Some was → ({A : Type 0} → ((b : List ℕ) → x ≡ Some b → A) → (y ≡ Some was → A) → A)
+newer_some None y was is one other = other is
+newer_some (Some b) y was is one other = one b refl
+
+taken_return : (h o p : ℕ) (past : List Event) (m : Message) (bytes : List ℕ) → IsReturned h o past m → returned_in p m ≡ Some bytes → was_returned h o p past ≡ true
+taken_return h o p past (message.Return control page dirty keep held) bytes is there = elim (eqb_tells page.0 p) [
+  | inl same ↦ subst (λ (z : ℕ). was_returned h o z past ≡ true) same.1 is
+  | inr apart ↦ absurd (let bad : None ≡ Some bytes = sym (ap (λ b. if b then Some held else None) apart.0) ∙ there in cc)
+]
+taken_return h o p past m bytes is there = absurd (let bad : None ≡ Some bytes = there in cc)
+
+taken_was : (header : Header) (outside : Outside) (h o p : ℕ) (at : HostId) (object : ObjectId) (m : Message) (past : List Event) (was : List ℕ) → EachEvent (HasCause header outside) (event.Taken (Up at object) m ∷ past) → (last_return h o p past ≡ Some was → was_returned h o p past ≡ true)
+    → (b : Bool) → (at.0 == h && object.0 == o) ≡ b → (if b then newer (returned_in p m) (last_return h o p past) else last_return h o p past) ≡ Some was → was_returned h o p past ≡ true
+taken_was header outside h o p at object m past was causes before false test found = before found
+taken_was header outside h o p at object m past was causes before true test found =
+    newer_some (returned_in p m) (last_return h o p past) was found (λ bytes there. taken_return h o p past m bytes (subst (λ (z : ℕ). IsReturned z o past m) host_is (subst (λ (z : ℕ). IsReturned at.0 z past m) object_is up)) there) before
+  where
+    up : IsReturnedOn (Up at object) past m
+    up = first_is _ (queue (Up at object) past) m
+        (queue_is header outside (Up at object) (IsReturnedOn (Up at object)) (on_later (Up at object)) (λ m2 past2 causes2 cause. sent_up (Up at object) m2 past2) past causes.1) causes.0.1.0
+
+    host_is : at.0 ≡ h
+    host_is = grind (arith, nat_tests, test)
+
+    object_is : object.0 ≡ o
+    object_is = grind (arith, nat_tests, test)
+
+last_was : (header : Header) (outside : Outside) (h o p : ℕ) (past : List Event) (was : List ℕ) → EachEvent (HasCause header outside) past → last_return h o p past ≡ Some was → was_returned h o p past ≡ true
+last_was header outside h o p [] was causes is = absurd (let bad : None ≡ Some was = is in cc)
+last_was header outside h o p (event.Taken (Up at object) m ∷ past) was causes is =
+    taken_was header outside h o p at object m past was causes (last_was header outside h o p past was causes.1) (at.0 == h && object.0 == o) refl is
+last_was header outside h o p (e ∷ past) was causes is = returned_later h o p e past (last_was header outside h o p past was causes.1 is)
+
+-- ---- on the way down
+
+abbrev IsSupplied : Header → ℕ → ℕ → List Event → Message → Type 0
+IsSupplied header h o past (message.Supply page lock precious bytes) = named header ≤ o → was_returned h o page.0 past ≡ true
+IsSupplied header h o past other = Unit {0}
+
+supplied_later : (header : Header) (h o : ℕ) (e : Event) (past : List Event) (m : Message) → IsSupplied header h o past m → IsSupplied header h o (e ∷ past) m
+supplied_later header h o e past (message.Supply page lock precious bytes) is = λ low. returned_later h o page.0 e past (is low)
+supplied_later header h o e past m is = tt
+
+abbrev IsSuppliedOn : Header → Channel → List Event → Message → Type 0
+IsSuppliedOn header (Up host object) past m = Unit {0}
+IsSuppliedOn header (Down host object control) past m = IsSupplied header host.0 object.0 past m
+
+on_supplied_later : (header : Header) (c : Channel) (e : Event) (past : List Event) (m : Message) → IsSuppliedOn header c past m → IsSuppliedOn header c (e ∷ past) m
+on_supplied_later header (Up host object) e past m is = tt
+on_supplied_later header (Down host object control) e past m is = supplied_later header host.0 object.0 e past m is
+
+-- an object behind the declared ones is temporary
+undeclared : (header : Header) (o : ℕ) → named header ≤ o → nat_lt o (named header) ≡ false
+undeclared header o low = grind (arith, nat_tests, low)
+
+temporary : (header : Header) (o : ℕ) → named header ≤ o → kind_of header o ≡ Temp
+temporary header o low = ap (λ b. if b then kind_in (declared header o) else Temp) (undeclared header o low)
+
+sent_down : (header : Header) (outside : Outside) (c : Channel) (m : Message) (past : List Event) → EachEvent (HasCause header outside) past → HasCause header outside (event.Sent c m) past → IsSuppliedOn header c (event.Sent c m ∷ past) m
+sent_down header outside (Up host object) m past causes cause = tt
+sent_down header outside (Down host object control) (message.Supply page lock precious bytes) past causes cause = λ low.
+    let sends = subst (λ (z : ObjectKind). PagerSends z header outside cause.0 host.0 object.0 control (message.Supply page lock precious bytes) past) (temporary header object.0 low) cause.1 in
+    let has = sends.4 (not_file header object.0 low) in
+    last_was header outside host.0 object.0 page.0 past has.0 causes has.1
+sent_down header outside (Down host object control) m past causes cause = tt
+
+takes : (header : Header) (outside : Outside) (e : Event) (past : List Event) → EachEvent (HasCause header outside) past → HasCause header outside e past → TakesReturned header e past
+takes header outside (event.Taken (Down host object control) (message.Supply page lock precious bytes)) past causes cause =
+    first_is _ (queue (Down host object control) past) (message.Supply page lock precious bytes)
+    (queue_is header outside (Down host object control) (IsSuppliedOn header (Down host object control)) (on_supplied_later header (Down host object control)) (sent_down header outside (Down host object control)) past causes) cause.1.0
+takes header outside other past causes cause = tt
+
+pub takes_returned : (header : Header) (outside : Outside) (history : List Event) → EachEvent (HasCause header outside) history → EachEvent (TakesReturned header) history
+takes_returned header outside [] causes = tt
+takes_returned header outside (e ∷ past) causes = (takes header outside e past causes.1 causes.0, takes_returned header outside past causes.1)
