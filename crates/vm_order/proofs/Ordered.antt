@@ -73,15 +73,15 @@ all_read header outside (e ∷ past) flat = all_read header outside past flat.1
 
 -- a task has one access at a time
 
-one_at_a_time : (header : Header) (outside : Outside) (e : Event) (past : List Event) → HasCause header outside e past → OwnBytes header e past → IsOneAtATime e past
+one_at_a_time : (header : Header) (outside : Outside) (e : Event) (past : List Event) → HasCause header outside e past → OwnBytes header e past → IsOneAtATime header e past
 one_at_a_time header outside (event.BegunLoad task address bytes) past cause own = cause.1
 one_at_a_time header outside (event.BegunStore task address bytes value) past cause own = cause.1
 one_at_a_time header outside (event.BegunCopy task address bytes to) past cause own = cause.1
-one_at_a_time header outside (event.Loaded task object page value) past cause own = (own.address, own.bytes, own.waits.waits)
-one_at_a_time header outside (event.Stored task object page at bytes value) past cause own = (own.address, own.waits.waits)
+one_at_a_time header outside (event.Loaded task object page value) past cause own = (own.address, own.bytes, record { waits = own.waits.waits; entry = own.waits.at.entry; found = own.waits.at.found })
+one_at_a_time header outside (event.Stored task object page at bytes value) past cause own = (own.address, record { waits = own.waits.waits; entry = own.waits.at.entry; found = own.waits.at.found })
 one_at_a_time header outside other past cause own = tt
 
-each_at_a_time : (header : Header) (outside : Outside) (history : List Event) → EachEvent (HasCause header outside) history → EachEvent (OwnBytes header) history → EachEvent IsOneAtATime history
+each_at_a_time : (header : Header) (outside : Outside) (history : List Event) → EachEvent (HasCause header outside) history → EachEvent (OwnBytes header) history → EachEvent (IsOneAtATime header) history
 each_at_a_time header outside [] causes own = tt
 each_at_a_time header outside (e ∷ past) causes own = (one_at_a_time header outside e past causes.0 own.0, each_at_a_time header outside past causes.1 own.1)
 
