@@ -4,7 +4,7 @@ use Rattle.vm_kernel.proofs.Filled.{row_use}
 use Rattle.vm_kernel.proofs.Uses.{fills_here, paged_file, waits_some}
 use Rattle.vm_state.proofs.Filling.{used_told}
 use Rattle.vm_model.specs.declared.event.Event.TheVariants as event
-use Rattle.std.specs.Prelude.{◌+◌}
+use Rattle.std.specs.Prelude.{◌&&◌, ◌+◌, ◌==◌, ◌||◌}
 use Rattle.vm_model.specs.Local.{is_on}
 use Rattle.vm_model.specs.Waiting.{waiting}
 use Rattle.vm_state.specs.Places.{known_local}
@@ -27,6 +27,14 @@ use Rattle.vm_supply.specs.declared.woken.Woken.TheVariants as woken
 use Rattle.std.proofs.lemmas.Bool.{or_right}
 use Rattle.std.proofs.Math.Bool.{and-false}
 use Rattle.vm_legal.proofs.Turns.{cause_of}
+use Rattle.vm_base.specs.declared.ids.PageKey.{PageKey}
+use Rattle.vm_legal.specs.Returned.{OnlyReturned, was_returned}
+use Rattle.vm_legal.specs.Walks.{page_on}
+use Rattle.vm_model.specs.Local.{Local, is_known_absent}
+use Rattle.vm_model.specs.declared.message.Message.TheVariants as message
+use Rattle.vm_state.proofs.Bypassing.{waits_beyond}
+use Rattle.vm_state.proofs.Passing.{only_before}
+use Rattle.vm_state.specs.Passed.{IsAway, IsUnmet, StaysAway}
 
 -- what a kernel says of all hosts
 
@@ -128,6 +136,24 @@ references_more chains regions objects more_regions more_objects o few less unma
     let others_more = tally_more (λ s. is_backing o (shadow_at chains s)) objects more_objects less (λ s high. ap (is_backing o) (bare s high)) in
     omega (arith, one_more, others_more)
 
+-- what was returned on a host is the same, and its pagers gave no more
+pub record SameReturns (least h : ℕ) (old new : List Event) : Type 0 where
+  pub returned : (o p : ℕ) → was_returned h o p new ≡ was_returned h o p old
+  pub only : OnlyReturned least h new → OnlyReturned least h old
+
+returned_abroad : (header : Header) (h o p : ℕ) (e : Event) (past : List Event) → is_home header h e past ≡ false → was_returned h o p (e ∷ past) ≡ was_returned h o p past
+returned_abroad header h o p (event.Sent (Up host object) (message.Return control page dirty keep bytes)) past foreign = ap (λ b. (b && (object.0 == o && page.0 == p)) || was_returned h o p past) foreign
+returned_abroad header h o p e past foreign = refl
+
+returns_abroad : (header : Header) (outside : Outside) (h : ℕ) (events past : List Event) → EachIn (IsAbroad header outside h) events past → SameReturns (named header) h past (events ++ past)
+returns_abroad header outside h [] past abroad = record { returned = λ o p. refl; only = λ only. only }
+returns_abroad header outside h (e ∷ events) past abroad =
+    let before = returns_abroad header outside h events past abroad.1 in
+    record {
+      returned = λ o p. returned_abroad header h o p e (events ++ past) abroad.0.foreign ∙ before.returned o p;
+      only = λ only. before.only (only_before (named header) h e (events ++ past) only);
+    }
+
 -- a kernel whose host's facts read the same stands for them still
 
 module _ (header : Header) (h : ℕ) (k : Parts) (ids next : Ids) (past new : List Event) (rests : Rests header h k ids past) (same : SameFacts header h past new) (common : IsCommon header next new) where
@@ -194,14 +220,31 @@ module _ (header : Header) (h : ℕ) (k : Parts) (ids next : Ids) (past new : Li
         home = λ o row least found. home o (has.home o row least found);
       }
 
-  waits_same : HasWaits k woken.Nobody new
-  waits_same =
+  stays_same : SameReturns (named header) h past new → (key : PageKey) → StaysAway header h past key → StaysAway header h new key
+  stays_same returns key stays = (
+    stays.0,
+    λ only. subst (λ (z : Bool). IsAway (page_on header h key.object.0 key.page.0 new) z) (sym (returns.returned key.object.0 key.page.0))
+        (subst (λ (z : Local). IsAway z (was_returned h key.object.0 key.page.0 past)) (sym (same.pages.local (place_of key.object.0 key.page.0))) (stays.1 (returns.only only))),
+  )
+
+  unmet_same : (key : PageKey) → IsUnmet header h past key → IsUnmet header h new key
+  unmet_same key unmet =
+      let as_before = same.pages.local (place_of key.object.0 key.page.0) in
+      record {
+        away = ap (λ (z : Local). z.here) as_before ∙ unmet.away;
+        unasked = ap (λ (z : Local). z.asked) as_before ∙ unmet.unasked;
+        unknown = ap (is_known_absent header (place_of key.object.0 key.page.0)) as_before ∙ unmet.unknown;
+      }
+
+  waits_same : SameReturns (named header) h past new → HasWaits header h k woken.Nobody new
+  waits_same returns =
       let has = rests.waits in
       record {
         is = λ t here. (same.task t (living t here)).waiting ∙ has.is t here;
         allowed = has.allowed;
         sized = has.sized;
         reasons = has.reasons;
+        passed = (waits_beyond (stays_same returns) unmet_same has).passed;
         aims = has.aims;
         askers = has.askers;
         ready = has.ready;
@@ -227,8 +270,8 @@ module _ (header : Header) (h : ℕ) (k : Parts) (ids next : Ids) (past new : Li
       let has = rests.matches.frames in record { total = has.total; held = same.pages.held ∙ has.held; wired = same.pages.wired ∙ has.wired; fits = has.fits }
 
   -- tasks elsewhere hold none of its regions, and its regions and objects stay on their host
-  pub rests_same : ApartElsewhere header h new → ((r : ℕ) → home_of r past ≡ Some h → home_of r new ≡ Some h) → ((r : ℕ) → is_on h (home_of r new) ≡ is_on h (home_of r past)) → ((o : ℕ) → object_home o past ≡ Some h → object_home o new ≡ Some h) → Rests header h k next new
-  rests_same apart home known objects = record {
+  pub rests_same : SameReturns (named header) h past new → ApartElsewhere header h new → ((r : ℕ) → home_of r past ≡ Some h → home_of r new ≡ Some h) → ((r : ℕ) → is_on h (home_of r new) ≡ is_on h (home_of r past)) → ((o : ℕ) → object_home o past ≡ Some h → object_home o new ≡ Some h) → Rests header h k next new
+  rests_same returns apart home known objects = record {
     matches =
         record {
           ranged = rests.matches.ranged;
@@ -255,7 +298,7 @@ module _ (header : Header) (h : ℕ) (k : Parts) (ids next : Ids) (past new : Li
         };
     used = used_told rests.used (λ t w found. let it = same.task t (living t (ap is_some (rests.waits.allowed t w found).lives)) in (it.next, it.target));
     referred = rests.referred;
-    waits = waits_same;
+    waits = waits_same returns;
     order = order_same;
     idle = rests.idle;
   }
@@ -285,7 +328,7 @@ module _ (header : Header) (outside : Outside) (h : ℕ) (k : Parts) (ids : Ids)
 
   pub rests_abroad : (next : Ids) → IsCommon header next (events ++ past) → Rests header h k next (events ++ past)
   rests_abroad next common =
-      rests_same header h k ids next past (events ++ past) rests stay.same common
+      rests_same header h k ids next past (events ++ past) rests stay.same common (returns_abroad header outside h events past abroad)
       (apart_abroad header outside h events past abroad (apart_of header h k ids past rests))
       (λ r is. homes_stay r h events past is)
       (λ r. homes_abroad header outside h r events past abroad)

@@ -1,5 +1,5 @@
 -- What a page leaves of the kernel that comes for a waiting access, or by which one ends.
-use Rattle.vm_kernel.proofs.Common.{Access, AllReferred, Bool, Brings, Changes, Event, FrameNo, HasPages, HasWaiters, Header, HostParts, Ids, List, Local, Matches, None, ObjectTable, On, Option, PageKey, PageRow, Parts, Queues, Raises, Some, Stores, WaitTable, Waiting, Woken, Works, Zeroes, [], absent_at, ap, arith, begun_at, clean_row, copy_target, entry, false, fit_touched, frames_held, frames_wired, host_id, host_of, inl, inr, is_again, is_frame, little_endian_bytes, local, local_after, local_of_row, next_page, page_in, place_of, refl, replicate, returns_out, reverse, row_at, rows_in, slice_get, some_is, subst, sym, true, unlocked, waiting, with_bytes, ℕ, ◌+◌, ◌||◌, ◌∙◌, ◌∷◌, ◌≡◌}
+use Rattle.vm_kernel.proofs.Common.{Access, AllReferred, Bool, Brings, Changes, Event, FrameNo, HasPages, HasWaiters, Header, HostParts, Ids, List, Local, Matches, None, ObjectTable, On, Option, PageKey, PageRow, Parts, Queues, Raises, Some, Stores, WaitTable, Waiting, Woken, Works, Zeroes, [], absent_at, ap, arith, begun_at, clean_row, copy_target, entry, false, fit_touched, frames_held, frames_wired, host_id, host_of, inl, inr, is_again, is_frame, little_endian_bytes, local, local_after, local_of_row, next_page, page_in, place_of, refl, replicate, returns_out, reverse, row_at, rows_in, slice_get, some_is, subst, suc, sym, true, unlocked, waiting, with_bytes, ℕ, ◌&&◌, ◌+◌, ◌==◌, ◌||◌, ◌∙◌, ◌∷◌, ◌≡◌}
 use Rattle.vm_state.proofs.Filling.{IsUnfilled, away_put, fills_over, number_fills, used_away, used_over, used_page, uses_refilled}
 use Rattle.vm_abroad.proofs.Home.{object_stays}
 use Rattle.vm_fault.specs.Faults.{KeepsPlan, References, WritesPage}
@@ -24,6 +24,11 @@ use Rattle.vm_kernel.proofs.Untold.{matches_with}
 use Rattle.vm_kernel.proofs.Replied.{replied_behind}
 use Rattle.vm_state.specs.References.{MayLock}
 use Rattle.vm_waits.specs.Wants.{IsOfNumber}
+use Rattle.vm_fault.specs.Walks.{Sinks, WalksTo}
+use Rattle.vm_kernel.proofs.Bypassed.{waits_raised, waits_zeroed}
+use Rattle.vm_model.specs.Local.{Elsewhere, is_on}
+use Rattle.vm_state.proofs.Bypassing.{waits_quiet}
+use Rattle.vm_state.proofs.Passing.{quiet_if}
 
 -- who is run waits for no page of which a word is outstanding
 pub asks_none_now : (k : Parts) (reason : On) → runs_now reason ≡ true → AsksNone k.memory.resident reason
@@ -41,10 +46,10 @@ page_referred key frame was now held bytes lists k memory c plan is may all =
     (referred_row key.object.0 key.page.0 now k.chains k.memory.objects k.memory.resident memory.resident c.row (λ row found. (is, may row found)) all)
 
 -- who waits does so still, once a page has changed of which no word was outstanding, and none is
-pub page_waits : (key : PageKey) (frame : FrameNo) (was now : Option PageRow) (held : Bool) (bytes : List ℕ) (lists : Queues) (k : Parts) (memory : HostParts) (who : On → Bool) (at : ℕ → Option Access) → Changes key frame was now held bytes lists k.memory memory
-    → KeepsPlan k.memory memory → IsUnawaited was → IsUnawaited now → HasWaiters k.maps k.chains k.memory.resident k.memory.objects k.waits.rows who at → HasWaiters k.maps k.chains memory.resident memory.objects k.waits.rows who at
-page_waits key frame was now held bytes lists k memory who at c plan before after has =
-    subst (λ (z : ObjectTable). HasWaiters k.maps k.chains memory.resident z k.waits.rows who at) (sym plan.objects)
+pub page_waits : {stays unmet : PageKey → Type 0} (key : PageKey) (frame : FrameNo) (was now : Option PageRow) (held : Bool) (bytes : List ℕ) (lists : Queues) (k : Parts) (memory : HostParts) (who : On → Bool) (at : ℕ → Option Access) → Changes key frame was now held bytes lists k.memory memory
+    → KeepsPlan k.memory memory → IsUnawaited was → IsUnawaited now → HasWaiters k.maps k.chains k.memory.resident k.memory.objects k.waits.rows who at stays unmet → HasWaiters k.maps k.chains memory.resident memory.objects k.waits.rows who at stays unmet
+page_waits {stays = stays} {unmet = unmet} key frame was now held bytes lists k memory who at c plan before after has =
+    subst (λ (z : ObjectTable). HasWaiters k.maps k.chains memory.resident z k.waits.rows who at stays unmet) (sym plan.objects)
     (waiters_page k.maps k.chains k.memory.resident memory.resident k.memory.objects k.waits.rows who at key.object.0 key.page.0 now has c.row (inl (subst (λ (z : Option PageRow). IsUnawaited z) (sym c.found) before)) after)
 
 -- a page with another row may be locked still as it was
@@ -87,14 +92,15 @@ matches_zeroed header h k ids past key frame memory m c plan =
       frames = rw (own_host h) (frames_changed (slice_get (reverse header.frames.items) h) key frame _ _ _ _ _ k.memory memory (frames_held header.size h past) (frames_held header.size h past + 1) (frames_wired h past) m.frames c (λ held. let more = c.claims in omega arith));
     }
 
-pub works_zeroed : (header : Header) (h : ℕ) (past : List Event) (k : Parts) (ids : Ids) (key : PageKey) (frame : FrameNo) (memory : HostParts) → Works header h k ids woken.Nobody past → IsUnfilled k.chains key.object.0 → IsReferred k.memory.objects key.object.0
+pub works_zeroed : (header : Header) (h : ℕ) (past : List Event) (k : Parts) (ids : Ids) (key : PageKey) (frame : FrameNo) (memory : HostParts) → Works header h k ids woken.Nobody past → Sinks k.memory k.chains key → IsUnfilled k.chains key.object.0 → IsReferred k.memory.objects key.object.0
     → Brings key frame k.memory memory → KeepsPlan k.memory memory → Works header h (record k { memory = memory }) ids woken.Nobody (event.Zeroed (host_id h) key.object key.page ∷ past)
-works_zeroed header h past k ids key frame memory works apart is c plan =
+works_zeroed header h past k ids key frame memory works sinks apart is c plan =
     record {
       matches = matches_zeroed header h k ids past key frame memory works.matches c plan;
       used = used_page key.object.0 key.page.0 _ k.memory.resident memory.resident works.used apart c.row;
       referred = page_referred key frame _ _ _ _ _ k memory c plan is (λ row same. inl (ap (λ (z : PageRow). z.lock) (sym (some_is _ row same)))) works.referred;
-      waits = page_waits key frame _ _ _ _ _ k memory (is_woken woken.Nobody) (λ u. waiting u past) c plan (none_unawaited None refl) (here_unawaited _ _ refl refl refl) works.waits;
+      waits = page_waits key frame _ _ _ _ _ k memory (is_woken woken.Nobody) (λ u. waiting u past) c plan (none_unawaited None refl) (here_unawaited _ _ refl refl refl)
+          (waits_zeroed header h k ids past key works.matches sinks works.waits);
       order = works.order;
     }
 
@@ -137,15 +143,16 @@ matches_raised header h k ids past low top row frame memory m found here c plan 
       frames = rw (own_host h) (frames_changed (slice_get (reverse header.frames.items) h) top frame _ _ _ _ _ k.memory memory (frames_held header.size h past) (frames_held header.size h past + 1) (frames_wired h past) m.frames c (λ held. let more = c.claims in omega arith));
     }
 
-pub works_raised : (header : Header) (h : ℕ) (past : List Event) (k : Parts) (ids : Ids) (low top : PageKey) (row : PageRow) (frame : FrameNo) (memory : HostParts) → Works header h k ids woken.Nobody past → IsUnfilled k.chains top.object.0 → IsReferred k.memory.objects top.object.0
+pub works_raised : (header : Header) (h : ℕ) (past : List Event) (k : Parts) (ids : Ids) (steps : ℕ) (low top : PageKey) (row : PageRow) (frame : FrameNo) (memory : HostParts) → Works header h k ids woken.Nobody past → WalksTo k.memory k.chains (suc steps) top low → IsUnfilled k.chains top.object.0 → IsReferred k.memory.objects top.object.0
     → row_at k.memory.resident low.object.0 low.page.0 ≡ Some row → row.here ≡ true → RaisesPage top frame (page_in k.memory.frames row.frame.0) k.memory memory → KeepsPlan k.memory memory
     → Works header h (record k { memory = memory }) ids woken.Nobody (event.Raised (host_id h) low.object low.page top.object top.page ∷ past)
-works_raised header h past k ids low top row frame memory works apart is found here c plan =
+works_raised header h past k ids steps low top row frame memory works walks apart is found here c plan =
     record {
       matches = matches_raised header h k ids past low top row frame memory works.matches found here c plan;
       used = used_page top.object.0 top.page.0 _ k.memory.resident memory.resident works.used apart c.row;
       referred = page_referred top frame _ _ _ _ _ k memory c plan is (λ row same. inl (ap (λ (z : PageRow). z.lock) (sym (some_is _ row same)))) works.referred;
-      waits = page_waits top frame _ _ _ _ _ k memory (is_woken woken.Nobody) (λ u. waiting u past) c plan (none_unawaited None refl) (here_unawaited _ _ refl refl refl) works.waits;
+      waits = page_waits top frame _ _ _ _ _ k memory (is_woken woken.Nobody) (λ u. waiting u past) c plan (none_unawaited None refl) (here_unawaited _ _ refl refl refl)
+          (waits_raised header h k ids past steps top low row works.matches walks found here works.waits);
       order = works.order;
     }
 
@@ -239,7 +246,8 @@ works_stored header h past k ids w key frame at size value row memory waits2 num
     (ap (local_after header.size (Stores at bytes)) (shown_here k.memory.frames was lacked its) ∙ (ap (λ z. shown_as row2 true true z lacked) (sym written) ∙ sym (shown_here memory.frames row2 lacked its))) (λ o2 p2 apart. refl)) in
     let pages3 : HasPages memory.frames memory.resident k.memory.objects (λ o2 p2. known_local header o2 p2 (local header.size h (place_of o2 p2) (e ∷ past))) = rw (lives, own_host h) pages2 in
     let referred2 = page_referred key was.frame _ _ _ _ _ k memory c plan (works.referred.pages o p row found) (λ r same. same_lock k.memory.objects o was row2 r refl same (works.referred.locks o p was c.found)) works.referred in
-    let waits3 = page_waits key was.frame _ _ _ _ _ k memory (is_woken woken.Nobody) (λ u. waiting u past) c plan (here_unawaited _ was refl its unsent) (here_unawaited _ row2 refl its unsent) works.waits in
+    let waits3 = page_waits key was.frame _ _ _ _ _ k memory (is_woken woken.Nobody) (λ u. waiting u past) c plan (here_unawaited _ was refl its unsent) (here_unawaited _ row2 refl its unsent)
+    (waits_quiet header h e past (λ place. quiet_if (is_on h (host_of w.task.0 past) && (key.object.0 == place.object.0 && key.page.0 == place.page.0)) (Stores at bytes) Elsewhere tt tt) works.waits) in
     let fits2 = fits_changed key was.frame _ _ _ _ _ k memory m.fits plan.fit plan.buffers c (plain_here row2 its) in
     record {
       matches = record {

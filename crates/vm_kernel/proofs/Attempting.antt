@@ -25,7 +25,10 @@ use Rattle.vm_model.specs.declared.message.Message.TheVariants as message
 use Rattle.vm_shadow.specs.Chains.{ChainTable}
 use Rattle.vm_state.proofs.Shown.{may_ask, shows_row}
 use Rattle.vm_state.proofs.Walks.{referred_down, sinks_of, walks_lead, walks_of}
-use Rattle.vm_state.specs.Waiters.{IsPagerTold, IsPlaceOf}
+use Rattle.vm_kernel.proofs.Bypassed.{over_walk, unmet_at}
+use Rattle.vm_state.proofs.Passing.{behind_place}
+use Rattle.vm_state.specs.Passed.{IsPlaceBehind, StaysAway}
+use Rattle.vm_state.specs.Waiters.{IsPagerTold}
 use Rattle.vm_supply.specs.declared.woken.Woken.TheVariants as woken
 use Rattle.vm_waits.specs.declared.waiting.On.TheVariants as on
 use Rattle.vm_waits.specs.declared.waiting.Want.TheVariants as want
@@ -163,7 +166,7 @@ ended header h outside doing past k ids w top events value m2 after waits2 numbe
     let to = leads_there header h moment k ids w top t in
     let s = shown_at t.works.matches in
     let store = store_of w.want stores in
-    let works1 = works_raised header h moment k ids key top row frame copied t.works (at_unfilled header.size w.task.0 w.want top k.maps k.chains [] t.works.matches.entries t.at) to.referred finds.found finds.here raises keeps in
+    let works1 = works_raised header h moment k ids steps key top row frame copied t.works finds.walks (at_unfilled header.size w.task.0 w.want top k.maps k.chains [] t.works.matches.entries t.at) to.referred finds.found finds.here raises keeps in
     let t1 = tries_on header h moment (raised ∷ moment) k ids w top copied t works1 in
     let one = goes_one header h outside doing past events raised t.works.matches.settled
     (raised_follows header h outside doing moment k w.task.0 w.want top t.at store.address store.size store.value steps key row to s store.is (t.clear stores) finds out
@@ -181,7 +184,7 @@ ended header h outside doing past k ids w top events value m2 after waits2 numbe
     let zeros : Event = event.Zeroed (host_id h) top.object top.page in
     let to = leads_there header h moment k ids w top t in
     let s = shown_at t.works.matches in
-    let works1 = works_zeroed header h moment k ids top frame brought t.works (at_unfilled header.size w.task.0 w.want top k.maps k.chains [] t.works.matches.entries t.at) to.referred brings keeps in
+    let works1 = works_zeroed header h moment k ids top frame brought t.works sinks (at_unfilled header.size w.task.0 w.want top k.maps k.chains [] t.works.matches.entries t.at) to.referred brings keeps in
     let t1 = tries_on header h moment (zeros ∷ moment) k ids w top brought t works1 in
     let one = goes_one header h outside doing past events zeros t.works.matches.settled
     (zeroed_follows header h outside doing moment k w.task.0 w.want top t.at (top_temporary header h moment k ids w top t sinks) to s t.clear sinks (suffices header h brought.frames (zeros ∷ moment) works1.matches.frames)) in
@@ -193,9 +196,11 @@ ended header h outside doing past k ids w top events value m2 after waits2 numbe
 ended header h outside doing past k ids w top events value m2 after waits2 number t (Copied address pages next target is steps key row finds out is_none copies) put =
     absurd (subst IsOfNumber is number)
 
--- a place to which its walk leads is one of its places
-abbrev place_of_walk : (k : Parts) (w : Waiting) (top key : PageKey) (steps : ℕ) → IsAt k.maps k.chains w.task.0 w.want top → WalksTo k.memory k.chains steps top key → IsPlaceOf k.maps k.chains w.task.0 w.want key
-place_of_walk k w top key steps at walks = record { top = top; at = at; steps = steps; leads = walks_lead k.memory k.chains steps top key walks }
+-- a place to which its walk leads is one of its places, and it has passed over those above
+place_of_walk : (header : Header) (h : ℕ) (past : List Event) (k : Parts) (ids : Ids) (w : Waiting) (top key : PageKey) (steps : ℕ) → (t : Tries header h past k ids w top) → WalksTo k.memory k.chains steps top key
+    → IsPlaceBehind (StaysAway header h past) k.maps k.chains w.task.0 w.want key
+place_of_walk header h past k ids w top key steps t walks =
+    record { top = top; at = t.at; steps = steps; leads = over_walk header h k ids past t.works.matches steps top key (leads_there header h past k ids w top t).referred walks }
 
 -- its page is asked for
 asked : (header : Header) (h : ℕ) (outside : Outside) (doing : Command) (past : List Event) (k : Parts) (ids : Ids) (w : Waiting) (top key : PageKey) (events : List Event) (m2 : HostParts) (after : List Event) (waits2 : WaitTable)
@@ -207,9 +212,9 @@ asked header h outside doing past k ids w top key events m2 after waits2 t a put
     let request : Event = event.Sent (Up (host_id h) key.object) (message.Request a.object.control key.page number) in
     let to = leads_there header h moment k ids w top t in
     let s = shown_at t.works.matches in
-    let place = place_of_walk k w top key a.steps t.at a.comes.walks in
+    let place = place_of_walk header h moment k ids w top key a.steps t a.comes.walks in
     let may = may_ask s a.steps top key a.object a.comes a.ready in
-    let works = works_asked header h moment k ids w key a.object number a.frame m2 waits2 t.works t.is t.now (referred_down s a.steps top key to.referred place.leads) place a.comes.known a.ready may.live a.page a.plan put in
+    let works = works_asked header h moment k ids w key a.object number a.frame m2 waits2 t.works t.is t.now (referred_down s a.steps top key to.referred (walks_lead k.memory k.chains a.steps top key a.comes.walks)) place may.known a.comes.known a.ready may.live a.page a.plan put in
     subst (λ (z : List Event). Reaches header h outside doing past events (record k { memory = m2; waits = waits2 }) ids z) (sym a.told)
     (record {
       works = works;
@@ -227,7 +232,7 @@ unlocked_by header h outside doing past k ids w top key events m2 after waits2 t
     let unlock : Event = unlocking h key a.object.control number in
     let to = leads_there header h moment k ids w top t in
     let s = shown_at t.works.matches in
-    let place = place_of_walk k w top key a.steps t.at a.finds.walks in
+    let place = place_of_walk header h moment k ids w top key a.steps t a.finds.walks in
     let works = works_unlocked header h moment k ids w key a.row a.object number m2 waits2 t.works t.is t.now place a.finds.here (kept_anywhere a.row.lock w.want a.steps a.locked) a.none a.page a.plan put in
     subst (λ (z : List Event). Reaches header h outside doing past events (record k { memory = m2; waits = waits2 }) ids z) (sym a.told)
     (record {
@@ -342,11 +347,13 @@ ready_reaches header h outside doing past k ids w may object events new waits2 w
     let key = why.1 in
     let comes = why.3 in
     let same : key.object ≡ object = why.5 in
-    let place = place_of_walk (with_state k f.mid) w f.top key steps p.tries.at comes.walks in
+    let moment = f.mid.events ++ past in
+    let place = place_of_walk header h moment (with_state k f.mid) f.mid.ids w f.top key steps p.tries comes.walks in
+    let unmet = unmet_at header h (with_state k f.mid) f.mid.ids moment p.tries.works.matches steps f.top key why.2 comes in
     let told = subst (λ (z : ObjectId). IsPagerTold f.mid.parts.objects z.0) same (record { row = why.2; found = comes.known; sent = why.4 }) in
     settle header h outside doing past k events f.mid new waits2 p.goes
     (stays header h outside doing past k f.mid new waits2 f.comes.1
-    (works_turned header h (f.mid.events ++ past) (with_state k f.mid) f.mid.ids w (on.Ready object) waits2 p.tries.works is now (key, place, same, told) put)) f.chains f.ids
+    (works_turned header h (f.mid.events ++ past) (with_state k f.mid) f.mid.ids w (on.Ready object) waits2 p.tries.works is now (key, behind_place place, same, told) (key, place, same, unmet) put)) f.chains f.ids
 
 -- its page is asked, or an unlock of it is outstanding; it was asked for now or before
 pub page_reaches : (header : Header) (h : ℕ) (outside : Outside) (doing : Command) (past : List Event) (k : Parts) (ids : Ids) (w : Waiting) (may : Bool) (answer : FaultStep) (key : PageKey) (events : List Event) (new : FaultState) (waits2 : WaitTable)
@@ -381,10 +388,10 @@ page_reaches header h outside doing past k ids w may answer key events new waits
     by : (Finds f.mid.parts f.mid.chains steps f.top key row × (keeps_out row.lock (writes_at w.want steps) ≡ true) × (row.unlock_sent ≡ true)) ⊎ StopsAsked f.mid.parts f.mid.chains steps f.top key row
         → Works header h (record (with_state k f.mid) { waits = waits2 }) f.mid.ids woken.Nobody (f.mid.events ++ past)
     by (inl locked) =
-        works_joined header h (f.mid.events ++ past) (with_state k f.mid) f.mid.ids w key waits2 p.tries.works is now (place_of_walk (with_state k f.mid) w f.top key steps p.tries.at locked.0.walks)
+        works_joined header h (f.mid.events ++ past) (with_state k f.mid) f.mid.ids w key waits2 p.tries.works is now (place_of_walk header h (f.mid.events ++ past) (with_state k f.mid) f.mid.ids w f.top key steps p.tries locked.0.walks)
         (inr (record { row = row; found = locked.0.found; here = locked.0.here; locked = kept_anywhere row.lock w.want steps locked.1; sent = locked.2 })) put
     by (inr stops) =
-        works_joined header h (f.mid.events ++ past) (with_state k f.mid) f.mid.ids w key waits2 p.tries.works is now (place_of_walk (with_state k f.mid) w f.top key steps p.tries.at stops.walks)
+        works_joined header h (f.mid.events ++ past) (with_state k f.mid) f.mid.ids w key waits2 p.tries.works is now (place_of_walk header h (f.mid.events ++ past) (with_state k f.mid) f.mid.ids w f.top key steps p.tries stops.walks)
         (inl (record { row = row; found = stops.found; away = stops.away })) put
 
 -- it wants a frame: it joins the queue
@@ -395,7 +402,7 @@ queued_reaches header h outside doing past k ids w may source events new waits2 
     let p = prepared header h outside doing past k ids w may (step.NeedFrame source) events new works is now f in
     settle header h outside doing past k events f.mid new waits2 p.goes
     (stays header h outside doing past k f.mid new waits2 f.comes.2
-    (works_turned header h (f.mid.events ++ past) (with_state k f.mid) f.mid.ids w on.Frame waits2 p.tries.works is now tt put)) f.chains f.ids
+    (works_turned header h (f.mid.events ++ past) (with_state k f.mid) f.mid.ids w on.Frame waits2 p.tries.works is now tt tt put)) f.chains f.ids
 
 -- or stands in it, and stays there
 pub still_reaches : (header : Header) (h : ℕ) (outside : Outside) (doing : Command) (past : List Event) (k : Parts) (ids : Ids) (w : Waiting) (may : Bool) (source : Option PageKey) (events : List Event) (new : FaultState)

@@ -20,6 +20,8 @@ use Rattle.vm_kernel.proofs.Own.{lives_in, rows_here}
 use Rattle.vm_kernel.proofs.Uses.{uses_still, holds_waits}
 use Rattle.vm_kernel.proofs.Mine.{own_task}
 use Rattle.vm_kernel.proofs.Replied.{replied_behind}
+use Rattle.vm_base.specs.declared.ids.PageKey.{PageKey}
+use Rattle.vm_state.specs.Passed.{IsUnmet, Passed, StaysAway}
 
 -- what tests find of an access that isn't refused
 
@@ -190,10 +192,10 @@ begun_grows header h outside k ids past task (Stores address size value) m fine 
     (record { settled = m.settled; cause = acts task.0 past _ fine; own_bytes = tt; frames = suffices header h k.memory.frames past m.frames; inner = tt; said = tt; own = own_task h task.0 past here; creates = tt })
 
 -- a task that didn't wait waits with an access that is to be run
-pub waits_added : (maps : Mapped) (chains : ChainTable) (resident : ResidentTable) (objects : ObjectTable) (rows new : List Waiting) (w : Waiting) (was : ℕ → Option Access) (now : ℕ → Option Access)
-    → HasWaiters maps chains resident objects rows (is_woken woken.Nobody) was → PutsEntry w.task.0 (Some w) rows new → entry rows w.task.0 ≡ None → w.on ≡ on.Again → IsAllowed maps w.task.0 (address_in maps.size w.want) (need_in w.want) → IsSizedWant maps.size w.want
-    → ((t : ℕ) → now t ≡ (if w.task.0 == t then Some (access_in maps.size (copies_to w.destination) w.want) else was t)) → HasWaiters maps chains resident objects new (is_woken woken.Nobody) now
-waits_added maps chains resident objects rows new w was now has puts none again allowed sized is =
+pub waits_added : {stays unmet : PageKey → Type 0} (maps : Mapped) (chains : ChainTable) (resident : ResidentTable) (objects : ObjectTable) (rows new : List Waiting) (w : Waiting) (was : ℕ → Option Access) (now : ℕ → Option Access)
+    → HasWaiters maps chains resident objects rows (is_woken woken.Nobody) was stays unmet → PutsEntry w.task.0 (Some w) rows new → entry rows w.task.0 ≡ None → w.on ≡ on.Again → IsAllowed maps w.task.0 (address_in maps.size w.want) (need_in w.want) → IsSizedWant maps.size w.want
+    → ((t : ℕ) → now t ≡ (if w.task.0 == t then Some (access_in maps.size (copies_to w.destination) w.want) else was t)) → HasWaiters maps chains resident objects new (is_woken woken.Nobody) now stays unmet
+waits_added {stays = stays} {unmet = unmet} maps chains resident objects rows new w was now has puts none again allowed sized is =
     record {
       is = λ t here. is t ∙ (both (w.task.0 == t) t here ∙ ap (waiting_in maps.size) (sym (puts.at t)));
       allowed = λ t v found. puts_cases w.task.0 t (Some w) rows new v puts found
@@ -205,6 +207,9 @@ waits_added maps chains resident objects rows new w was now has puts none again 
       reasons = λ t v found unwoken. puts_cases w.task.0 t (Some w) rows new v puts found
           (λ same row. subst (λ (z : On). Reason maps chains resident objects t v.want z) (sym again ∙ ap (λ (z : Waiting). z.on) (some_is w v row)) tt)
           (λ apart old. has.reasons t v old unwoken);
+      passed = λ t v found unwoken. puts_cases w.task.0 t (Some w) rows new v puts found
+          (λ same row. subst (λ (z : On). Passed stays unmet maps chains t v.want z) (sym again ∙ ap (λ (z : Waiting). z.on) (some_is w v row)) tt)
+          (λ apart old. has.passed t v old unwoken);
       aims = λ t v key found on_page. puts_cases w.task.0 t (Some w) rows new v puts found
           (λ same row. absurd (let bad : on.Again ≡ on.Page key = sym again ∙ (ap (λ (z : Waiting). z.on) (some_is w v row) ∙ on_page) in cc))
           (λ apart old. has.aims t v key old on_page);
@@ -228,9 +233,9 @@ waits_added maps chains resident objects rows new w was now has puts none again 
           waits = asker.waits;
         }
 
-pub waits_begun : (maps : Mapped) (chains : ChainTable) (resident : ResidentTable) (objects : ObjectTable) (rows new : List Waiting) (task : TaskId) (what : Number) (was : ℕ → Option Access) (now : ℕ → Option Access)
-    → HasWaiters maps chains resident objects rows (is_woken woken.Nobody) was → PutsEntry task.0 (Some (begun_row task what)) rows new → entry rows task.0 ≡ None → IsAllowed maps task.0 (address_in maps.size (want_of what)) (need_in (want_of what)) → IsSizedWant maps.size (want_of what)
-    → ((t : ℕ) → now t ≡ (if task.0 == t then Some (access_in maps.size 0 (want_of what)) else was t)) → HasWaiters maps chains resident objects new (is_woken woken.Nobody) now
+pub waits_begun : {stays unmet : PageKey → Type 0} (maps : Mapped) (chains : ChainTable) (resident : ResidentTable) (objects : ObjectTable) (rows new : List Waiting) (task : TaskId) (what : Number) (was : ℕ → Option Access) (now : ℕ → Option Access)
+    → HasWaiters maps chains resident objects rows (is_woken woken.Nobody) was stays unmet → PutsEntry task.0 (Some (begun_row task what)) rows new → entry rows task.0 ≡ None → IsAllowed maps task.0 (address_in maps.size (want_of what)) (need_in (want_of what)) → IsSizedWant maps.size (want_of what)
+    → ((t : ℕ) → now t ≡ (if task.0 == t then Some (access_in maps.size 0 (want_of what)) else was t)) → HasWaiters maps chains resident objects new (is_woken woken.Nobody) now stays unmet
 waits_begun maps chains resident objects rows new task what was now has puts none allowed sized is = waits_added maps chains resident objects rows new (begun_row task what) was now has puts none refl allowed sized is
 
 -- a load or a store that begins fills nothing
@@ -253,6 +258,12 @@ used_begun header maps cs rs past rows new task (Stores address size value) used
 begun_log : (task : TaskId) (what : Number) (before log : List Event) → before ≡ [] → log ≡ begun task what ∷ before → log ≡ begun task what ∷ []
 begun_log task what before log none told = told ∙ ap (λ (z : List Event). begun task what ∷ z) none
 
+-- to pages its beginning is nothing
+waits_after : {maps : Mapped} {chains : ChainTable} {resident : ResidentTable} {objects : ObjectTable} {rows : List Waiting} {who : On → Bool} {at : ℕ → Option Access} (header : Header) (h : ℕ) (task : TaskId) (what : Number) (past : List Event)
+    → HasWaiters maps chains resident objects rows who at (StaysAway header h past) (IsUnmet header h past) → HasWaiters maps chains resident objects rows who at (StaysAway header h (begun task what ∷ past)) (IsUnmet header h (begun task what ∷ past))
+waits_after header h task (Loads address size) past has = has
+waits_after header h task (Stores address size value) past has = has
+
 pub begun_works : (header : Header) (h : ℕ) (doing : Command) (task : TaskId) (what : Number) (past : List Event) (k : Parts) (ids : Ids) (before log : List Event) (reserved waits : WaitTable) → doing ≡ asks task what → Starts header h doing past k ids before
     → log ≡ begun task what ∷ before → reserved.rows ≡ k.waits.rows → PutsEntry task.0 (Some (begun_row task what)) reserved.rows waits.rows
     → waits.rows ≡ reserved.rows ++ begun_row task what ∷ [] → Works header h (record k { waits = waits }) ids woken.Nobody (log ++ past)
@@ -270,7 +281,7 @@ begun_works header h doing task what past k ids before log reserved waits is sta
       used = used_begun header k.maps k.chains k.memory.resident past k.waits.rows waits.rows task what s.rests.used puts_here absent;
       referred = s.rests.referred;
       order = order;
-      waits = waits_begun k.maps k.chains k.memory.resident k.memory.objects k.waits.rows waits.rows task what (λ t. waiting t past) (λ t. waiting t (begun task what ∷ past)) s.rests.waits puts_here (absent_row header h task what past k ids before s) can.allowed can.sized (begun_waiting k.maps.size task what past);
+      waits = waits_after header h task what past (waits_begun k.maps k.chains k.memory.resident k.memory.objects k.waits.rows waits.rows task what (λ t. waiting t past) (λ t. waiting t (begun task what ∷ past)) s.rests.waits puts_here (absent_row header h task what past k ids before s) can.allowed can.sized (begun_waiting k.maps.size task what past));
     })
 
 -- it is the only one that is to be run

@@ -25,6 +25,7 @@ use Rattle.vm_kernel.proofs.Mine.{own_task}
 use Rattle.vm_kernel.proofs.Own.{lives_in, rows_here}
 use Rattle.vm_kernel.proofs.Sharing.{kinds_recounted, shared_changed, shared_inherited, shared_protected}
 use Rattle.vm_kernel.proofs.Replied.{replied_behind}
+use Rattle.vm_state.specs.Passed.{IsUnmet, StaysAway}
 
 -- how many entries lead to a region
 
@@ -89,7 +90,7 @@ pub record Changed (header : Header) (h : ℕ) (past : List Event) (k : Parts) (
   pub pages : HasPages k.memory.frames k.memory.resident k.memory.objects (λ o p. known_local header o p (local header.size h (place_of o p) past))
   pub used : AllUsed header maps chains k.memory.resident k.waits.rows (λ t. next_page t past) (λ t. copy_target t past)
   pub referred : AllReferred chains k.memory.objects k.memory.resident
-  pub waits : HasWaiters maps chains k.memory.resident k.memory.objects k.waits.rows (is_woken woken.Nobody) (λ t. waiting t past)
+  pub waits : HasWaiters maps chains k.memory.resident k.memory.objects k.waits.rows (is_woken woken.Nobody) (λ t. waiting t past) (StaysAway header h past) (IsUnmet header h past)
 
 pub changed_by : (header : Header) (h : ℕ) (past : List Event) (k : Parts) (ids : Ids) (maps : Mapped) (chains : ChainTable) (task : ℕ) (rows : Option (List Entry)) (lost more : List Entry) → Rests header h k ids past → waiting task past ≡ None
     → ChangesOnly k.maps maps task rows → entries_in task k.maps ≡ Some (rows_in task k.maps) → Cuts header.size k.chains (rows_in task k.maps) (unwrap_or rows []) lost more → Raised more k.chains chains → Changed header h past k ids maps chains lost

@@ -299,15 +299,15 @@ waits_page answer reason key (inr (inl is)) at = subst (λ (z : FaultStep). Wait
 waits_page answer reason key (inr (inr is)) at = subst (λ (z : FaultStep). WaitsOn z reason) (sym is) at
 
 -- nobody waits for a page that has no row
-unasked : (maps : Mapped) (chains : ChainTable) (resident : ResidentTable) (objects : ObjectTable) (rows : List Waiting) (waiting_at : ℕ → Option Access) (key : PageKey) (t : ℕ) (v : Waiting) → HasWaiters maps chains resident objects rows (is_woken woken.Nobody) waiting_at
+unasked : {stays unmet : PageKey → Type 0} (maps : Mapped) (chains : ChainTable) (resident : ResidentTable) (objects : ObjectTable) (rows : List Waiting) (waiting_at : ℕ → Option Access) (key : PageKey) (t : ℕ) (v : Waiting) → HasWaiters maps chains resident objects rows (is_woken woken.Nobody) waiting_at stays unmet
     → row_at resident key.object.0 key.page.0 ≡ None → entry rows t ≡ Some v → v.on ≢ on.Page key
 unasked maps chains resident objects rows waiting_at key t v has absent found waits =
     let reason : Reason maps chains resident objects t v.want (on.Page key) = subst (λ (z : On). Reason maps chains resident objects t v.want z) waits (has.reasons t v found refl) in
     awaited_row resident v.want key.object.0 key.page.0 reason.1 (λ row there is. let bad : None ≡ Some row = sym absent ∙ there in absurd (cc))
 
 -- an access waits for a word of a pager
-pub once_turned : (w : Waiting) (may : Bool) (answer : FaultStep) (reason : On) {maps : Mapped} {host : HostId} {last : Want} {s new : FaultState} (objects : ObjectTable) (waits waits2 : WaitTable) (waiting_at : ℕ → Option Access) → WaitsOn answer reason
-    → HasWaiters maps s.chains s.parts.resident objects waits.rows (is_woken woken.Nobody) waiting_at → Runs maps host w.task may answer w.want last s new → (may ≡ false → free new.parts.frames ≡ free s.parts.frames)
+pub once_turned : {stays unmet : PageKey → Type 0} (w : Waiting) (may : Bool) (answer : FaultStep) (reason : On) {maps : Mapped} {host : HostId} {last : Want} {s new : FaultState} (objects : ObjectTable) (waits waits2 : WaitTable) (waiting_at : ℕ → Option Access) → WaitsOn answer reason
+    → HasWaiters maps s.chains s.parts.resident objects waits.rows (is_woken woken.Nobody) waiting_at stays unmet → Runs maps host w.task may answer w.want last s new → (may ≡ false → free new.parts.frames ≡ free s.parts.frames)
     → PutsEntry w.task.0 (Some (with_on (with_want w last) reason)) waits.rows waits2.rows → waits2.queue ≡ queue_without w.task.0 waits.queue → RunsOnce w may false waits waits2 s.events new.events
 once_turned w may (step.Done value) reason objects waits waits2 waiting_at why has runs kept put queue = absurd why
 once_turned w may (step.NeedFrame source) reason objects waits waits2 waiting_at why has runs kept put queue = absurd why

@@ -53,6 +53,7 @@ use Rattle.vm_kernel.proofs.Rewrites.{lives_below}
 use Rattle.vm_kernel.proofs.Strands.{controls_referred}
 use Rattle.vm_kernel.proofs.Replied.{replied_behind}
 use Rattle.std.proofs.lemmas.Bool.{and_parts, not-false, or_parts}
+use Rattle.vm_state.specs.Passed.{IsUnmet, StaysAway}
 
 -- regions that count other entries
 
@@ -342,7 +343,7 @@ pub copy_enters : (header : Header) (h : ℕ) (task : TaskId) (copy source : Reg
 copy_enters header h task copy source offset row past k ids rests may number =
     let m = rests.matches in
     let used : in_use header h copy.0 (copied copy source offset (row.bytes / header.size) ∷ past) ≡ true = copy_use header h copy source offset (row.bytes / header.size) past ∙ used_there header h k ids past source.0 may.region rests may.there (paged_temporary header source.0 may.temporary) in
-    let waits_copied : HasWaits k woken.Nobody (copied copy source offset (row.bytes / header.size) ∷ past) = rests.waits in
+    let waits_copied : HasWaits header h k woken.Nobody (copied copy source offset (row.bytes / header.size) ∷ past) = rests.waits in
     let copies_copied : HasSlow header k (copied copy source offset (row.bytes / header.size) ∷ past) = rests.used.copies in
     record {
       idle = may.idle;
@@ -430,7 +431,7 @@ rests_copied header h outside doing task source offset row past k k2 ids ids2 be
     let rows_are : k2.memory.resident ≡ k.memory.resident = ap (λ (z : HostParts). z.resident) s.memory in
     let waits_at = λ (t : ℕ). waiting t past in
     let none = no_row k.maps.size (entry k.waits.rows task.0) (waiting task.0 past) (rests.waits.is task.0 (ap is_some lives)) may.idle in
-    let now_waits : HasWaiters k2.maps k2.chains k.memory.resident k2.memory.objects k.waits.rows (is_woken woken.Nobody) waits_at =
+    let now_waits : HasWaiters k2.maps k2.chains k.memory.resident k2.memory.objects k.waits.rows (is_woken woken.Nobody) waits_at (StaysAway header h past) (IsUnmet header h past) =
     waits_referred k2.maps k2.chains k.memory.resident k.memory.objects k2.memory.objects k.waits.rows (is_woken woken.Nobody) waits_at top (s.known.references + 1) s.known
     (waits_changed k.maps k2.maps k.chains k2.chains k.memory.resident k.memory.objects k.waits.rows (is_woken woken.Nobody) waits_at task.0 (Some (entered new (rows_in task.0 k.maps))) rests.waits s.maps none
     (places_copy source.0 s.copy.0 offset pages s.region k.chains s.mid k2.chains once) (told_changed k.maps k2.maps k.waits.rows waits_at task.0 (rows_in task.0 k.maps) (Some (entered new (rows_in task.0 k.maps))) rests.waits.is s.maps lives))

@@ -52,6 +52,7 @@ use Rattle.vm_state.specs.References.{is_live_in}
 use Rattle.vm_supply.specs.declared.woken.Woken.TheVariants as woken
 use Rattle.vm_waits.specs.declared.waiting.On.TheVariants as on
 use Rattle.vm_waits.specs.declared.waiting.Want.TheVariants as want
+use Rattle.vm_state.specs.Passed.{IsUnmet, StaysAway}
 
 -- An address behind another in its entry is in the same entry.
 
@@ -484,7 +485,7 @@ module _ (header : Header) (h : ℕ) (outside : Outside) (task : TaskId) (addres
 
   -- the access waits, and is to be run
 
-  waits_now : HasWaiters k.maps k2.chains k.memory.resident k2.memory.objects waits.rows (is_woken woken.Nobody) (λ t. waiting t now)
+  waits_now : HasWaiters k.maps k2.chains k.memory.resident k2.memory.objects waits.rows (is_woken woken.Nobody) (λ t. waiting t now) (StaysAway header h now) (IsUnmet header h now)
   waits_now =
       let sized = rests.matches.tasks.sized in
       let before = waits_known k.maps k2.chains k.memory.resident k.memory.objects k2.memory.objects k.waits.rows (is_woken woken.Nobody) (λ t. waiting t past)

@@ -40,6 +40,7 @@ use Rattle.vm_waits.specs.declared.waiting.Destination.{Destination}
 use Rattle.vm_waits.specs.declared.waiting.Want.{Want}
 use Rattle.vm_waits.specs.declared.waiting.Want.TheVariants as want
 use Rattle.vm_kernel.proofs.Failing.{fills_apart}
+use Rattle.vm_state.specs.Passed.{IsUnmet, StaysAway}
 
 -- what the test of a range tells
 record IsRange (size address bytes : ℕ) : Type 0 where
@@ -129,7 +130,7 @@ copies_left {k = k} {w = w} c rows2 put =
     }
 
 waits_left : {header : Header} {h : ℕ} {k : Parts} {ids : Ids} {past : List Event} {w : Waiting} {address pages : ℕ} {target : ObjectId} {next : ℕ} → (c : Copying header h k ids past w address pages target next) → runs_now w.on ≡ true → (rows2 : List Waiting) → PutsEntry w.task.0 None k.waits.rows rows2
-    → HasWaiters k.maps k.chains k.memory.resident k.memory.objects rows2 (is_woken woken.Nobody) (λ t. waiting t (event.CopyEnded w.task ∷ past))
+    → HasWaiters k.maps k.chains k.memory.resident k.memory.objects rows2 (is_woken woken.Nobody) (λ t. waiting t (event.CopyEnded w.task ∷ past)) (StaysAway header h (event.CopyEnded w.task ∷ past)) (IsUnmet header h (event.CopyEnded w.task ∷ past))
 waits_left {k = k} {past = past} {w = w} c now rows2 put =
     waiters_over k.maps k.chains k.memory.resident k.memory.objects k.waits.rows rows2 (λ t. waiting t past) (λ t. waiting t (event.CopyEnded w.task ∷ past)) w.task.0 w c.waits c.is (asks_none_now k w.on now) put (λ t. refl)
 

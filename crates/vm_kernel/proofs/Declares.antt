@@ -21,6 +21,7 @@ use Rattle.vm_kernel.proofs.Counts.{by_none, none_on, on_entered, one_on}
 use Rattle.vm_kernel.proofs.Regions.{apart_there, none_leads}
 use Rattle.vm_kernel.proofs.Rows.{region_cases}
 use Rattle.vm_kernel.proofs.Tasks.{Keeps, entries_changed, inside_kept}
+use Rattle.vm_base.specs.declared.ids.PageKey.{PageKey}
 
 -- the region of a declared object, with its first entry
 abbrev pub own_region : ObjectId → ℕ → RegionRow
@@ -282,8 +283,8 @@ controls_opened header os os2 last_at live_at ready_at o new has declared known 
     was k apart = put.at k ∙ ap (λ b. if b then Some new else object_at os k) apart
 
 -- nobody waited for its pager
-pub waits_declared : (header : Header) (maps : Mapped) (cs : ChainTable) (rs : ResidentTable) (os os2 : ObjectTable) (rows : List Waiting) (who : On → Bool) (waiting_at : ℕ → Option Access) (o : ℕ) (new : ObjectRow)
-    → HasWaiters maps cs rs os rows who waiting_at → BecomesKnown header o (object_at os o) new → PutsObject o (Some new) os os2 → HasWaiters maps cs rs os2 rows who waiting_at
+pub waits_declared : {stays unmet : PageKey → Type 0} (header : Header) (maps : Mapped) (cs : ChainTable) (rs : ResidentTable) (os os2 : ObjectTable) (rows : List Waiting) (who : On → Bool) (waiting_at : ℕ → Option Access) (o : ℕ) (new : ObjectRow)
+    → HasWaiters maps cs rs os rows who waiting_at stays unmet → BecomesKnown header o (object_at os o) new → PutsObject o (Some new) os os2 → HasWaiters maps cs rs os2 rows who waiting_at stays unmet
 waits_declared header maps cs rs os os2 rows who waiting_at o new has known put =
     waits_told maps cs rs os os2 rows who waiting_at has
     (told_all maps cs os os2 (λ x told. elim (known_cases o new os os2 put x) [

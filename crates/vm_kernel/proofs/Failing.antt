@@ -181,11 +181,12 @@ failed_one header h outside doing past old events key k ids w waits f found pass
     let is : AreTold k.maps waits.rows (λ t. waiting t (e ∷ moment)) = waits_less k.maps w.task.0 rows waits.rows moment has.is puts in
     let cause = fails_cause header h k ids moment key w f.works f.fails found (waits_for key w.on passes) f.before in
     let copies = copies_without w.task.0 rows waits.rows f.works.used.copies puts in
-    let has2 : HasWaits (record k { waits = waits }) (who.Fails key) (e ∷ moment) = record {
+    let has2 : HasWaits header h (record k { waits = waits }) (who.Fails key) (e ∷ moment) = record {
       is = is;
       allowed = λ t v at. has.allowed t v (stood w.task.0 t rows waits.rows v puts at);
       sized = λ t v at. has.sized t v (stood w.task.0 t rows waits.rows v puts at);
       reasons = λ t v at still. has.reasons t v (stood w.task.0 t rows waits.rows v puts at) still;
+      passed = λ t v at still. has.passed t v (stood w.task.0 t rows waits.rows v puts at) still;
       aims = λ t v other at waits_on. has.aims t v other (stood w.task.0 t rows waits.rows v puts at) waits_on;
       askers = λ o p row at away. asker_stays o p (has.askers o p row at away) (f.answered.at o p row at away);
       ready = has.ready;

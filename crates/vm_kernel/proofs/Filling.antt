@@ -41,6 +41,9 @@ use Rattle.vm_waits.specs.Waits.{with_want}
 use Rattle.vm_waits.specs.declared.waiting.Destination.{Destination}
 use Rattle.vm_waits.specs.declared.waiting.On.TheVariants as on
 use Rattle.vm_waits.specs.declared.waiting.Want.TheVariants as want
+use Rattle.vm_kernel.proofs.Bypassed.{waits_filled}
+use Rattle.vm_state.specs.Passed.{IsUnmet, Passed, StaysAway}
+use Rattle.vm_kernel.proofs.Filled.{place_unfilled}
 
 -- a slow copy has made its next page, which its row doesn't say yet
 pub record Copying (header : Header) (h : ℕ) (k : Parts) (ids : Ids) (past : List Event) (w : Waiting) (address pages : ℕ) (target : ObjectId) (next : ℕ) : Type 0 where
@@ -52,7 +55,7 @@ pub record Copying (header : Header) (h : ℕ) (k : Parts) (ids : Ids) (past : L
   pub others : (t : ℕ) (v : Waiting) → (w.task.0 ≡ t → ⊥) → entry k.waits.rows t ≡ Some v → FitsCopy header k.maps k.chains k.memory.resident t v.want v.destination (next_page t past) (copy_target t past)
   pub apart : (t u r : ℕ) → fills_in r (entry k.waits.rows t) ≡ true → fills_in r (entry k.waits.rows u) ≡ true → t ≡ u
   pub referred : AllReferred k.chains k.memory.objects k.memory.resident
-  pub waits : HasWaits k woken.Nobody past
+  pub waits : HasWaits header h k woken.Nobody past
   pub order : HasOrder k past
 
 -- what a slow copy that waits is
@@ -181,7 +184,8 @@ page_made header h past k ids w address pages target next key row frame memory w
           (works.used.copies.each t v there));
       apart = works.used.copies.apart;
       referred = page_referred top frame _ _ _ _ _ k memory c plan (refers_region m.regions to (filled_row target pages) slow.region) (λ row2 same. inl (ap (λ (z : PageRow). z.lock) (sym (some_is _ row2 same)))) works.referred;
-      waits = page_waits top frame _ _ _ _ _ k memory (is_woken woken.Nobody) (λ u. waiting u past) c plan (none_unawaited None refl) (here_unawaited _ _ refl refl refl) works.waits;
+      waits = page_waits top frame _ _ _ _ _ k memory (is_woken woken.Nobody) (λ u. waiting u past) c plan (none_unawaited None refl) (here_unawaited _ _ refl refl refl)
+          (waits_filled header h k ids past w.task key top (λ t wanted place. place_unfilled header.size t wanted top k.maps k.chains [] m.entries place to target pages slow.region slow.alone refl) works.waits);
       order = works.order;
     }
 
@@ -247,6 +251,7 @@ copy_goes_on header h past k ids w address pages target next waits2 c more now p
       waits = waiters_put k.maps k.chains k.memory.resident k.memory.resident k.memory.objects k.waits.rows waits2.rows (λ u. waiting u past) (λ u. waiting u past) w.task.0 (Some w2) c.waits put.entry told
           (λ v it. subst (λ (z : Waiting). Suits k.maps w.task.0 z) (some_is w2 v it) suits)
           (λ v it. subst (λ (z : Waiting). Reason k.maps k.chains k.memory.resident k.memory.objects w.task.0 z.want z.on) (some_is w2 v it) (reason w.on now))
+          (λ v it. subst (λ (z : Waiting). Passed (StaysAway header h past) (IsUnmet header h past) k.maps k.chains w.task.0 z.want z.on) (some_is w2 v it) (passed w.on now))
           (λ what o p awaits. awaits)
           (λ o p row found awaits. asker_kept k.waits.rows waits2.rows w.task.0 w (Some w2) o p put.entry c.is (λ why. none.at o p row found awaits why) (c.waits.askers o p row found awaits))
           c.waits.ready;
@@ -276,6 +281,12 @@ copy_goes_on header h past k ids w address pages target next waits2 c more now p
     reason on.Frame is = tt
     reason (on.Ready object) is = absurd (let bad : false ≡ true = is in cc)
     reason (on.Page key) is = absurd (let bad : false ≡ true = is in cc)
+
+    passed : (why : On) → runs_now why ≡ true → Passed (StaysAway header h past) (IsUnmet header h past) k.maps k.chains w.task.0 w2.want why
+    passed on.Again is = tt
+    passed on.Frame is = tt
+    passed (on.Ready object) is = absurd (let bad : false ≡ true = is in cc)
+    passed (on.Page key) is = absurd (let bad : false ≡ true = is in cc)
 
     shown_now : (u : ℕ) → waiting_in k.maps.size (entry waits2.rows u) ≡ waiting_in k.maps.size (entry k.waits.rows u)
     shown_now u = elim (eqb_tells w.task.0 u) [

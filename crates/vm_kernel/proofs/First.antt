@@ -142,6 +142,7 @@ first_rests header h k count ranged known size host declared hosts start maps re
             allowed = λ t w is. none_of (entry k.waits.rows t) w (ap (λ z. entry z t) waits) is;
             sized = λ t w is. none_of (entry k.waits.rows t) w (ap (λ z. entry z t) waits) is;
             reasons = λ t w is. none_of (entry k.waits.rows t) w (ap (λ z. entry z t) waits) is;
+            passed = λ t w is. none_of (entry k.waits.rows t) w (ap (λ z. entry z t) waits) is;
             aims = λ t w key is. none_of (entry k.waits.rows t) w (ap (λ z. entry z t) waits) is;
             askers = λ o p row is. none_of (row_at k.memory.resident o p) row (rows o p) is;
             ready = λ o p row is. none_of (row_at k.memory.resident o p) row (rows o p) is;

@@ -32,21 +32,28 @@ use Rattle.vm_legal.specs.Living.{tasks as made_tasks}
 use Rattle.vm_abroad.proofs.Home.{object_stays}
 use Rattle.vm_state.proofs.Filling.{KeepsAway, away_put, used_away, used_told}
 use Rattle.vm_state.specs.References.{MayLock, is_live_in}
+use Rattle.vm_state.specs.Passed.{IsUnmet, StaysAway}
+use Rattle.vm_base.specs.declared.ids.PageKey.{PageKey}
+use Rattle.vm_kernel.proofs.Bypassed.{quiet_place, waits_come, waits_retold}
+use Rattle.vm_state.proofs.Bypassing.{waits_taken}
+use Rattle.vm_state.proofs.Passing.{same_of}
+use Rattle.vm_state.specs.Pagers.{is_ready_state}
 
 -- who waits, where rows of pages and objects are others
 
-waits_heard : (maps : Mapped) (cs : ChainTable) (rs rs2 : ResidentTable) (os os2 : ObjectTable) (rows : List Waiting) (who : Woken) (waiting_at : ℕ → Option Access)
-    → HasWaiters maps cs rs os rows (is_woken woken.Nobody) waiting_at
+waits_heard : {stays unmet : PageKey → Type 0} (maps : Mapped) (cs : ChainTable) (rs rs2 : ResidentTable) (os os2 : ObjectTable) (rows : List Waiting) (who : Woken) (waiting_at : ℕ → Option Access)
+    → HasWaiters maps cs rs os rows (is_woken woken.Nobody) waiting_at stays unmet
     → ((what : Want) (o p : ℕ) → is_woken who (on.Page (page_key o p)) ≡ false → IsAwaitedBy rs what o p → IsAwaitedBy rs2 what o p)
     → ((object : ObjectId) → is_woken who (on.Ready object) ≡ false → IsPagerTold os object.0 → IsPagerTold os2 object.0)
     → ((o p : ℕ) (row : PageRow) → row_at rs2 o p ≡ Some row → is_awaited row ≡ true → row_at rs o p ≡ Some row) → ((o : ℕ) → ready_in (object_at os o) ≡ true → ready_in (object_at os2 o) ≡ true)
-    → HasWaiters maps cs rs2 os2 rows (is_woken who) waiting_at
+    → HasWaiters maps cs rs2 os2 rows (is_woken who) waiting_at stays unmet
 waits_heard maps cs rs rs2 os os2 rows who waiting_at has asked told were ready =
     record {
       is = has.is;
       allowed = has.allowed;
       sized = has.sized;
       reasons = λ t w is still. by_reason t w.want w.on still (has.reasons t w is refl);
+      passed = λ t w is still. has.passed t w is refl;
       aims = has.aims;
       askers = λ o p row found awaits. has.askers o p row (were o p row found awaits) awaits;
       ready = λ o p row found away_now. ready o (has.ready o p row (were o p row found (away_awaited row away_now)) away_now);
@@ -57,6 +64,21 @@ waits_heard maps cs rs rs2 os os2 rows who waiting_at has asked told were ready 
     by_reason t what (on.Ready object) still why = (why.0, why.1, why.2, told object still why.3)
     by_reason t what (on.Page key) still why = (why.0, asked what key.object.0 key.page.0 still why.1)
     by_reason t what on.Frame still why = tt
+
+-- a pager that is ready was told before
+told_unready : (os : ObjectTable) (o : ℕ) → IsPagerTold os o → ready_in (object_at os o) ≡ true → ⊥
+told_unready os o told ready = let bad : false ≡ true = sym (ap ready_in told.found ∙ ap is_ready_state told.sent) ∙ ready in cc
+
+-- zeros come to a page of a declared object, whose pager is ready
+waits_blank : {maps : Mapped} {rs : ResidentTable} {rows : List Waiting} {who : On → Bool} {at : ℕ → Option Access} (header : Header) (h : ℕ) (chains : ChainTable) (os : ObjectTable) (past : List Event) (object : ObjectId) (page : PageNo) → object.0 < named header → (IsPagerTold os object.0 → ⊥)
+    → HasWaiters maps chains rs os rows who at (StaysAway header h past) (IsUnmet header h past)
+    → HasWaiters maps chains rs os rows who at (StaysAway header h (event.Zeroed (host_id h) object page ∷ past)) (IsUnmet header h (event.Zeroed (host_id h) object page ∷ past))
+waits_blank header h chains os past object page declared ready has =
+    waits_come header h (event.Zeroed (host_id h) object page) past (key_of object page)
+    (λ key apart. quiet_place (h == h) (object.0 == key.object.0) (page.0 == key.page.0) Zeroes (λ o p. apart (same_of object.0 key.object.0 o) (same_of page.0 key.page.0 p)))
+    (λ t what why reason to stop n place leads only. let least = leads.0.0 in omega (arith, least, declared))
+    (λ t what other told its place unmet. ready (subst (λ (z : ObjectId). IsPagerTold os z.0) (sym its) told))
+    (λ past2 only. only) has
 
 -- the kernel behind the message
 abbrev pub heard : Parts → HostParts → Parts
@@ -74,7 +96,7 @@ pub record Changed (header : Header) (h : ℕ) (k : Parts) (ids : Ids) (who : Wo
   pub laundry : HasLaundry new.frames new.resident k.laundry (returns_out h past)
   pub frames : HasFrames (slice_get (reverse header.frames.items) h) new.frames (frames_held header.size h now) (frames_wired h past)
   pub referred : AllReferred k.chains new.objects new.resident
-  pub waits : HasWaiters k.maps k.chains new.resident new.objects k.waits.rows (is_woken who) (λ t. waiting t past)
+  pub waits : HasWaiters k.maps k.chains new.resident new.objects k.waits.rows (is_woken who) (λ t. waiting t past) (StaysAway header h now) (IsUnmet header h now)
   pub fails : FailsNow header h who now
   pub fresh : EndsNobody who now
   pub asker : HasAsker who k.waits.rows
@@ -90,7 +112,7 @@ pub record Stays (header : Header) (h : ℕ) (k : Parts) (past now : List Event)
   pub next : (task : ℕ) → next_page task now ≡ next_page task past
   pub tasks : HasTasks h header.size k.maps (λ task. host_of task now) (λ task. entries_of header.size task now)
   pub uses : HasUse header k.maps k.waits.rows (λ r. in_use header h r now) (made_tasks now) (λ task r. holds header.size task r now) (next_region header now)
-  pub waits : {who : On → Bool} {rs : ResidentTable} {os : ObjectTable} → HasWaiters k.maps k.chains rs os k.waits.rows who (λ t. waiting t past) → HasWaiters k.maps k.chains rs os k.waits.rows who (λ t. waiting t now)
+  pub waits : (t : ℕ) → waiting t now ≡ waiting t past
   pub controls : {os : ObjectTable} → HasControls (named header) h os (λ o. last_control h o past) (λ o. live_control h o past) (λ o. is_ready h o now) (λ o. object_home o past)
       → HasControls (named header) h os (λ o. last_control h o now) (λ o. live_control h o now) (λ o. is_ready h o now) (λ o. object_home o now)
   pub homes : HasHomes header h k.chains (λ r. home_of r now)
@@ -109,7 +131,7 @@ stays_heard header h k ids past object control m rests none =
       next = λ task. refl;
       tasks = was.tasks;
       uses = was.uses;
-      waits = λ has. has;
+      waits = λ t. refl;
       controls = λ has. controls_after leaves has;
       homes = was.homes;
       order = rests.order;
@@ -170,7 +192,7 @@ works_of header h k ids who new past now rests stays fit same c =
       used = used_away k.memory.resident new.resident (used_told rests.used (λ t w found. (stays.next t, stays.leaves.target t))) c.away;
       referred = c.referred;
       order = stays.order;
-      waits = stays.waits c.waits;
+      waits = waits_retold stays.waits c.waits;
     }
 
 -- the message changes nothing
@@ -266,7 +288,7 @@ changed_none header h k ids past object control m rests nothing =
       laundry = was.laundry;
       frames = subst (λ (z : ℕ). HasFrames (slice_get (reverse header.frames.items) h) k.memory.frames z (frames_wired h past)) (sym nothing.held) was.frames;
       referred = rests.referred;
-      waits = rests.waits;
+      waits = waits_taken header h (host_id h) object control m past rests.waits;
       fails = nothing.error;
       fresh = tt;
       asker = tt;
@@ -372,11 +394,12 @@ changed_ready header h k ids events after past object control cache strategy who
       laundry = was.laundry;
       frames = was.frames;
       referred = referred_controlled object.0 known (record known { state = state.Ready }) k.chains k.memory.objects new.objects k.memory.resident readies.found readies.ready refl (λ lives. rests.referred.live object.0 known readies.found live) (λ is. is) rests.referred;
-      waits = waits_heard k.maps k.chains k.memory.resident k.memory.resident k.memory.objects new.objects k.waits.rows (woken.ReadyOf object) (λ t. waiting t past) rests.waits
+      waits = waits_taken header h (host_id h) object control (message.Ready cache strategy) past
+          (waits_heard k.maps k.chains k.memory.resident k.memory.resident k.memory.objects new.objects k.waits.rows (woken.ReadyOf object) (λ t. waiting t past) rests.waits
           (λ what o p still awaits. awaits)
           (λ other still told. told_ready k.memory.objects new.objects object.0 known other readies.ready still told)
           (λ o p row found away_now. found)
-          (λ o is. ready_ready k.memory.objects new.objects object.0 known o readies.ready is);
+          (λ o is. ready_ready k.memory.objects new.objects object.0 known o readies.ready is));
       fails = refl;
       fresh = tt;
       asker = tt;
@@ -426,13 +449,13 @@ here_elsewhere rs rs2 o p o2 p2 x r put none is awaits = elim (row_cases o p x r
 ]
 
 -- what holds of who waits, where the row of a page that is asked is another
-record Waits (k : Parts) (who : Woken) (new : HostParts) (past : List Event) : Type 0 where
-  waits : HasWaiters k.maps k.chains new.resident new.objects k.waits.rows (is_woken who) (λ t. waiting t past)
+record Waits (header : Header) (h : ℕ) (k : Parts) (who : Woken) (new : HostParts) (past : List Event) : Type 0 where
+  waits : HasWaiters k.maps k.chains new.resident new.objects k.waits.rows (is_woken who) (λ t. waiting t past) (StaysAway header h past) (IsUnmet header h past)
   answered : IsAnswered who new.resident
 
 waits_page : (header : Header) (h : ℕ) (k : Parts) (ids : Ids) (past : List Event) (o p : ℕ) (x : Option PageRow) (who : Woken) (new : HostParts) → Rests header h k ids past
     → ((o2 p2 : ℕ) → is_woken who (on.Page (page_key o2 p2)) ≡ (o2 == o && p2 == p)) → PutsRow o p x k.memory.resident new.resident → IsUnawaited x → SameObjects k.memory.objects new.objects
-    → Waits k who new past
+    → Waits header h k who new past
 waits_page header h k ids past o p x who new rests test put here same =
     record {
       waits = waits_heard k.maps k.chains k.memory.resident new.resident k.memory.objects new.objects k.waits.rows who (λ t. waiting t past) rests.waits
@@ -480,7 +503,7 @@ changed_supplied header h k ids events after past object control page lock preci
       laundry = laundry_changed key row.frame _ _ _ _ _ k.memory new k.laundry (returns_out h past) was.laundry comes;
       frames = frames_changed (slice_get (reverse header.frames.items) h) key row.frame _ _ _ _ _ k.memory new (frames_held header.size h past) (frames_held header.size h past) (frames_wired h past) was.frames comes (λ held. let kept = comes.claims in omega arith);
       referred = referred_of k.chains k.memory.objects new.objects new.resident (referred_row object.0 page.0 (Some now) k.chains k.memory.objects k.memory.resident new.resident comes.row (λ r is. (rests.referred.pages object.0 page.0 row asked.0, inr (live_is control (object_at k.memory.objects object.0) (subst (λ (z : Option ℕ). is_control control z ≡ true) (was.controls.live object.0) lives_now)))) rests.referred) same;
-      waits = waits.waits;
+      waits = waits_taken header h (host_id h) object control (message.Supply page lock precious bytes) past waits.waits;
       fails = refl;
       fresh = tt;
       asker = tt;
@@ -530,7 +553,7 @@ changed_ended header h k ids past object control page m effect who row new rests
       frames = subst (λ (z : ℕ). HasFrames (slice_get (reverse header.frames.items) h) new.frames z (frames_wired h past)) (sym is.held)
           (frames_changed (slice_get (reverse header.frames.items) h) key row.frame _ _ _ _ _ k.memory new (frames_held header.size h past) (frames_held header.size h past - 1) (frames_wired h past) was.frames ends (λ held. let less = ends.claims in omega arith));
       referred = referred_of k.chains k.memory.objects new.objects new.resident (referred_gone object.0 page.0 k.chains k.memory.objects k.memory.resident new.resident ends.row rests.referred) same;
-      waits = waits.waits;
+      waits = waits_taken header h (host_id h) object control m past waits.waits;
       fails = is.fails;
       fresh = is.fresh;
       asker = is.asker;
@@ -651,7 +674,9 @@ changed_zeroed header h k ids host after past object control page who new rests 
           (frames_changed (slice_get (reverse header.frames.items) h) key row.frame _ _ _ _ _ k.memory new (frames_held header.size h past) (frames_held header.size h past - 1 + 1) (frames_wired h past) was.frames comes
           (λ held. let kept = comes.claims in omega (arith, held, kept, some)));
       referred = referred_of k.chains k.memory.objects new.objects new.resident (referred_row object.0 page.0 (Some now) k.chains k.memory.objects k.memory.resident new.resident comes.row (λ r is. (rests.referred.pages object.0 page.0 row asked.0, inl (ap (λ (z : PageRow). z.lock) (sym (some_is now r is))))) rests.referred) same;
-      waits = waits.waits;
+      waits = waits_blank header h k.chains new.objects (hears h object control (message.Unavailable page) ∷ past) object page declared
+          (λ told. told_unready new.objects object.0 told (ap ready_in (same.at object.0) ∙ rests.waits.ready object.0 page.0 row asked.0 asked.1))
+          (waits_taken header h (host_id h) object control (message.Unavailable page) past waits.waits);
       fails = refl;
       fresh = tt;
       asker = tt;

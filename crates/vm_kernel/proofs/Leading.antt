@@ -134,7 +134,7 @@ pub record Leads (header : Header) (h : ℕ) (past : List Event) (k : Parts) (ta
   pub marks : (region_of header at.entry.region.0 past).mark ≡ at.row.marked
   pub referred : IsReferred k.memory.objects top.object.0
 
-pub leads_of : (header : Header) (h : ℕ) (k : Parts) (ids : Ids) (past : List Event) (who : Woken) (task : ℕ) (w : Waiting) (top : PageKey) → Matches header h k ids [] past → HasWaits k who past → HasSlow header k past → entry k.waits.rows task ≡ Some w
+pub leads_of : (header : Header) (h : ℕ) (k : Parts) (ids : Ids) (past : List Event) (who : Woken) (task : ℕ) (w : Waiting) (top : PageKey) → Matches header h k ids [] past → HasWaits header h k who past → HasSlow header k past → entry k.waits.rows task ≡ Some w
     → (at : IsAt k.maps k.chains task w.want top) → Leads header h past k task w.want top at
 leads_of header h k ids past who task w top m waits copies is at =
     let r = at.entry.region.0 in

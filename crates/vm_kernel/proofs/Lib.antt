@@ -9,6 +9,7 @@ pub mod Beginning
 pub mod Brings
 pub mod Boundaries
 pub mod Built
+pub mod Bypassed
 pub mod Changing
 pub mod Claiming
 pub mod Copied
@@ -75,6 +76,7 @@ pub mod Shadows
 pub mod Shares
 pub mod Sharing
 pub mod Shown
+pub mod Sleeping
 pub mod Sources
 pub mod Sourcing
 pub mod Sparing

@@ -27,6 +27,9 @@ use Rattle.vm_queues.specs.Queues.{Queues}
 use Rattle.vm_supply.specs.declared.woken.Woken.TheVariants as woken
 use Rattle.vm_state.specs.Places.{known_local}
 use Rattle.vm_tables.specs.Cases.{gives_back as goes_back}
+use Rattle.vm_state.proofs.Bypassing.{waits_quiet}
+use Rattle.vm_state.proofs.Passing.{quiet_if}
+use Rattle.vm_model.specs.Local.{Elsewhere}
 
 -- A lock request that a host took for the live control of an object, of which it knows this. The kernel is that in front of it, but for those that are to be run
 -- again, and the past ends with its taking.
@@ -646,7 +649,7 @@ completed_rests r k past rests =
       washed = m.laundry;
       frames = m.frames;
       referred = rests.referred;
-      waits = rests.waits;
+      waits = waits_quiet r.header r.host (completed r.host r.object r.known.control r.page r.count) past (λ place. quiet_if (r.host == r.host && r.object.0 == place.object.0) Elsewhere Elsewhere tt tt) rests.waits;
     })
 
 completed_cause : (r : Request) (s : LockState) → IsTaken r → AllObeyed r s → r.reply ≡ true → CausedInTurn r.header r.outside r.command (completed r.host r.object r.known.control r.page r.count) (s.events ++ r.past)

@@ -32,6 +32,10 @@ use Rattle.vm_supply.specs.declared.woken.Woken.TheVariants as woken
 use Rattle.vm_state.specs.References.{MayLock}
 use Rattle.vm_kernel.proofs.Accessing.{same_lock}
 use Rattle.vm_kernel.specs.Matches.{IsReplied}
+use Rattle.vm_state.specs.Passed.{IsUnmet, StaysAway}
+use Rattle.vm_state.proofs.Bypassing.{waits_quiet, waits_returned}
+use Rattle.vm_state.proofs.Passing.{quiet_if}
+use Rattle.vm_kernel.proofs.Bypassed.{waits_retold}
 
 -- The kernel while it does a lock request: it matches its history, but that the reply may be owed.
 pub record Mid (header : Header) (h : ℕ) (k : Parts) (ids : Ids) (past : List Event) : Type 0 where
@@ -57,7 +61,7 @@ pub record Mid (header : Header) (h : ℕ) (k : Parts) (ids : Ids) (past : List 
   pub frames : HasFrames (slice_get (reverse header.frames.items) h) k.memory.frames (frames_held header.size h past) (frames_wired h past)
   pub used : UsesAll header k past
   pub referred : AllReferred k.chains k.memory.objects k.memory.resident
-  pub waits : HasWaits k woken.Nobody past
+  pub waits : HasWaits header h k woken.Nobody past
   pub order : HasOrder k past
 
 -- with the reply it is as it was
@@ -103,7 +107,7 @@ pub record Quiet (header : Header) (h : ℕ) (k : Parts) (past now : List Event)
   pub homes : HasHomes header h k.chains (λ r. home_of r now)
   pub controls : {os : ObjectTable} → HasControls (named header) h os (λ o. last_control h o past) (λ o. live_control h o past) (λ o. is_ready h o past) (λ o. object_home o past)
       → HasControls (named header) h os (λ o. last_control h o now) (λ o. live_control h o now) (λ o. is_ready h o now) (λ o. object_home o now)
-  pub waits : {rs : ResidentTable} {os : ObjectTable} → HasWaiters k.maps k.chains rs os k.waits.rows (is_woken woken.Nobody) (λ t. waiting t past) → HasWaiters k.maps k.chains rs os k.waits.rows (is_woken woken.Nobody) (λ t. waiting t now)
+  pub waits : (t : ℕ) → waiting t now ≡ waiting t past
   pub order : HasOrder k now
   pub settled : IsSettled now
 
@@ -117,7 +121,7 @@ quiet_none rests =
       uses = m.uses;
       homes = m.homes;
       controls = λ has. has;
-      waits = λ has. has;
+      waits = λ t. refl;
       order = rests.order;
       settled = m.settled;
     }
@@ -130,7 +134,7 @@ quiet_dropped : {header : Header} {h : ℕ} {k : Parts} {ids : Ids} {past : List
 quiet_dropped {header = header} {h = h} {past = past} key rests =
     let m = rests in
     let leaves : Leaves header past (drops h key ∷ past) = record { regions_made = refl; objects_made = refl; region = λ r. refl; backing = λ o. refl; home = λ r. refl; made_for = λ o. refl; used = λ g r. refl; target = λ task. refl } in
-    record { leaves = leaves; next = λ task. refl; tasks = m.tasks; uses = m.uses; homes = m.homes; controls = λ has. controls_after leaves has; waits = λ has. has; order = rests.order; settled = record { none_owed = refl; shut = λ region. refl } }
+    record { leaves = leaves; next = λ task. refl; tasks = m.tasks; uses = m.uses; homes = m.homes; controls = λ has. controls_after leaves has; waits = λ t. refl; order = rests.order; settled = record { none_owed = refl; shut = λ region. refl } }
 
 -- or is returned, and a copy stays or not
 abbrev pub gives : ℕ → PageKey → ℕ → Bool → Bool → List ℕ → Event
@@ -140,7 +144,7 @@ quiet_given : {header : Header} {h : ℕ} {k : Parts} {ids : Ids} {past : List E
 quiet_given {header = header} {h = h} {past = past} key control dirty keep bytes rests =
     let m = rests in
     let leaves : Leaves header past (gives h key control dirty keep bytes ∷ past) = record { regions_made = refl; objects_made = refl; region = λ r. refl; backing = λ o. refl; home = λ r. refl; made_for = λ o. refl; used = λ g r. refl; target = λ task. refl } in
-    record { leaves = leaves; next = λ task. refl; tasks = m.tasks; uses = m.uses; homes = m.homes; controls = λ has. controls_after leaves has; waits = λ has. has; order = rests.order; settled = record { none_owed = refl; shut = λ region. refl } }
+    record { leaves = leaves; next = λ task. refl; tasks = m.tasks; uses = m.uses; homes = m.homes; controls = λ has. controls_after leaves has; waits = λ t. refl; order = rests.order; settled = record { none_owed = refl; shut = λ region. refl } }
 
 -- the pager is told that all is done
 abbrev pub completed : ℕ → ObjectId → ℕ → PageNo → ℕ → Event
@@ -150,7 +154,7 @@ pub quiet_completed : {header : Header} {h : ℕ} {k : Parts} {ids : Ids} {past 
 quiet_completed {header = header} {h = h} {past = past} object control page count rests =
     let m = rests in
     let leaves : Leaves header past (completed h object control page count ∷ past) = record { regions_made = refl; objects_made = refl; region = λ r. refl; backing = λ o. refl; home = λ r. refl; made_for = λ o. refl; used = λ g r. refl; target = λ task. refl } in
-    record { leaves = leaves; next = λ task. refl; tasks = m.tasks; uses = m.uses; homes = m.homes; controls = λ has. controls_after leaves has; waits = λ has. has; order = rests.order; settled = record { none_owed = refl; shut = λ region. refl } }
+    record { leaves = leaves; next = λ task. refl; tasks = m.tasks; uses = m.uses; homes = m.homes; controls = λ has. controls_after leaves has; waits = λ t. refl; order = rests.order; settled = record { none_owed = refl; shut = λ region. refl } }
 
 -- what is of pages, where each object is known as before
 pub record Moved (header : Header) (h : ℕ) (k : Parts) (memory : HostParts) (laundry : LaundryList) (past now : List Event) : Type 0 where
@@ -162,7 +166,7 @@ pub record Moved (header : Header) (h : ℕ) (k : Parts) (memory : HostParts) (l
   pub washed : HasLaundry memory.frames memory.resident laundry (returns_out h now)
   pub frames : HasFrames (slice_get (reverse header.frames.items) h) memory.frames (frames_held header.size h now) (frames_wired h now)
   pub referred : AllReferred k.chains memory.objects memory.resident
-  pub waits : HasWaiters k.maps k.chains memory.resident memory.objects k.waits.rows (is_woken woken.Nobody) (λ t. waiting t past)
+  pub waits : HasWaiters k.maps k.chains memory.resident memory.objects k.waits.rows (is_woken woken.Nobody) (λ t. waiting t past) (StaysAway header h now) (IsUnmet header h now)
 
 pub rests_moved : (header : Header) (h : ℕ) (k : Parts) (ids : Ids) (memory : HostParts) (laundry : LaundryList) (past now : List Event) → Mid header h k ids past → Quiet header h k past now → Moved header h k memory laundry past now
     → Mid header h (record k { memory = memory; laundry = laundry }) ids now
@@ -191,7 +195,7 @@ rests_moved header h k ids memory laundry past now rests quiet moved =
       frames = moved.frames;
       used = used_away k.memory.resident memory.resident (used_told rests.used (λ t w found. (quiet.next t, quiet.leaves.target t))) moved.away;
       referred = moved.referred;
-      waits = quiet.waits moved.waits;
+      waits = waits_retold quiet.waits moved.waits;
       order = quiet.order;
     }
 
@@ -233,8 +237,9 @@ referred_same cs os os2 rs same all = record {
 -- so only what the page shows, the returns and the frames are left to be shown
 moved_of : (header : Header) (h : ℕ) (k : Parts) (ids : Ids) (memory : HostParts) (laundry : LaundryList) (key : PageKey) (row : PageRow) (x : Option PageRow) (held : Bool) (lists : Queues) (past now : List Event) → Mid header h k ids past → Rerows header k key row x held lists memory
     → HasPages memory.frames memory.resident memory.objects (λ o p. known_local header o p (local header.size h (place_of o p) now)) → HasLaundry memory.frames memory.resident laundry (returns_out h now)
-    → HasFrames (slice_get (reverse header.frames.items) h) memory.frames (frames_held header.size h now) (frames_wired h now) → Moved header h k memory laundry past now
-moved_of header h k ids memory laundry key row x held lists past now rests r pages washed frames =
+    → HasFrames (slice_get (reverse header.frames.items) h) memory.frames (frames_held header.size h now) (frames_wired h now)
+    → (HasWaits header h k woken.Nobody past → HasWaiters k.maps k.chains k.memory.resident k.memory.objects k.waits.rows (is_woken woken.Nobody) (λ t. waiting t past) (StaysAway header h now) (IsUnmet header h now)) → Moved header h k memory laundry past now
+moved_of header h k ids memory laundry key row x held lists past now rests r pages washed frames beyond =
     let m = rests in
     let c = r.changes in
     let o = key.object.0 in
@@ -253,7 +258,7 @@ moved_of header h k ids memory laundry key row x held lists past now rests r pag
       frames = frames;
       referred = referred_same k.chains k.memory.objects memory.objects memory.resident r.objects (referred_row o p x k.chains k.memory.objects k.memory.resident memory.resident c.row (λ z is. (rests.referred.pages o p row c.found, r.locks z is)) rests.referred);
       waits = waits_told k.maps k.chains memory.resident k.memory.objects memory.objects k.waits.rows (is_woken woken.Nobody) _
-          (waiters_page k.maps k.chains k.memory.resident memory.resident k.memory.objects k.waits.rows (is_woken woken.Nobody) _ o p x rests.waits c.row (inl (here_unawaited (row_at k.memory.resident o p) row c.found r.here r.unsent)) r.unasked)
+          (waiters_page k.maps k.chains k.memory.resident memory.resident k.memory.objects k.waits.rows (is_woken woken.Nobody) _ o p x (beyond rests.waits) c.row (inl (here_unawaited (row_at k.memory.resident o p) row c.found r.here r.unsent)) r.unasked)
           (told_all k.maps k.chains k.memory.objects memory.objects (λ o2 told. record { row = told.row; found = r.objects.at o2 ∙ told.found; sent = told.sent })) (λ o2 p2 r2 there is. ap ready_in (r.objects.at o2) ∙ is);
     }
 
@@ -292,7 +297,8 @@ pub comes_dropped : (header : Header) (h : ℕ) (outside : Outside) (doing : Com
     → gives_back returns row.dirty row.precious ≡ false → row.here ≡ true → row.unlock_sent ≡ false → Discards key row k.memory memory → memory.objects ≡ k.memory.objects → memory.buffers ≡ k.memory.buffers → ComesTo header h outside doing ids (drops h key) k (record k { memory = memory }) past
 comes_dropped header h outside doing ids k memory key row past returns rests locked spared here unsent c objects buffers =
     record {
-      rests = rests_moved header h k ids memory k.laundry past (drops h key ∷ past) rests (quiet_dropped key rests) (moved_of header h k ids memory k.laundry key row None false _ past (drops h key ∷ past) rests r pages2 washed frames2);
+      rests = rests_moved header h k ids memory k.laundry past (drops h key ∷ past) rests (quiet_dropped key rests) (moved_of header h k ids memory k.laundry key row None false _ past (drops h key ∷ past) rests r pages2 washed frames2
+          (waits_quiet header h (drops h key) past (λ place. quiet_if (h == h && (key.object.0 == place.object.0 && key.page.0 == place.page.0)) Drops Elsewhere tt tt)));
       follows = record { consequence = tt; cause = cause; own_bytes = tt; frames = suffices header h memory.frames (drops h key ∷ past) frames2; inner = tt; said = tt; own = own_named h; creates = tt };
       does = AsLocked (departs k key row false _ memory k.laundry locked here c);
     }
@@ -431,7 +437,8 @@ pub comes_returned : (header : Header) (h : ℕ) (outside : Outside) (doing : Co
     → ComesTo header h outside doing ids (gives h key known.control row.dirty false (page_in k.memory.frames row.frame.0)) k (record k { memory = memory; laundry = laundry }) past
 comes_returned header h outside doing ids k memory laundry key row known past returns rests locked wanted here object live unsent c objects absent buffers held room =
     record {
-      rests = rests_moved header h k ids memory laundry past (e ∷ past) rests (quiet_given key known.control row.dirty false (page_in k.memory.frames row.frame.0) rests) (moved_of header h k ids memory laundry key row None true _ past (e ∷ past) rests r pages2 washed frames2);
+      rests = rests_moved header h k ids memory laundry past (e ∷ past) rests (quiet_given key known.control row.dirty false (page_in k.memory.frames row.frame.0) rests) (moved_of header h k ids memory laundry key row None true _ past (e ∷ past) rests r pages2 washed frames2
+          (waits_returned header h (host_id h) key.object known.control key.page row.dirty false (page_in k.memory.frames row.frame.0) past (seen_of header h k ids key row past rests r.changes.found here).here));
       follows = given_follows header h outside doing ids k key row known false true past returns rests locked refl wanted c.found here c.inside object live (suffices header h memory.frames (e ∷ past) frames2);
       does = inr (inr (departs k key row true _ memory laundry locked here c));
     }
@@ -511,7 +518,8 @@ pub comes_saved : (header : Header) (h : ℕ) (outside : Outside) (doing : Comma
 comes_saved header h outside doing ids k memory key row known past returns rests locked wanted here object live unsent c objects absent buffers =
     record {
       rests = rests_moved header h k ids memory k.laundry past (e ∷ past) rests (quiet_given key known.control row.dirty true (page_in k.memory.frames row.frame.0) rests)
-          (moved_of header h k ids memory k.laundry key row _ true _ past (e ∷ past) rests (rerows_relocked header h k ids key row true memory past rests here unsent c objects kinds buffers) pages2 washed frames2);
+          (moved_of header h k ids memory k.laundry key row _ true _ past (e ∷ past) rests (rerows_relocked header h k ids key row true memory past rests here unsent c objects kinds buffers) pages2 washed frames2
+          (waits_returned header h (host_id h) key.object known.control key.page row.dirty true (page_in k.memory.frames row.frame.0) past (seen_of header h k ids key row past rests c.found here).here));
       follows = given_follows header h outside doing ids k key row known true false past returns rests locked refl wanted c.found here c.inside object live (suffices header h memory.frames (e ∷ past) frames2);
       does = lists_stay k key row true memory k.laundry c;
     }
@@ -561,7 +569,8 @@ comes_still header h ids k memory key row past rests here unsent c objects buffe
           ∙ ap (λ z. local_of_row memory.frames (Some (relocked None false row)) (absent_at z o p)) (sym objects))))
           (λ o2 p2 apart. (refl, ap (λ z. absent_at z o2 p2) objects)))
           (laundry_changed key row.frame _ _ _ _ _ k.memory memory k.laundry (returns_out h past) m.laundry c)
-          (frames_changed (slice_get (reverse header.frames.items) h) key row.frame _ _ _ _ _ k.memory memory (frames_held header.size h past) (frames_held header.size h past) (frames_wired h past) m.frames c (λ held. let same = c.claims in omega arith)));
+          (frames_changed (slice_get (reverse header.frames.items) h) key row.frame _ _ _ _ _ k.memory memory (frames_held header.size h past) (frames_held header.size h past) (frames_wired h past) m.frames c (λ held. let same = c.claims in omega arith))
+          (λ has. has));
       same = lists_stay k key row false memory k.laundry c;
     }
 

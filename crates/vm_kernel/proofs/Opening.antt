@@ -55,6 +55,8 @@ use Rattle.vm_kernel.proofs.Sharing.{shared_entered}
 use Rattle.vm_kernel.proofs.Tasks.{tasks_entered}
 use Rattle.vm_kernel.proofs.Uses.{holds_rows, uses_entered}
 use Rattle.vm_kernel.proofs.Replied.{replied_behind}
+use Rattle.vm_state.proofs.Bypassing.{waits_quiet}
+use Rattle.vm_state.proofs.Passing.{quiet_if}
 
 -- what a mapping that isn't refused has
 pub record MayMap (header : Header) (h : ℕ) (k : Parts) (task address bytes : ℕ) (object : ObjectId) (offset : ℕ) (past : List Event) : Type 0 where
@@ -323,10 +325,11 @@ rests_opened header h outside doing task address bytes object offset pages new p
       };
       referred = referred_put object.0 new object.0 (Some (own_region object pages)) k.chains chains k.memory.objects objects k.memory.resident o.region o.put (let single = o.known.references in omega (arith, single)) (λ is. o.known.live) rests.referred;
       waits =
-          waits_declared header maps chains k.memory.resident k.memory.objects objects k.waits.rows (is_woken woken.Nobody) waits_at object.0 new
+          waits_quiet header h begins (enters ∷ past) (λ place. quiet_if (h == h && object.0 == place.object.0) Begins Elsewhere tt tt)
+          (waits_declared header maps chains k.memory.resident k.memory.objects objects k.waits.rows (is_woken woken.Nobody) waits_at object.0 new
           (waits_changed k.maps maps k.chains chains k.memory.resident k.memory.objects k.waits.rows (is_woken woken.Nobody) waits_at task.0 (Some (entered row (rows_in task.0 k.maps))) rests.waits o.changes none (keeps_made k.chains chains object.0 (own_region object pages) o.free o.region)
           (told_changed k.maps maps k.waits.rows waits_at task.0 (rows_in task.0 k.maps) (Some (entered row (rows_in task.0 k.maps))) rests.waits.is o.changes lives))
-          o.known o.put;
+          o.known o.put);
       order = rests.order;
       idle = rests.idle;
     }

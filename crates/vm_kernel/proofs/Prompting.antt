@@ -33,8 +33,8 @@ pub record HasRow (size : ℕ) (rows : List Waiting) (task : ℕ) (access : Acce
   pub found : entry rows task ≡ Some row
   pub is : access ≡ access_in size (copies_to row.destination) row.want
 
-pub has_row : (k : Parts) (past : List Event) (task : ℕ) (access : Access) → HasWaits k woken.Nobody past → is_some (entries_in task k.maps) ≡ true → waiting task past ≡ Some access → HasRow k.maps.size k.waits.rows task access
-has_row k past task access has here waits = go (entry k.waits.rows task) refl
+pub has_row : (header : Header) (h : ℕ) (k : Parts) (past : List Event) (task : ℕ) (access : Access) → HasWaits header h k woken.Nobody past → is_some (entries_in task k.maps) ≡ true → waiting task past ≡ Some access → HasRow k.maps.size k.waits.rows task access
+has_row header h k past task access has here waits = go (entry k.waits.rows task) refl
   where
     go : (x : Option Waiting) → entry k.waits.rows task ≡ x → HasRow k.maps.size k.waits.rows task access
     go None none = absurd (let bad : None ≡ Some access = sym (has.is task here ∙ ap (waiting_in k.maps.size) none) ∙ waits in cc)
@@ -49,7 +49,7 @@ at_home header h k ids past task access m waits home = sym (m.tasks.hosts task) 
 -- whoever waits on the host has a page left, and an entry that leads to it
 each_leads : (header : Header) (h : ℕ) (k : Parts) (ids : Ids) (past : List Event) → Rests header h k ids past → EachLeads header h past
 each_leads header h k ids past rests task access waits lives =
-    let row = has_row k past task access rests.waits (sym (rests.matches.tasks.hosts task) ∙ lives) waits in
+    let row = has_row header h k past task access rests.waits (sym (rests.matches.tasks.hosts task) ∙ lives) waits in
     subst (λ (z : Access). Waits header task z past) (sym row.is) (here_waits header h k ids past task row.row rests.matches rests.waits rests.used.copies row.found)
 
 -- what an access waits for that isn't to be run again
@@ -84,7 +84,7 @@ queue_full header h k past task w (inr full) found queues = full
 
 none_in_vain : (header : Header) (h : ℕ) (k : Parts) (ids : Ids) (past : List Event) → Rests header h k ids past → QueueIsServed header h k past → NoneInVain header h past
 none_in_vain header h k ids past rests served task access waits home =
-    let row = has_row k past task access rests.waits (at_home header h k ids past task access rests.matches waits home) waits.waits in
+    let row = has_row header h k past task access rests.waits (at_home header h k ids past task access rests.matches waits home) waits.waits in
     let w = row.row in
     subst (λ (z : Access). (it : Waits header task z past) → it.at.host ≡ h → WaitsForPager header h task z past ⊎ HostIsFull header h past) (sym row.is)
     (waits_for header h k ids past task (copies_to w.destination) w.want w.on (copies_next rests.used.copies task w row.found) rests.matches (rests.waits.reasons task w row.found refl) (none_again k.waits.rows task w rests.idle row.found) (queue_full header h k past task w served row.found))

@@ -278,7 +278,7 @@ range_enters header h task address bytes past k ids lined rests may =
     let made : Event = event.RegionMade (record { 0 = n }) object pages in
     let sized : (region_of header n (made ∷ past)).pages ≡ pages = ap (λ z. z.pages) (made_test n n ids.next_object pages (region_of header n past) refl) in
     let own = made_use header h n n pages object past lined refl in
-    let waits_made : HasWaits k woken.Nobody (made ∷ past) = rests.waits in
+    let waits_made : HasWaits header h k woken.Nobody (made ∷ past) = rests.waits in
     let copies_made : HasSlow header k (made ∷ past) = copies_told rests.used.copies (λ t w found. (refl, target_lined past t lined (record { 0 = n }) object pages)) in
     record {
       idle = rests.waits.is task.0 (ap is_some may.lives) ∙ ap (waiting_in k.maps.size) may.idle;

@@ -38,6 +38,8 @@ use Rattle.vm_kernel.proofs.Sparing.{waits_unlocked}
 use Rattle.vm_kernel.specs.Matches.{IsReplied}
 use Rattle.vm_legal.specs.Accesses.{WaitsUnlocked}
 use Rattle.vm_legal.specs.InTurn.{ReturnsInTurn}
+use Rattle.vm_state.proofs.Bypassing.{waits_quiet, waits_returned}
+use Rattle.vm_state.proofs.Passing.{quiet_if}
 
 -- all but what a reclaim changes is as it was, and what it changes fits
 pub record Beside (k k2 : Parts) : Type 0 where
@@ -195,7 +197,8 @@ took_freed header h outside doing past ids skip k k2 before after rests beside l
                 };
             used = rw (beside.chains, beside.maps, beside.waits) (used_away k.memory.resident k2.memory.resident rests.used (away_put o p None row k.memory.resident k2.memory.resident page.found page.row));
             referred = rw (beside.chains, freed.objects) (referred_gone o p k.chains k.memory.objects k.memory.resident k2.memory.resident page.row rests.referred);
-            waits = rw (beside.chains, beside.maps, beside.waits, freed.objects) (waiters_lost k.maps k.chains k.memory.resident k2.memory.resident k.memory.objects k.memory.objects k.waits.rows (is_woken woken.Nobody) _ o p row rests.waits page.found here none page.row (λ object told. told) (λ object is. is));
+            waits = rw (beside.chains, beside.maps, beside.waits, freed.objects) (waits_quiet header h e moment (λ place. quiet_if (h == h && (key.object.0 == place.object.0 && key.page.0 == place.page.0)) Leaves Elsewhere tt tt)
+                (waiters_lost k.maps k.chains k.memory.resident k2.memory.resident k.memory.objects k.memory.objects k.waits.rows (is_woken woken.Nobody) _ o p row rests.waits page.found here none page.row (λ object told. told) (λ object is. is)));
             order = rw beside.waits rests.order;
             idle = rw beside.waits rests.idle;
           };
@@ -235,7 +238,7 @@ record Before (header : Header) (h : ℕ) (k : Parts) (ids : Ids) (past : List E
   laundry : HasLaundry k.memory.frames k.memory.resident k.laundry (returns_out h past)
   frames : HasFrames (slice_get (reverse header.frames.items) h) k.memory.frames (frames_held header.size h past) (frames_wired h past)
   replied : IsReplied past
-  waits : HasWaits k woken.Nobody past
+  waits : HasWaits header h k woken.Nobody past
   order : HasOrder k past
   used : UsesAll header k past
 
@@ -259,6 +262,7 @@ returned_rests header h ids skip k k2 before after moment past control rests bes
     let row = is.row in
     let page = is.page in
     let fit = fit_touched k.memory (queues_after_search k.memory.queues) m.fits.parts keeps refl in
+    let here_then = seen_here k.memory.frames row (absent_at k.memory.objects o p) (known_local header o p (local header.size h (place_of o p) moment)) (b.pages.shown o p ∙ ap (λ z. local_of_row k.memory.frames z (absent_at k.memory.objects o p)) page.found) is.victim.here in
     let referred = rests.referred.pages o p is.row page.found in
     let counts = counts_controlled is.object.state is.object in
     let has : IsOfKind header o is.object = m.kinds.kinds o is.object is.known in
@@ -305,7 +309,9 @@ returned_rests header h ids skip k k2 before after moment past control rests bes
           rw beside.chains
           (referred_gone o p k.chains k2.memory.objects k.memory.resident k2.memory.resident page.row
           (referred_controlled o is.object (controlled is.object) k.chains k.memory.objects k2.memory.objects k.memory.resident is.known is.objects counts.references (λ live. some) (λ lives. is.live) rests.referred));
-      waits = rw (beside.chains, beside.maps, beside.waits) (waiters_lost k.maps k.chains k.memory.resident k2.memory.resident k.memory.objects k2.memory.objects k.waits.rows (is_woken woken.Nobody) _ o p is.row b.waits page.found is.victim.here (unsent skip k.memory.resident o p row locked page.found is.victim.unskipped) page.row (told_controlled k.memory.objects k2.memory.objects o is.object is.known is.objects) (ready_controlled k.memory.objects k2.memory.objects o is.object is.known is.objects));
+      waits = rw (beside.chains, beside.maps, beside.waits)
+          (waits_returned header h (host_id h) key.object control key.page row.dirty false (page_in k.memory.frames row.frame.0) moment (here_then.here)
+          (waiters_lost k.maps k.chains k.memory.resident k2.memory.resident k.memory.objects k2.memory.objects k.waits.rows (is_woken woken.Nobody) _ o p is.row b.waits page.found is.victim.here (unsent skip k.memory.resident o p row locked page.found is.victim.unskipped) page.row (told_controlled k.memory.objects k2.memory.objects o is.object is.known is.objects) (ready_controlled k.memory.objects k2.memory.objects o is.object is.known is.objects)));
       order = rw beside.waits b.order;
       idle = rw beside.waits rests.idle;
     }
@@ -412,7 +418,7 @@ took_first header h outside doing past ids skip k k2 before after rests beside l
       laundry = m.laundry;
       frames = m.frames;
       replied = replied_behind tt m.replied;
-      waits = rests.waits;
+      waits = waits_quiet header h e1 h0 (λ place. quiet_if (h == h && o == place.object.0) Begins Elsewhere tt tt) rests.waits;
       order = rests.order;
       used = rests.used;
     } in

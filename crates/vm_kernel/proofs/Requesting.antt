@@ -22,6 +22,9 @@ use Rattle.vm_supply.specs.declared.woken.Woken.TheVariants as woken
 use Rattle.vm_waits.proofs.Tables.{waked}
 use Rattle.vm_waits.specs.Waits as waits
 use Rattle.vm_waits.specs.declared.waiting.On.TheVariants as on
+use Rattle.vm_state.proofs.Bypassing.{waits_taken}
+use Rattle.vm_kernel.specs.Matches.{host_id}
+use Rattle.vm_model.specs.declared.message.Message.TheVariants as message
 
 -- the rows of a kernel's pages stand in another table
 
@@ -63,6 +66,7 @@ mid_rows header h k ids rs2 past m same =
         allowed = m.waits.allowed;
         sized = m.waits.sized;
         reasons = λ t w found asleep. reason t w.want w.on (m.waits.reasons t w found asleep);
+        passed = m.waits.passed;
         aims = m.waits.aims;
         askers = λ o p row found. m.waits.askers o p row (was o p row found);
         ready = λ o p row found. m.waits.ready o p row (was o p row found);
@@ -133,17 +137,18 @@ here_away : (x : Option PageRow) (row : PageRow) → x ≡ Some row → row.here
 here_away x row is here = ap is_away is ∙ ap not here
 
 -- the rows as they will be, and the accesses that wait
-waits_taken : (maps : Mapped) (k : Parts) (object : ObjectId) (page : PageNo) (count lock : ℕ) (flush : Bool) (rows2 : List Waiting) (past : List Event) → HasWaiters k.maps k.chains k.memory.resident k.memory.objects k.waits.rows (is_woken woken.Nobody) (λ t. waiting t past)
+waits_waked : {stays unmet : PageKey → Type 0} (maps : Mapped) (k : Parts) (object : ObjectId) (page : PageNo) (count lock : ℕ) (flush : Bool) (rows2 : List Waiting) (past : List Event) → HasWaiters k.maps k.chains k.memory.resident k.memory.objects k.waits.rows (is_woken woken.Nobody) (λ t. waiting t past) stays unmet
     → rows2 ≡ map (waits.woken (is_unlocked k.memory.resident object.0 page.0 count)) k.waits.rows
-    → HasWaiters k.maps k.chains (retabled (pended (ahead_of object page count flush lock page.0)) k.memory.resident) k.memory.objects rows2 (is_woken woken.Nobody) (λ t. waiting t past)
-waits_taken maps k object page count lock flush rows2 past has woke =
-    subst (λ (z : List Waiting). HasWaiters k.maps k.chains rs2 k.memory.objects z (is_woken woken.Nobody) (λ t. waiting t past)) (sym woke)
+    → HasWaiters k.maps k.chains (retabled (pended (ahead_of object page count flush lock page.0)) k.memory.resident) k.memory.objects rows2 (is_woken woken.Nobody) (λ t. waiting t past) stays unmet
+waits_waked {stays = stays} {unmet = unmet} maps k object page count lock flush rows2 past has woke =
+    subst (λ (z : List Waiting). HasWaiters k.maps k.chains rs2 k.memory.objects z (is_woken woken.Nobody) (λ t. waiting t past) stays unmet) (sym woke)
     (waits_woken k.maps k.chains rs2 k.memory.objects k.waits.rows (map (waits.woken who) k.waits.rows) who (λ t. waiting t past)
     (record {
       is = has.is;
       allowed = has.allowed;
       sized = has.sized;
       reasons = λ t w found asleep. reason t w.want w.on asleep (has.reasons t w found refl);
+      passed = λ t w found asleep. has.passed t w found refl;
       aims = has.aims;
       askers = λ o p row found awaits. let was = row_back (pended a) rs o p row found in has.askers o p was.0 was.1 (awaited_was o p row was.0 was.2 awaits);
       ready = λ o p row found gone. let was = row_back (pended a) rs o p row found in has.ready o p was.0 was.1 (sym (ap (λ (z : PageRow). z.here) was.2 ∙ pended_here a o p was.0) ∙ gone);
@@ -167,8 +172,8 @@ waits_taken maps k object page count lock flush rows2 past has woke =
     ahead_is : (o p : ℕ) → is_ahead a o p ≡ (o == object.0 && in_range p page.0 count)
     ahead_is o p = ap (λ b. object.0 == o && b) (all_ahead page.0 count p) ∙ ap (λ b. b && in_range p page.0 count) (same_test object.0 o)
 
-    stays : (o p : ℕ) (row : PageRow) → (o == object.0 && in_range p page.0 count) ≡ false → pended a o p row ≡ row
-    stays o p row off = ap (λ b. if row.here && b then aimed a row else row) (ahead_is o p ∙ off) ∙ by row.here
+    unchanged : (o p : ℕ) (row : PageRow) → (o == object.0 && in_range p page.0 count) ≡ false → pended a o p row ≡ row
+    unchanged o p row off = ap (λ b. if row.here && b then aimed a row else row) (ahead_is o p ∙ off) ∙ by row.here
       where
         by : (b : Bool) → (if b && false then aimed a row else row) ≡ row
         by true = refl
@@ -195,7 +200,7 @@ waits_taken maps k object page count lock flush rows2 past has woke =
       row = locked.row;
       found = row_repaged (pended a) rs key.object.0 key.page.0
           ∙ (ap (option_map (pended a key.object.0 key.page.0)) locked.found
-          ∙ ap Some (stays key.object.0 key.page.0 locked.row (unlocked_off object.0 page.0 count rs key asleep (here_away (row_at rs key.object.0 key.page.0) locked.row locked.found locked.here))));
+          ∙ ap Some (unchanged key.object.0 key.page.0 locked.row (unlocked_off object.0 page.0 count rs key asleep (here_away (row_at rs key.object.0 key.page.0) locked.row locked.found locked.here))));
       here = locked.here;
       locked = locked.locked;
       sent = locked.sent;
@@ -318,7 +323,7 @@ mid_taken header h k ids past object control page count returns lock flush reply
         locks = λ o p row there. locks o p row (row_back (pended a) k.memory.resident o p row there);
         shadows = rests.referred.shadows;
       };
-      waits = waits_taken k.maps k object page count lock flush waits2.rows past rests.waits woke;
+      waits = waits_taken header h (host_id h) object control (message.Lock page count returns flush lock reply) past (waits_waked k.maps k object page count lock flush waits2.rows past rests.waits woke);
       order = (woken_keeps (is_unlocked k.memory.resident object.0 page.0 count) k.waits.rows waits2.rows woke).keeps _ 0 rests.order;
     }
   where

@@ -27,6 +27,7 @@ use Rattle.vm_supply.specs.declared.woken.Woken.TheVariants as woken
 use Rattle.vm_kernel.proofs.Making.{controls_made, new_object}
 use Rattle.vm_kernel.proofs.Replied.{replied_behind}
 use Rattle.vm_state.specs.References.{is_live_in}
+use Rattle.vm_kernel.proofs.Bypassed.{fresh_away}
 
 -- each region is as it was, but for its top and its mark
 pub record KeepsRegions (old new : ChainTable) : Type 0 where
@@ -137,7 +138,7 @@ shadowed_with header h past k ids region object row chains objects works there c
       };
       referred = referred_shadowed region.0 object row (new_object row.pages) k.chains chains k.memory.objects objects k.memory.resident made put (omega arith) (λ is. absurd (let bad : false ≡ true = sym (ap is_live_in unknown) ∙ is in cc)) works.referred;
       waits = waits_shadowed k.maps k.chains chains k.memory.resident k.memory.objects objects k.waits.rows (is_woken woken.Nobody) (λ u. waiting u past) region.0 object row works.waits there made
-          (subst (λ (z : ℕ). ObjectsBelow z k.chains) (sym number) (objects_below m.regions)) (knows_made k.memory.objects objects object.0 (new_object row.pages) unknown put);
+          (subst (λ (z : ℕ). ObjectsBelow z k.chains) (sym number) (objects_below m.regions)) (fresh_away header h k ids past m works.referred object new unknown) (knows_made k.memory.objects objects object.0 (new_object row.pages) unknown put);
       order = works.order;
     }
   where

@@ -41,6 +41,7 @@ use Rattle.vm_kernel.proofs.Sharing.{kinds_recounted, shared_entered}
 use Rattle.vm_kernel.proofs.After.{controls_stay, regions_behind}
 use Rattle.vm_kernel.proofs.Rewrites.{lives_below}
 use Rattle.vm_kernel.proofs.Replied.{replied_behind}
+use Rattle.vm_state.specs.Passed.{IsUnmet, StaysAway}
 
 -- One entry is shared.
 
@@ -164,7 +165,7 @@ rests_shared header h outside doing task row past k k2 ids before after rests ma
     let free = free_of k.maps.size row (rows_in task.0 k.maps) may.free in
     let waits_at = λ (t : ℕ). waiting t past in
     let none = no_row k.maps.size (entry k.waits.rows task.0) (waiting task.0 past) (rests.waits.is task.0 (ap is_some lives)) may.idle in
-    let now_waits : HasWaiters k2.maps k2.chains k.memory.resident k.memory.objects k.waits.rows (is_woken woken.Nobody) waits_at =
+    let now_waits : HasWaiters k2.maps k2.chains k.memory.resident k.memory.objects k.waits.rows (is_woken woken.Nobody) waits_at (StaysAway header h past) (IsUnmet header h past) =
     waits_changed k.maps k2.maps k.chains k2.chains k.memory.resident k.memory.objects k.waits.rows (is_woken woken.Nobody) waits_at task.0 (Some (entered row (rows_in task.0 k.maps))) rests.waits s.maps none (keeps_recounted k.chains k2.chains recount)
     (told_changed k.maps k2.maps k.waits.rows waits_at task.0 (rows_in task.0 k.maps) (Some (entered row (rows_in task.0 k.maps))) rests.waits.is s.maps lives) in
     record {

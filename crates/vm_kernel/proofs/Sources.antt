@@ -41,7 +41,7 @@ wants_copy header h size task to region page past (want.CopyTo address pages tar
     Copies object object_page (record { top = top; top_page = top_page; steps = steps; is_top = is_top; walks = walks }) here address (pages * size) to refl
 
 -- so the page is one that an access is to copy
-source_is : (header : Header) (h : ℕ) (k : Parts) (ids : Ids) (past : List Event) (who : Woken) (w : Waiting) (source : Option PageKey) (key : PageKey) (row : PageRow) (steps : ℕ) → Matches header h k ids [] past → HasWaits k who past → HasSlow header k past
+source_is : (header : Header) (h : ℕ) (k : Parts) (ids : Ids) (past : List Event) (who : Woken) (w : Waiting) (source : Option PageKey) (key : PageKey) (row : PageRow) (steps : ℕ) → Matches header h k ids [] past → HasWaits header h k who past → HasSlow header k past
     → entry k.waits.rows w.task.0 ≡ Some w → (reads : Reads k.maps k.memory k.chains w.task.0 w.want source) → Finds k.memory k.chains steps reads.top key row → ((is_storing w.want && nat_lt 0 steps) || is_copying w.want) ≡ true → IsToCopyPage header h w.task key.object.0 key.page.0 past
 source_is header h k ids past who w source key row steps m waits copies found reads finds copied =
     let s = shown_at m in
@@ -81,7 +81,7 @@ source_is header h k ids past who w source key row steps m waits copies found re
     }
 
 -- what an access would copy that waits
-pub to_copy : (header : Header) (h : ℕ) (k : Parts) (ids : Ids) (past : List Event) (who : Woken) (w : Waiting) (source : Option PageKey) → Matches header h k ids [] past → HasWaits k who past → HasSlow header k past → entry k.waits.rows w.task.0 ≡ Some w
+pub to_copy : (header : Header) (h : ℕ) (k : Parts) (ids : Ids) (past : List Event) (who : Woken) (w : Waiting) (source : Option PageKey) → Matches header h k ids [] past → HasWaits header h k who past → HasSlow header k past → entry k.waits.rows w.task.0 ≡ Some w
     → Reads k.maps k.memory k.chains w.task.0 w.want source → IfSome source (λ key. IsToCopyPage header h w.task key.object.0 key.page.0 past × IsHere k key)
 to_copy header h k ids past who w source m waits copies found reads = subst (λ (z : Option PageKey). IfSome z (λ key. IsToCopyPage header h w.task key.object.0 key.page.0 past × IsHere k key)) (sym reads.is) (go reads.stop reads.stops)
   where

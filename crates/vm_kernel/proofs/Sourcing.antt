@@ -143,7 +143,7 @@ told_pager state.Without other = absurd (other refl)
 told_pager state.Sent other = refl
 told_pager state.Ready other = refl
 
-pub reads_it : (header : Header) (h : ℕ) (past : List Event) (k : Parts) (ids : Ids) (who : Woken) (w : Waiting) (source : Option PageKey) → Matches header h k ids [] past → HasWaits k who past → HasSlow header k past → entry k.waits.rows w.task.0 ≡ Some w
+pub reads_it : (header : Header) (h : ℕ) (past : List Event) (k : Parts) (ids : Ids) (who : Woken) (w : Waiting) (source : Option PageKey) → Matches header h k ids [] past → HasWaits header h k who past → HasSlow header k past → entry k.waits.rows w.task.0 ≡ Some w
     → Reads k.maps k.memory k.chains w.task.0 w.want source → (o p : ℕ) → IsToCopyPage header h w.task o p past → source ≡ Some (page_key o p)
 reads_it header h past k ids who w source m waits slow found reads o p copies =
     reads.is ∙ by reads.stop reads.stops

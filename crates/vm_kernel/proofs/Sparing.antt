@@ -24,7 +24,7 @@ use Rattle.vm_state.proofs.Filling.{copies_next}
 use Rattle.vm_kernel.specs.Matches.{HasSlow}
 
 -- who waits here, as licences want it
-abbrev pub here_waits : (header : Header) (h : ℕ) (k : Parts) (ids : Ids) (past : List Event) (task : ℕ) (w : Waiting) → Matches header h k ids [] past → HasWaits k woken.Nobody past → HasSlow header k past → entry k.waits.rows task ≡ Some w → Waits header task (access_in k.maps.size (copies_to w.destination) w.want) past
+abbrev pub here_waits : (header : Header) (h : ℕ) (k : Parts) (ids : Ids) (past : List Event) (task : ℕ) (w : Waiting) → Matches header h k ids [] past → HasWaits header h k woken.Nobody past → HasSlow header k past → entry k.waits.rows task ≡ Some w → Waits header task (access_in k.maps.size (copies_to w.destination) w.want) past
 here_waits header h k ids past task w m waits copies found =
     let allowed = waits.allowed task w found in
     record {
@@ -44,7 +44,7 @@ not_away rs o p row w found here (inl asked) = absurd (let bad : true ≡ false 
 not_away rs o p row w found here (inr locked) = locked
 
 -- who waits for a page that is here waits for its unlock
-pub waits_for_unlock : (header : Header) (h : ℕ) (k : Parts) (ids : Ids) (past : List Event) (o p task : ℕ) (row : PageRow) (w : Waiting) → Matches header h k ids [] past → HasWaits k woken.Nobody past → HasSlow header k past → row_at k.memory.resident o p ≡ Some row → row.here ≡ true
+pub waits_for_unlock : (header : Header) (h : ℕ) (k : Parts) (ids : Ids) (past : List Event) (o p task : ℕ) (row : PageRow) (w : Waiting) → Matches header h k ids [] past → HasWaits header h k woken.Nobody past → HasSlow header k past → row_at k.memory.resident o p ≡ Some row → row.here ≡ true
     → entry k.waits.rows task ≡ Some w → w.on ≡ on.Page (page_key o p) → WaitsUnlocked header h o p past
 waits_for_unlock header h k ids past o p task row w m waits copies found here there on_page =
     let s = shown_at m in
@@ -64,7 +64,7 @@ waits_for_unlock header h k ids past o p task row w m waits copies found here th
     }
 
 -- somebody does, where an unlock is outstanding
-pub waits_unlocked : (header : Header) (h : ℕ) (k : Parts) (ids : Ids) (past : List Event) (o p : ℕ) (row : PageRow) → Matches header h k ids [] past → HasWaits k woken.Nobody past → HasSlow header k past → row_at k.memory.resident o p ≡ Some row → row.here ≡ true → row.unlock_sent ≡ true
+pub waits_unlocked : (header : Header) (h : ℕ) (k : Parts) (ids : Ids) (past : List Event) (o p : ℕ) (row : PageRow) → Matches header h k ids [] past → HasWaits header h k woken.Nobody past → HasSlow header k past → row_at k.memory.resident o p ≡ Some row → row.here ≡ true → row.unlock_sent ≡ true
     → WaitsUnlocked header h o p past
 waits_unlocked header h k ids past o p row m waits copies found here sent =
     let asker : Asker k.waits.rows o p = waits.askers o p row found (sent_awaited row sent) in
@@ -181,7 +181,7 @@ sent_here header h k ids past o p row m found sent = by row.here refl
     by false is = absurd (let bad : false ≡ true = sym (m.fits.plain o p row found is).unlock_sent ∙ sent in cc)
 
 -- so each page is spared for whose unlock somebody waits
-pub skips_locked : (header : Header) (h : ℕ) (k : Parts) (ids : Ids) (past : List Event) (spared : Option PageKey) → Matches header h k ids [] past → HasWaits k woken.Nobody past → SkipLocked k.memory.resident (frames_spared k.memory.resident spared k.waits.rows)
+pub skips_locked : (header : Header) (h : ℕ) (k : Parts) (ids : Ids) (past : List Event) (spared : Option PageKey) → Matches header h k ids [] past → HasWaits header h k woken.Nobody past → SkipLocked k.memory.resident (frames_spared k.memory.resident spared k.waits.rows)
 skips_locked header h k ids past spared m waits o p row found sent =
     let asker : Asker k.waits.rows o p = waits.askers o p row found (sent_awaited row sent) in
     skipped_both (option_list (frame_spared k.memory.resident spared)) (frames_locked k.memory.resident k.waits.rows) row.frame.0
@@ -206,7 +206,7 @@ spared_more header h by k past reason rest (Some f) is waits others =
     let row = here_row (row_at k.memory.resident page.0.object.0 page.0.page.0) f page.2 in
     ((page.0.object.0, page.0.page.0, inr (waits page.0 row.0 page.1 row.1 row.2), page.2), others)
 
-spared_locked : (header : Header) (h : ℕ) (by : Sparing) (k : Parts) (ids : Ids) (past : List Event) (ws : List Waiting) → Matches header h k ids [] past → HasWaits k woken.Nobody past → HasSlow header k past → EachOnce ws → ((t : ℕ) (v : Waiting) → entry ws t ≡ Some v → entry k.waits.rows t ≡ Some v)
+spared_locked : (header : Header) (h : ℕ) (by : Sparing) (k : Parts) (ids : Ids) (past : List Event) (ws : List Waiting) → Matches header h k ids [] past → HasWaits header h k woken.Nobody past → HasSlow header k past → EachOnce ws → ((t : ℕ) (v : Waiting) → entry ws t ≡ Some v → entry k.waits.rows t ≡ Some v)
     → EachSpared header h by past (paging k).frame_at (frames_locked k.memory.resident ws)
 spared_locked header h by k ids past [] m waits copies once stand = tt
 spared_locked header h by k ids past (w ∷ ws) m waits copies once stand =
@@ -214,7 +214,7 @@ spared_locked header h by k ids past (w ∷ ws) m waits copies once stand =
     (λ key row on_page found here. waits_for_unlock header h k ids past key.object.0 key.page.0 w.task.0 row w m waits copies found here (first_stands w ws k.waits.rows stand) on_page)
     (spared_locked header h by k ids past ws m waits copies once.1 (later_stand w ws k.waits.rows once stand))
 
-each_spared : (header : Header) (h : ℕ) (k : Parts) (ids : Ids) (past : List Event) (by : Sparing) (spared : Option PageKey) → Matches header h k ids [] past → HasWaits k woken.Nobody past → HasSlow header k past → EachOnce k.waits.rows → IsToCopy header h k spared past
+each_spared : (header : Header) (h : ℕ) (k : Parts) (ids : Ids) (past : List Event) (by : Sparing) (spared : Option PageKey) → Matches header h k ids [] past → HasWaits header h k woken.Nobody past → HasSlow header k past → EachOnce k.waits.rows → IsToCopy header h k spared past
     → IfSome spared (λ key. IsKeptSource header h by key.object.0 key.page.0 past) → EachSpared header h by past (paging k).frame_at (frames_spared k.memory.resident spared k.waits.rows)
 each_spared header h k ids past by None m waits copies once to_copy source = spared_locked header h by k ids past k.waits.rows m waits copies once (λ t v there. there)
 each_spared header h k ids past by (Some key) m waits copies once to_copy source =
@@ -224,7 +224,7 @@ each_spared header h k ids past by (Some key) m waits copies once to_copy source
     ((key.object.0, key.page.0, inl source, frame), spared_locked header h by k ids past k.waits.rows m waits copies once (λ t v there. there))
 
 -- each page that is spared is skipped where it is here
-skips_spared : (header : Header) (h : ℕ) (k : Parts) (ids : Ids) (past : List Event) (by : Sparing) (spared : Option PageKey) → Matches header h k ids [] past → HasWaits k woken.Nobody past → ((o p : ℕ) → IsKeptSource header h by o p past → spared ≡ Some (page_key o p))
+skips_spared : (header : Header) (h : ℕ) (k : Parts) (ids : Ids) (past : List Event) (by : Sparing) (spared : Option PageKey) → Matches header h k ids [] past → HasWaits header h k woken.Nobody past → ((o p : ℕ) → IsKeptSource header h by o p past → spared ≡ Some (page_key o p))
     → (o p : ℕ) (frame : FrameNo) → IsSpared header h by o p past → (paging k).frame_at o p ≡ Some frame → is_skipped (frames_spared k.memory.resident spared k.waits.rows) frame.0 ≡ true
 skips_spared header h k ids past by spared m waits only o p frame why is =
     let row = here_row (row_at k.memory.resident o p) frame is in
@@ -233,7 +233,7 @@ skips_spared header h k ids past by spared m waits only o p frame why is =
       | inr locked ↦ skips_locked header h k ids past spared m waits o p row.0 row.1 (sym (shows_row (shown_at m) o p row.0 row.1 row.2).unlocking ∙ locked.unlocking)
     ])
 
-pub are_spared : (header : Header) (h : ℕ) (k : Parts) (ids : Ids) (past : List Event) (by : Sparing) (spared : Option PageKey) → Matches header h k ids [] past → HasWaits k woken.Nobody past → HasSlow header k past → EachOnce k.waits.rows → IsToCopy header h k spared past
+pub are_spared : (header : Header) (h : ℕ) (k : Parts) (ids : Ids) (past : List Event) (by : Sparing) (spared : Option PageKey) → Matches header h k ids [] past → HasWaits header h k woken.Nobody past → HasSlow header k past → EachOnce k.waits.rows → IsToCopy header h k spared past
     → IsTheSource header h by spared past → AreSpared header h by past (paging k).frame_at (frames_spared k.memory.resident spared k.waits.rows)
 are_spared header h k ids past by spared m waits copies once to_copy source =
     record { each = each_spared header h k ids past by spared m waits copies once to_copy source.is; all = skips_spared header h k ids past by spared m waits source.only }
@@ -241,7 +241,7 @@ are_spared header h k ids past by spared m waits copies once to_copy source =
 -- what a reclaim leaves, by the pages that are spared
 
 -- why a page is skipped: it is the one, or an unlock of it is outstanding
-why_skipped : (header : Header) (h : ℕ) (k : Parts) (ids : Ids) (past : List Event) (spared : Option PageKey) (f : ℕ) → Matches header h k ids [] past → HasWaits k woken.Nobody past → (is : IsSkippedFor k.memory.resident spared k.waits.rows f) → (spared ≡ Some is.key) ⊎ (is.row.unlock_sent ≡ true)
+why_skipped : (header : Header) (h : ℕ) (k : Parts) (ids : Ids) (past : List Event) (spared : Option PageKey) (f : ℕ) → Matches header h k ids [] past → HasWaits header h k woken.Nobody past → (is : IsSkippedFor k.memory.resident spared k.waits.rows f) → (spared ≡ Some is.key) ⊎ (is.row.unlock_sent ≡ true)
 why_skipped header h k ids past spared f m waits is = elim is.why [
   | inl one ↦ inl one
   | inr who ↦

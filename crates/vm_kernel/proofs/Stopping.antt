@@ -85,7 +85,7 @@ ends_waiters header h outside doing k ids past front object control m events res
     let ready = asked_ready header h k ids past o p rests asked.1 in
     let stops_here : WaitsAt header h task o p past = subst (λ (z : ℕ). WaitsAt header z task o p past) home (subst (λ (z : List Event). WaitsAt header host task o p z) before stops) in
     let frees_here : frames_free header h past ≡ 0 → ⊥ = subst (λ (z : ℕ). frames_free header z past ≡ 0 → ⊥) home (subst (λ (z : List Event). frames_free header host z ≡ 0 → ⊥) before frees) in
-    let row = has_row k past task stops_here.access rests.waits (at_home header h k ids past task stops_here.access rests.matches stops_here.waits stops_here.on_host) stops_here.waits.waits in
+    let row = has_row header h k past task stops_here.access rests.waits (at_home header h k ids past task stops_here.access rests.matches stops_here.waits stops_here.on_host) stops_here.waits.waits in
     let w = row.row in
     let on_page : w.on ≡ on.Page (page_key o p) =
     subst (λ (z : Access). (waits : Waits header task z past) → AwaitsOnly header h task z past waits o p → w.on ≡ on.Page (page_key o p)) (sym row.is)

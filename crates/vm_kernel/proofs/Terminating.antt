@@ -43,6 +43,12 @@ use Rattle.vm_kernel.proofs.Filled.{dropped_filled}
 use Rattle.vm_state.specs.Places.{known_local}
 use Rattle.vm_state.specs.References.{is_live_in}
 use Rattle.vm_legal.specs.InTurn.{DropsInTurn}
+use Rattle.vm_state.specs.Passed.{IsUnmet, StaysAway}
+use Rattle.vm_kernel.proofs.Shown.{shown_at}
+use Rattle.vm_legal.specs.Walks.{page_on}
+use Rattle.vm_state.proofs.Bypassing.{waits_quiet, waits_returned}
+use Rattle.vm_state.proofs.Passing.{quiet_if}
+use Rattle.vm_state.proofs.Shown.{shows_row}
 
 -- no region that is in use leads to it
 
@@ -203,8 +209,10 @@ ends_lost header h outside doing past who k ids rest key row memory events e fir
     frames2 : HasFrames (slice_get (reverse header.frames.items) h) memory.frames (frames_held header.size h (event.Dropped (host_id h) key.object key.page ∷ (events ++ past))) (frames_wired h (event.Dropped (host_id h) key.object key.page ∷ (events ++ past)))
     frames2 = rw (own_host h) (frames_changed (slice_get (reverse header.frames.items) h) key row.frame _ _ _ _ _ k.memory memory (frames_held header.size h moment) (frames_held header.size h moment - 1) (frames_wired h moment) m.frames c (λ held. let less = c.claims in omega arith))
 
-    waits2 : HasWaiters k.maps k.chains memory.resident k.memory.objects k.waits.rows (is_woken who) (λ t. waiting t (events ++ past))
-    waits2 = waiters_lost k.maps k.chains k.memory.resident memory.resident k.memory.objects k.memory.objects k.waits.rows (is_woken who) (λ t. waiting t (events ++ past)) o p row e.runs.waits c.found is_here (unsent header h past who k ids rest key row events e c.found) c.row (λ object told. told) (λ object is. is)
+    waits2 : HasWaiters k.maps k.chains memory.resident k.memory.objects k.waits.rows (is_woken who) (λ t. waiting t (events ++ past)) (StaysAway header h (event.Dropped (host_id h) key.object key.page ∷ (events ++ past))) (IsUnmet header h (event.Dropped (host_id h) key.object key.page ∷ (events ++ past)))
+    waits2 =
+        waits_quiet header h (event.Dropped (host_id h) key.object key.page) (events ++ past) (λ place. quiet_if (h == h && (key.object.0 == place.object.0 && key.page.0 == place.page.0)) Drops Elsewhere tt tt)
+        (waiters_lost k.maps k.chains k.memory.resident memory.resident k.memory.objects k.memory.objects k.waits.rows (is_woken who) (λ t. waiting t (events ++ past)) o p row e.runs.waits c.found is_here (unsent header h past who k ids rest key row events e c.found) c.row (λ object told. told) (λ object is. is))
 
 -- and is off the lists
 
@@ -309,8 +317,9 @@ ends_returned header h outside doing past who k ids rest key known row memory la
         laundry = rw (own_host h) (laundry_returned key row _ _ k.memory memory k.laundry laundry (returns_out h moment) m.laundry c goes.held goes.room);
         frames = frames2;
       };
-      waits = waiters_lost k.maps k.chains k.memory.resident memory.resident k.memory.objects memory.objects k.waits.rows (is_woken who) (λ t. waiting t moment) o p row e.runs.waits c.found goes.here (unsent header h past who k ids rest key row events e c.found) c.row
-          (λ object told. record { row = told.row; found = goes.objects.at object ∙ told.found; sent = told.sent }) (λ object is. ap ready_in (goes.objects.at object) ∙ is);
+      waits = waits_returned header h (host_id h) key.object known.control key.page row.dirty false (page_in k.memory.frames row.frame.0) moment here_then
+          (waiters_lost k.maps k.chains k.memory.resident memory.resident k.memory.objects memory.objects k.waits.rows (is_woken who) (λ t. waiting t moment) o p row e.runs.waits c.found goes.here (unsent header h past who k ids rest key row events e c.found) c.row
+          (λ object told. record { row = told.row; found = goes.objects.at object ∙ told.found; sent = told.sent }) (λ object is. ap ready_in (goes.objects.at object) ∙ is));
       order = e.runs.order;
     };
     used = used_away k.memory.resident memory.resident e.used (away_put o p None row k.memory.resident memory.resident c.found c.row);
@@ -336,6 +345,9 @@ ends_returned header h outside doing past who k ids rest key known row memory la
 
     c : Removes key row k.memory memory
     c = goes.removes
+
+    here_then : (page_on header h o p moment).here ≡ true
+    here_then = (shows_row (shown_at m) o p row c.found goes.here).here
 
     sent : Event
     sent = going_back h key known row (page_in k.memory.frames row.frame.0)
@@ -532,12 +544,14 @@ ends_told header h outside doing past who k ids rest object events row objects s
         laundry = m.laundry;
         frames = m.frames;
       };
-      waits = waits_told k.maps k.chains k.memory.resident k.memory.objects objects k.waits.rows (is_woken who) (λ t. waiting t moment) s.runs.waits
+      waits = waits_quiet header h (event.Sent (Up (host_id h) object) (message.Terminate row.control)) moment
+          (λ place. quiet_if (h == h && o == place.object.0) (if is_control row.control (live_control h place.object.0 moment) then EndsControl else Elsewhere) Elsewhere (quiet_if (is_control row.control (live_control h place.object.0 moment)) EndsControl Elsewhere tt tt) tt)
+          (waits_told k.maps k.chains k.memory.resident k.memory.objects objects k.waits.rows (is_woken who) (λ t. waiting t moment) s.runs.waits
           (told_apart k.maps k.chains k.memory.objects objects o (Some (quiet_row row)) put (unreferred_region m.regions o row found unreferred) (unreferred_shadow m.regions o row found unreferred))
           (λ o2 p page there is. elim (one_case o o2 (Some (quiet_row row)) (object_at k.memory.objects o2) (object_at objects o2) (put.at o2)) [
             | inl this ↦ absurd (let bad : None ≡ Some page = sym (subst (λ (z : ℕ). row_at k.memory.resident z p ≡ None) this.0 (none p)) ∙ there in cc)
             | inr other ↦ ap ready_in other.1 ∙ is
-          ]);
+          ]));
       order = s.runs.order;
     };
     used = s.used;

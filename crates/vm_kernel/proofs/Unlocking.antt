@@ -35,6 +35,9 @@ use Rattle.vm_state.specs.Stands.{HasControls}
 use Rattle.vm_state.specs.Waiters.{IsPlaceOf, is_woken}
 use Rattle.vm_supply.specs.declared.woken.Woken.TheVariants as woken
 use Rattle.vm_waits.specs.declared.waiting.On.TheVariants as on
+use Rattle.vm_state.proofs.Bypassing.{waits_quiet}
+use Rattle.vm_state.proofs.Passing.{quiet_if}
+use Rattle.vm_state.specs.Passed.{IsPlaceBehind, IsUnmet, StaysAway}
 
 -- the host asks for the unlock of a page
 abbrev pub unlocking : ℕ → PageKey → ℕ → ℕ → Event
@@ -84,7 +87,7 @@ matches_unlocked header h k ids past key row control access memory m here c plan
 
 -- the access waits for it
 pub works_unlocked : (header : Header) (h : ℕ) (past : List Event) (k : Parts) (ids : Ids) (w : Waiting) (key : PageKey) (row : PageRow) (object : ObjectRow) (access : ℕ) (memory : HostParts) (waits2 : WaitTable) → Works header h k ids woken.Nobody past
-    → entry k.waits.rows w.task.0 ≡ Some w → runs_now w.on ≡ true → IsPlaceOf k.maps k.chains w.task.0 w.want key → row.here ≡ true → keeps_out row.lock (is_storing w.want) ≡ true → row.unlock_sent ≡ false
+    → entry k.waits.rows w.task.0 ≡ Some w → runs_now w.on ≡ true → IsPlaceBehind (StaysAway header h past) k.maps k.chains w.task.0 w.want key → row.here ≡ true → keeps_out row.lock (is_storing w.want) ≡ true → row.unlock_sent ≡ false
     → NotesUnlock key row k.memory memory → KeepsPlan k.memory memory → PutsInOrder w.task.0 (Some (with_on w (on.Page key))) k.waits.rows waits2.rows
     → Works header h (record k { memory = memory; waits = waits2 }) ids woken.Nobody (unlocking h key object.control access ∷ past)
 works_unlocked header h past k ids w key row object access memory waits2 works is now place here locked unsent c plan put =
@@ -96,9 +99,11 @@ works_unlocked header h past k ids w key row object access memory waits2 works i
       matches = matches_with memory.queues memory.buffers waits2 (fills_turned w.task.0 w (on.Page key) k.waits.rows waits2.rows is put.entry) m.fits.parts refl m;
       used = used_turned w.task.0 w (on.Page key) k.waits.rows waits2.rows (used_away k.memory.resident memory.resident works.used (away_put o p (Some row2) row k.memory.resident memory.resident c.found c.row)) is put.entry;
       referred = page_referred key row.frame _ _ _ _ _ k memory c plan (works.referred.pages o p row c.found) (λ r same. same_lock k.memory.objects o row row2 r refl same (works.referred.locks o p row c.found)) works.referred;
-      waits = subst (λ (z : ObjectTable). HasWaiters k.maps k.chains memory.resident z waits2.rows (is_woken woken.Nobody) (λ u. waiting u past)) (sym plan.objects)
+      waits = subst (λ (z : ObjectTable). HasWaiters k.maps k.chains memory.resident z waits2.rows (is_woken woken.Nobody) (λ u. waiting u past) (StaysAway header h (unlocking h key object.control access ∷ past)) (IsUnmet header h (unlocking h key object.control access ∷ past))) (sym plan.objects)
+          (waits_quiet header h (unlocking h key object.control access) past
+          (λ place2. quiet_if (h == h && o == place2.object.0) (if p == place2.page.0 then model.Unlocks else Elsewhere) Elsewhere (quiet_if (p == place2.page.0) model.Unlocks Elsewhere tt tt) tt)
           (waiters_asked k.maps k.chains k.memory.resident memory.resident k.memory.objects k.waits.rows waits2.rows (λ u. waiting u past) w.task.0 w key row2 works.waits is (asks_none_now k w.on now) place (here_unawaited _ row c.found here unsent) c.row
-          (inr (record { row = row2; found = put_now o p (Some row2) k.memory.resident memory.resident c.row; here = here; locked = locked; sent = refl })) put.entry (λ away. absurd (let bad : true ≡ false = sym here ∙ away in cc)));
+          (inr (record { row = row2; found = put_now o p (Some row2) k.memory.resident memory.resident c.row; here = here; locked = locked; sent = refl })) put.entry (λ away. absurd (let bad : true ≡ false = sym here ∙ away in cc))));
       order = put.order.keeps (λ u. begun_at u past) 0 works.order;
     }
 

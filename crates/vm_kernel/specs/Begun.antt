@@ -174,7 +174,7 @@ pub record Ran (header : Header) (h : ℕ) (outside : Outside) (doing : Command)
 pub record IsInStep (header : Header) (h : ℕ) (outside : Outside) (doing : Command) (past : List Event) (k : Parts) (ids : Ids) (gone : List Entry) (events : List Event) : Type 0 where
   pub begins : IsLined past
   pub matches : Matches header h k ids gone (events ++ past)
-  pub waits : HasWaits k woken.Nobody (events ++ past)
+  pub waits : HasWaits header h k woken.Nobody (events ++ past)
   pub order : HasOrder k (events ++ past)
   pub idle : count_again k.waits.rows ≡ 0
   pub grows : Grows header h outside doing past events

@@ -38,7 +38,7 @@ EndsInRegion header past region e = EndsUnder header past (region_of header regi
 -- Entries have gone, and go out of the counts one after another: those that are left, and what has happened by then, behind a history.
 pub data EndInTurn (header : Header) (past : List Event) (gone : List Entry) : List Entry → List Event → Type 0 where
   NoneCounted : EndInTurn header past gone gone []
-  -- other entries lead to the region still
+  -- one is counted out, and nothing ends with it
   RegionStays : (row : Entry) (left : List Entry) (events : List Event) → EndInTurn header past gone (row ∷ left) events → EndInTurn header past gone left events
   -- its last entry is counted out: what ends then is in its chain
   RegionEnds : (row : Entry) (left : List Entry) (more events : List Event) → EndInTurn header past gone (row ∷ left) events → All (λ (other : Entry). other.region ≢ row.region) left

@@ -30,6 +30,7 @@ use Rattle.vm_abroad.specs.Whose.{IsShut}
 use Rattle.vm_supply.specs.declared.woken.Woken.{Woken}
 use Rattle.vm_supply.specs.declared.woken.Woken.TheVariants as woken
 use Rattle.vm_waits.specs.Waits.{count_again}
+use Rattle.vm_state.specs.Passed.{IsUnmet, StaysAway}
 use Rattle.vm_state.specs.Waiters.{BeganInOrder, HasWaiters, is_woken}
 use Rattle.vm_shadow.specs.declared.ids.Ids.{Ids}
 use Rattle.vm_kernel.specs.Fits.{PartsFit}
@@ -86,8 +87,9 @@ pub record Matches (header : Header) (h : ℕ) (k : Parts) (ids : Ids) (gone : L
   pub frames : HasFrames (slice_get (reverse header.frames.items) h) k.memory.frames (frames_held header.size h past) (frames_wired h past)
 
 -- the accesses that wait, of a kernel with these maps, regions, pages and objects; some may have been woken
-abbrev pub HasWaits : Parts → Woken → List Event → Type 0
-HasWaits k who past = HasWaiters k.maps k.chains k.memory.resident k.memory.objects k.waits.rows (is_woken who) (λ task. waiting task past)
+abbrev pub HasWaits : Header → ℕ → Parts → Woken → List Event → Type 0
+HasWaits header h k who past =
+    HasWaiters k.maps k.chains k.memory.resident k.memory.objects k.waits.rows (is_woken who) (λ task. waiting task past) (StaysAway header h past) (IsUnmet header h past)
 
 -- each region has an entry or is filled by an access that waits
 abbrev pub UsesAll : Header → Parts → List Event → Type 0
@@ -106,7 +108,7 @@ pub record Works (header : Header) (h : ℕ) (k : Parts) (ids : Ids) (who : Woke
   pub matches : Matches header h k ids [] past
   pub used : UsesAll header k past
   pub referred : AllReferred k.chains k.memory.objects k.memory.resident
-  pub waits : HasWaits k who past
+  pub waits : HasWaits header h k who past
   pub order : HasOrder k past
 
 -- the kernel at the end of a step: no access is left that is to be run again
@@ -114,6 +116,6 @@ pub record Rests (header : Header) (h : ℕ) (k : Parts) (ids : Ids) (past : Lis
   pub matches : Matches header h k ids [] past
   pub used : UsesAll header k past
   pub referred : AllReferred k.chains k.memory.objects k.memory.resident
-  pub waits : HasWaits k woken.Nobody past
+  pub waits : HasWaits header h k woken.Nobody past
   pub order : HasOrder k past
   pub idle : count_again k.waits.rows ≡ 0

@@ -73,7 +73,7 @@ pub record Ending : Type 0 where
 -- inside any step, with some who were woken, and some entries that have just gone among the counts
 pub record IsAmid (header : Header) (h : ℕ) (who : Woken) (k : Parts) (ids : Ids) (gone : List Entry) (past : List Event) : Type 0 where
   pub matches : Matches header h k ids gone past
-  pub waits : HasWaits k who past
+  pub waits : HasWaits header h k who past
   pub order : HasOrder k past
 
 -- each region has an entry or is filled, and something refers to each object

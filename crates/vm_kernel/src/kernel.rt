@@ -18,7 +18,9 @@ ghost use Rattle.vm_state.specs.Stands.{HasTasks};
 ghost use Rattle.vm_kernel.specs.Matches.{IsRanged, Rests, first_ids, host_id};
 ghost use Rattle.vm_kernel.specs.Refusing.{maps_elsewhere, takes_name};
 ghost use Rattle.vm_kernel.specs.Taking.{IsAbsencePaid, IsErrorPaid, IsLockPaid, IsWord};
-ghost use Rattle.vm_legal.specs.InTurn.{EndsAll};
+ghost use Rattle.vm_legal.specs.InTurn.{EndsAll, NoneSleepsOn};
+ghost use Rattle.vm_legal.specs.Returned.{OnlyReturned};
+ghost use Rattle.vm_model.specs.Named.{named};
 ghost use Rattle.vm_kernel.specs.Turns.{KeepsOthers, LeavesInTurn, Restarted};
 
 use crate::parts::Parts;
@@ -154,13 +156,16 @@ impl Kernel {
 
     /// A step ends: the host's frame queue is served, and what happened is added to the step's
     /// events (this profile). It is called at the end of every step, whosever the step is, but of one
-    /// that is refused and of the line of a `settle`.
+    /// that is refused and of the line of a `settle`. An access whose walk then comes to a page that is
+    /// here, and whose lock lets it in, waits only while no frame is free, where the pagers of temporary
+    /// memory give no more than they were given.
     ///
     /// After `NoMemory` the kernel is used no more.
     pub fn serve(&mut self, ids: &mut Ids, log: &mut Events) -> Result<(), NoMemory>
         ghost given: { Doing }
         requires rests { Rests given.header given.host self.old ids.old (log.old.items ++ given.past) }
         ensures served { OnOk result (Served given.header given.host given.outside given.command given.past log.old.items self.new ids.new log.new.items) }
+        ensures awake { OnOk result (OnlyReturned (named given.header) given.host (log.new.items ++ given.past) → NoneSleepsOn given.header given.host (log.new.items ++ given.past)) }
         ensures leaves { OnOk result (LeavesInTurn given.header given.past self.old self.new log.old.items log.new.items) }
         ensures others { OnOk result (KeepsOthers self.old.waits.queue self.old.waits.rows self.new.waits.rows) }
     {

@@ -2,8 +2,10 @@
 ghost use Rattle.std.specs.Prelude.{◌≡◌, ◌+◌, ◌++◌, true, false, IfOk, IfSome, OnOk, Some};
 ghost use Rattle.vm_frames.specs.Frames.{claimed, free};
 ghost use Rattle.vm_legal.specs.Accesses.{FindsPage, Wants};
-ghost use Rattle.vm_legal.specs.InTurn.{EndsNext};
+ghost use Rattle.vm_legal.specs.InTurn.{EndsNext, NoneSleepsOn};
 ghost use Rattle.vm_legal.specs.Prompt.{HostIsFull, PromptAt};
+ghost use Rattle.vm_legal.specs.Returned.{OnlyReturned};
+ghost use Rattle.vm_model.specs.Named.{named};
 ghost use Rattle.vm_supply.specs.declared.woken.Woken.TheVariants as woken;
 ghost use Rattle.vm_waits.specs.Waits.{entry, first_in_queue};
 ghost use Rattle.vm_kernel.specs.Begun.{Doing, LegalEvents};
@@ -156,6 +158,7 @@ impl Parts {
         ensures goes { OnOk result (LegalEvents given.header given.host given.outside given.command given.past log.old.items log.new.items) }
         ensures queue { OnOk result (HasQueue given.header given.host self.new (log.new.items ++ given.past)) }
         ensures prompt { OnOk result (PromptAt given.header given.host (log.new.items ++ given.past)) }
+        ensures awake { OnOk result (OnlyReturned (named given.header) given.host (log.new.items ++ given.past) → NoneSleepsOn given.header given.host (log.new.items ++ given.past)) }
         ensures leaves { OnOk result (LeavesInTurn given.header given.past self.old self.new log.old.items log.new.items) }
         ensures others { OnOk result (KeepsOthers self.old.waits.queue self.old.waits.rows self.new.waits.rows) }
     {

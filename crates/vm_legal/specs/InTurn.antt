@@ -1,5 +1,5 @@
 -- What the rules fix beyond what makes a history legal: in which turn things are done that have their cause, and that nobody is passed over.
-use Rattle.std.specs.Prelude.{ℕ, ◌<◌, ◌≡◌, Bool, List, [], ◌∷◌, ◌++◌, true, false, Some, ◌==◌, ◌&&◌, nat_lt, not, if◌then◌else◌}
+use Rattle.std.specs.Prelude.{ℕ, ◌<◌, ◌≡◌, Bool, List, [], ◌∷◌, ◌++◌, length, true, false, Some, ◌==◌, ◌&&◌, nat_lt, not, if◌then◌else◌}
 use Rattle.vm_model.specs.declared.command.Command.{Command}
 use Rattle.vm_model.specs.declared.command.Command.TheVariants as command
 use Rattle.vm_model.specs.declared.command.Numbered.{Numbered}
@@ -17,7 +17,7 @@ use Rattle.vm_model.specs.PagePart.{page_part}
 use Rattle.vm_model.specs.Server.{Wanting, first, line, wants_write}
 use Rattle.vm_model.specs.Side.{side}
 use Rattle.vm_model.specs.Waiting.{Access, is_store}
-use Rattle.vm_legal.specs.Accesses.{Comes, FindsPage, HasPlace, Waits, begun_at, page_of}
+use Rattle.vm_legal.specs.Accesses.{Comes, FindsPage, HasPlace, Waits, begun_at, names, page_of}
 use Rattle.vm_legal.specs.Follows.{FollowsBy, FollowsCutBy, FollowsSoFarBy, IsDone, IsGroupBy, IsRunBy, IsWholeBy, SoFarBy}
 use Rattle.vm_legal.specs.Frames.{frames_free}
 use Rattle.vm_legal.specs.Licences.{Caused, DeviceFails, DropCause, Drops, Ended, Fails, GivesBack, HasSlot, IsBackingOf, IsBehind, MaySendUp, ReturnCause, TakesReturn, Unreached}
@@ -90,10 +90,30 @@ EndsWaiters header host object page past =
 abbrev pub EndsAll : Header → List Event → Type 0
 EndsAll header past = (host object page : ℕ) → error_taken header.size past ≡ Some (record { host = host; object = object; page = page }) → EndsWaiters header host object page past
 
--- a step that has ended has ended each access that waited for the page of its error, and its hosts have served by rising number
+-- a task of the host waits whose walk comes to a page that is here, and whose lock lets it in
+pub record ComesToPage (header : Header) (host task : ℕ) (past : List Event) : Type 0 where
+  pub access : Access
+  pub waits : Waits header task access past
+  pub on_host : waits.at.host ≡ host
+  pub object : ℕ
+  pub page : ℕ
+  pub comes : Comes header host waits.at.entry.region.0 (page_of header task access past waits.at.entry) object page past
+  pub here : (page_on header host object page past).here ≡ true
+  pub let_in : names (page_on header host object page past).lock (is_store access) ≡ false
+
+-- whoever waits beside its page wants a frame for it, and none is free
+abbrev pub NoneSleepsOn : Header → ℕ → List Event → Type 0
+NoneSleepsOn header host past = (task : ℕ) → ComesToPage header host task past → frames_free header host past ≡ 0
+
+abbrev pub NoneSleeps : Header → List Event → Type 0
+NoneSleeps header past = (host : ℕ) → host < length header.frames.items → NoneSleepsOn header host past
+
+-- a step that has ended has ended each access that waited for the page of its error, its hosts have served by rising number, and nobody sleeps beside its page while a
+-- frame is free
 pub record StepIsInTurn (header : Header) (past : List Event) : Type 0 where
   pub ended : EndsAll header past
   pub served : HostsServed header past
+  pub awake : NoneSleeps header past
 
 -- the event ends the access of a task that did what it was to do
 abbrev pub IsEnd : ℕ → Event → Type 0

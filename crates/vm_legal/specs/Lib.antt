@@ -14,6 +14,7 @@ pub mod Pagers
 pub mod Prompt
 pub mod Reclaims
 pub mod Refusal
+pub mod Returned
 pub mod Serving
 pub mod Steps
 pub mod Stretches

@@ -1,5 +1,5 @@
 -- A page that is supplied was taken back before that, and so it was returned.
-use Rattle.std.proofs.Common.{Bool, List, None, Option, Some, [], ap, false, refl, subst, sym, true, inl, inr, ℕ, ◌&&◌, ◌∙◌, ◌∷◌, ◌==◌, ◌≡◌, ◌≤◌, if◌then◌else◌, arith}
+use Rattle.std.proofs.Common.{Bool, List, None, Option, Some, [], ap, false, refl, subst, sym, true, inl, inr, ℕ, ◌&&◌, ◌<◌, ◌∙◌, ◌∷◌, ◌==◌, ◌≡◌, ◌≤◌, if◌then◌else◌, arith}
 use Rattle.std.proofs.lemmas.Bool.{or_left, or_right}
 use Rattle.std.proofs.lemmas.Bool.Decides.{eqb_tells, nat_tests}
 use Rattle.std.specs.Prelude.{nat_lt}
@@ -21,7 +21,9 @@ use Rattle.vm_legal.proofs.Files.{not_file}
 use Rattle.vm_legal.specs.Licences.{HasCause, PagerSends}
 use Rattle.vm_legal.specs.Outside.{Outside, kind_in, kind_of}
 use Rattle.vm_legal.specs.Pagers.{last_return, newer, returned_in}
-use Rattle.vm_returned.specs.Returned.{TakesReturned, was_returned}
+use Rattle.vm_legal.specs.Returned.{OnlyReturned, was_returned}
+use Rattle.vm_model.specs.Controls.{last_control, live_control, without_control}
+use Rattle.vm_returned.specs.Returned.{TakesReturned}
 use Rattle.vm_returned.proofs.Queued.{first_is, queue_is}
 
 -- what was returned once was returned
@@ -95,11 +97,13 @@ last_was header outside h o p (e ∷ past) was causes is = returned_later h o p 
 -- ---- on the way down
 
 abbrev IsSupplied : Header → ℕ → ℕ → List Event → Message → Type 0
-IsSupplied header h o past (message.Supply page lock precious bytes) = named header ≤ o → was_returned h o page.0 past ≡ true
+IsSupplied header h o past (message.Supply page lock precious bytes) = named header ≤ o → (lock ≡ 0) × (was_returned h o page.0 past ≡ true)
+IsSupplied header h o past (message.Lock page count returns flush lock reply) = named header ≤ o → ⊥
 IsSupplied header h o past other = Unit {0}
 
 supplied_later : (header : Header) (h o : ℕ) (e : Event) (past : List Event) (m : Message) → IsSupplied header h o past m → IsSupplied header h o (e ∷ past) m
-supplied_later header h o e past (message.Supply page lock precious bytes) is = λ low. returned_later h o page.0 e past (is low)
+supplied_later header h o e past (message.Supply page lock precious bytes) is = λ low. let was = is low in (was.0, returned_later h o page.0 e past was.1)
+supplied_later header h o e past (message.Lock page count returns flush lock reply) is = is
 supplied_later header h o e past m is = tt
 
 abbrev IsSuppliedOn : Header → Channel → List Event → Message → Type 0
@@ -122,15 +126,75 @@ sent_down header outside (Up host object) m past causes cause = tt
 sent_down header outside (Down host object control) (message.Supply page lock precious bytes) past causes cause = λ low.
     let sends = subst (λ (z : ObjectKind). PagerSends z header outside cause.0 host.0 object.0 control (message.Supply page lock precious bytes) past) (temporary header object.0 low) cause.1 in
     let has = sends.4 (not_file header object.0 low) in
-    last_was header outside host.0 object.0 page.0 past has.0 causes has.1
+    (sends.2, last_was header outside host.0 object.0 page.0 past has.0 causes has.1)
+sent_down header outside (Down host object control) (message.Lock page count returns flush lock reply) past causes cause = λ low.
+    let sends = subst (λ (z : ObjectKind). PagerSends z header outside cause.0 host.0 object.0 control (message.Lock page count returns flush lock reply) past) (temporary header object.0 low) cause.1 in
+    let bad : false ≡ true = sym (not_file header object.0 low) ∙ sends.0 in
+    cc
 sent_down header outside (Down host object control) m past causes cause = tt
 
-takes : (header : Header) (outside : Outside) (e : Event) (past : List Event) → EachEvent (HasCause header outside) past → HasCause header outside e past → TakesReturned header e past
-takes header outside (event.Taken (Down host object control) (message.Supply page lock precious bytes)) past causes cause =
-    first_is _ (queue (Down host object control) past) (message.Supply page lock precious bytes)
+-- what is taken from a temporary object's pager
+taken_down : (header : Header) (outside : Outside) (host : HostId) (object : ObjectId) (control : ℕ) (m : Message) (past : List Event) → EachEvent (HasCause header outside) past → HasCause header outside (event.Taken (Down host object control) m) past → IsSupplied header host.0 object.0 past m
+taken_down header outside host object control m past causes cause =
+    first_is _ (queue (Down host object control) past) m
     (queue_is header outside (Down host object control) (IsSuppliedOn header (Down host object control)) (on_supplied_later header (Down host object control)) (sent_down header outside (Down host object control)) past causes) cause.1.0
+
+takes : (header : Header) (outside : Outside) (e : Event) (past : List Event) → EachEvent (HasCause header outside) past → HasCause header outside e past → TakesReturned header e past
+takes header outside (event.Taken (Down host object control) (message.Supply page lock precious bytes)) past causes cause = λ low. (taken_down header outside host object control (message.Supply page lock precious bytes) past causes cause low).1
 takes header outside other past causes cause = tt
 
 pub takes_returned : (header : Header) (outside : Outside) (history : List Event) → EachEvent (HasCause header outside) history → EachEvent (TakesReturned header) history
 takes_returned header outside [] causes = tt
 takes_returned header outside (e ∷ past) causes = (takes header outside e past causes.1 causes.0, takes_returned header outside past causes.1)
+
+-- ---- controls are numbered from one, and pages are returned to them
+
+still_some : (control : ℕ) (x : Option ℕ) (live : ℕ) → without_control control x ≡ Some live → ({A : Type 0} → ((number : ℕ) → x ≡ Some number → A) → A)
+still_some control None live is go = absurd (let bad : None ≡ Some live = is in cc)
+still_some control (Some number) live is go = go number refl
+
+begun_last : (b : Bool) (control last live : ℕ) (was : Option ℕ) → 0 < control → (was ≡ Some live → 0 < last) → (if b then Some control else was) ≡ Some live → 0 < (if b then control else last)
+begun_last true control last live was some before is = some
+begun_last false control last live was some before is = before is
+
+ended_last : (b : Bool) (control last live : ℕ) (was : Option ℕ) → ((number : ℕ) → was ≡ Some number → 0 < last) → (if b then without_control control was else was) ≡ Some live → 0 < last
+ended_last true control last live was before is = still_some control was live is before
+ended_last false control last live was before is = before live is
+
+-- a control that lives is the last one, or an earlier one
+live_last : (header : Header) (outside : Outside) (h o : ℕ) (past : List Event) (live : ℕ) → EachEvent (HasCause header outside) past → live_control h o past ≡ Some live → 0 < last_control h o past
+live_last header outside h o [] live causes is = absurd (let bad : None ≡ Some live = is in cc)
+live_last header outside h o (event.Sent (Up host object) (message.Init control size) ∷ past) live causes is =
+    let number = causes.0.1.number in
+    begun_last (host.0 == h && object.0 == o) control (last_control h o past) live (live_control h o past) (omega (arith, number)) (λ was. live_last header outside h o past live causes.1 was) is
+live_last header outside h o (event.Sent (Up host object) (message.Create control size) ∷ past) live causes is =
+    let number = causes.0.1.number in
+    begun_last (host.0 == h && object.0 == o) control (last_control h o past) live (live_control h o past) (omega (arith, number)) (λ was. live_last header outside h o past live causes.1 was) is
+live_last header outside h o (event.Sent (Up host object) (message.Terminate control) ∷ past) live causes is =
+    ended_last (host.0 == h && object.0 == o) control (last_control h o past) live (live_control h o past) (λ number was. live_last header outside h o past number causes.1 was) is
+live_last header outside h o (e ∷ past) live causes is = live_last header outside h o past live causes.1 is
+
+below : (header : Header) (o : ℕ) → (named header ≤ o → ⊥) → o < named header
+below header o none = by (nat_lt o (named header)) refl
+  where
+    by : (b : Bool) → nat_lt o (named header) ≡ b → o < named header
+    by true is = grind (arith, nat_tests, is)
+    by false is = absurd (none (grind (arith, nat_tests, is)))
+
+pub only_returned : (header : Header) (outside : Outside) (h : ℕ) (history : List Event) → EachEvent (HasCause header outside) history → OnlyReturned (named header) h history
+only_returned header outside h [] causes = tt
+only_returned header outside h (event.Taken (Down host object control) (message.Supply page lock precious bytes) ∷ past) causes = (
+  λ on low.
+      let is = taken_down header outside host object control (message.Supply page lock precious bytes) past causes.1 causes.0 low in
+      (is.0, subst (λ (z : ℕ). was_returned z object.0 page.0 past ≡ true) on is.1),
+  only_returned header outside h past causes.1,
+)
+only_returned header outside h (event.Taken (Down host object control) (message.Lock page count returns flush lock reply) ∷ past) causes =
+    (λ on. below header object.0 (taken_down header outside host object control (message.Lock page count returns flush lock reply) past causes.1 causes.0), only_returned header outside h past causes.1)
+only_returned header outside h (event.Sent (Up host object) (message.Init control size) ∷ past) causes = (λ on. (let number = causes.0.1.number in omega (arith, number)), only_returned header outside h past causes.1)
+only_returned header outside h (event.Sent (Up host object) (message.Create control size) ∷ past) causes = (λ on. (let number = causes.0.1.number in omega (arith, number)), only_returned header outside h past causes.1)
+only_returned header outside h (event.Sent (Up host object) (message.Return control page dirty keep bytes) ∷ past) causes = (
+  λ on. live_last header outside h object.0 past control causes.1 (subst (λ (z : ℕ). live_control z object.0 past ≡ Some control) on causes.0.1.live),
+  only_returned header outside h past causes.1,
+)
+only_returned header outside h (e ∷ past) causes = only_returned header outside h past causes.1

@@ -1,4 +1,5 @@
 pub mod Bare
+pub mod Bypassing
 pub mod Chains
 pub mod Changing
 pub mod Copying
@@ -12,6 +13,7 @@ pub mod Knowing
 pub mod Locks
 pub mod Making
 pub mod Marks
+pub mod Passing
 pub mod Places
 pub mod Reaching
 pub mod Referred
@@ -20,6 +22,7 @@ pub mod Shadowing
 pub mod Shown
 pub mod Tallies
 pub mod Told
+pub mod Unlocked
 pub mod Waited
 pub mod Waiting
 pub mod Waking

@@ -19,6 +19,8 @@ use Rattle.vm_resident.specs.declared.page_row.PageRow.{PageRow}
 use Rattle.vm_shadow.specs.Chains.{ChainTable, CopiesRegion, DropsShadow, ObjectsBelow, PutsRegion, ShadowsRegion, copy_of, region_at, shadow_at}
 use Rattle.vm_shadow.specs.declared.region_row.RegionRow.{RegionRow}
 use Rattle.vm_shadow.specs.declared.shadow_row.ShadowRow.{ShadowRow}
+use Rattle.vm_state.proofs.Passing.{over_kept, passed_placed}
+use Rattle.vm_state.specs.Passed.{IsPlaceBehind, LeadsOver}
 use Rattle.vm_state.specs.Waiters.{Asker, HasWaiters, IsPlaceOf, LeadsTo, Reason, is_awaited}
 use Rattle.vm_waits.specs.Wants.{address_in}
 use Rattle.vm_waits.specs.declared.waiting.On.{On}
@@ -38,14 +40,16 @@ reason_placed maps cs cs2 rs os task what (on.Ready object) placed reason = (rea
 reason_placed maps cs cs2 rs os task what (on.Page key) placed reason = (placed key reason.0, reason.1)
 reason_placed maps cs cs2 rs os task what on.Frame placed reason = reason
 
-pub waits_placed : (maps : Mapped) (cs cs2 : ChainTable) (rs : ResidentTable) (os : ObjectTable) (rows : List Waiting) (who : On → Bool) (waiting_at : ℕ → Option Access)
-    → HasWaiters maps cs rs os rows who waiting_at → ((task : ℕ) (what : Want) (key : PageKey) → IsPlaceOf maps cs task what key → IsPlaceOf maps cs2 task what key) → HasWaiters maps cs2 rs os rows who waiting_at
-waits_placed maps cs cs2 rs os rows who waiting_at has placed =
+pub waits_placed : {stays unmet : PageKey → Type 0} (maps : Mapped) (cs cs2 : ChainTable) (rs : ResidentTable) (os : ObjectTable) (rows : List Waiting) (who : On → Bool) (waiting_at : ℕ → Option Access)
+    → HasWaiters maps cs rs os rows who waiting_at stays unmet → ((task : ℕ) (what : Want) (key : PageKey) → IsPlaceOf maps cs task what key → IsPlaceOf maps cs2 task what key)
+    → ((task : ℕ) (what : Want) (key : PageKey) → IsPlaceBehind stays maps cs task what key → IsPlaceBehind stays maps cs2 task what key) → HasWaiters maps cs2 rs os rows who waiting_at stays unmet
+waits_placed {stays = stays} {unmet = unmet} maps cs cs2 rs os rows who waiting_at has placed behind =
     record {
       is = has.is;
       allowed = has.allowed;
       sized = has.sized;
       reasons = λ t w found apart. reason_placed maps cs cs2 rs os t w.want w.on (placed t w.want) (has.reasons t w found apart);
+      passed = λ t w found apart. passed_placed stays unmet maps maps cs cs2 t w.want w.on (behind t w.want) (has.passed t w found apart);
       aims = λ t w key found is. placed t w.want key (has.aims t w key found is);
       askers = has.askers;
       ready = has.ready;
@@ -61,6 +65,19 @@ shadows_shadowed old new region object row made below o under found = elim (one_
 
 abbrev spot : ObjectId → ℕ → PageKey
 spot object page = record { object = object; page = record { 0 = page } }
+
+-- what was the region's top place is under the new object's
+under_shadowed : (old new : ChainTable) (region : ℕ) (object : ObjectId) (row : RegionRow) (page : ℕ) (was : PageKey) → ShadowsRegion region object row old new → was ≡ top_place row page
+    → IsUnder new (top_place (record row { top = object; shift = 0; marked = false }) page) was
+under_shadowed old new region object row page was made is =
+    record {
+      row = record { under = row.top; shift = row.shift };
+      found = if_true object.0 _ _ _ (made.under object.0);
+      is = is ∙ ap (spot row.top) (further page);
+    }
+  where
+    further : (n : ℕ) → row.shift + n ≡ 0 + n + row.shift
+    further n = omega arith
 
 pub place_shadowed : (maps : Mapped) (old new : ChainTable) (region : ℕ) (object : ObjectId) (row : RegionRow) (task : ℕ) (what : Want) (key : PageKey)
     → region_at old region ≡ Some row → ShadowsRegion region object row old new → ObjectsBelow object.0 old → IsPlaceOf maps old task what key → IsPlaceOf maps new task what key
@@ -94,22 +111,51 @@ place_shadowed maps old new region object row task what key there made below pla
     same_row : region ≡ at.entry.region.0 → row ≡ at.row
     same_row same = some_is row at.row (sym there ∙ (ap (region_at old) same ∙ at.region))
 
-    further : (n : ℕ) → row.shift + n ≡ 0 + n + row.shift
-    further n = omega arith
+    over : row ≡ at.row → IsUnder new (top_place now page) place.top
+    over same = under_shadowed old new region object row page place.top made (at.is ∙ ap (λ (z : RegionRow). top_place z page) (sym same))
+
+-- with what is passed over on the way there, and the new object's page
+behind_shadowed : {stays : PageKey → Type 0} (maps : Mapped) (old new : ChainTable) (region : ℕ) (object : ObjectId) (row : RegionRow) (task : ℕ) (what : Want) (key : PageKey)
+    → region_at old region ≡ Some row → ShadowsRegion region object row old new → ObjectsBelow object.0 old → ((page : ℕ) → stays (spot object page)) → IsPlaceBehind stays maps old task what key → IsPlaceBehind stays maps new task what key
+behind_shadowed {stays = stays} maps old new region object row task what key there made below bare place = elim (one_case region at.entry.region.0 (Some now) (region_at old at.entry.region.0) (region_at new at.entry.region.0) (made.at at.entry.region.0)) [
+  | inl this ↦ record {
+    top = top_place now page;
+    at = record { entry = at.entry; found = at.found; row = now; region = this.1; is = refl };
+    steps = suc place.steps;
+    leads = (bare (0 + page), (place.top, over (same_row this.0), leads));
+  }
+  | inr other ↦ record {
+    top = place.top;
+    at = record { entry = at.entry; found = at.found; row = at.row; region = other.1 ∙ at.region; is = at.is };
+    steps = place.steps;
+    leads = leads;
+  }
+]
+  where
+    at : IsAt maps old task what place.top
+    at = place.at
+
+    now : RegionRow
+    now = record row { top = object; shift = 0; marked = false }
+
+    page : ℕ
+    page = page_at maps.size (address_in maps.size what) at.entry
+
+    leads : LeadsOver stays new place.steps place.top key
+    leads = over_kept stays old new (shadows_shadowed old new region object row made below) place.steps place.top key place.leads
+
+    same_row : region ≡ at.entry.region.0 → row ≡ at.row
+    same_row same = some_is row at.row (sym there ∙ (ap (region_at old) same ∙ at.region))
 
     over : row ≡ at.row → IsUnder new (top_place now page) place.top
-    over same =
-        record {
-          row = record { under = row.top; shift = row.shift };
-          found = if_true object.0 _ _ _ (made.under object.0);
-          is = at.is ∙ (ap (λ (z : RegionRow). top_place z page) (sym same) ∙ ap (spot row.top) (further page));
-        }
+    over same = under_shadowed old new region object row page place.top made (at.is ∙ ap (λ (z : RegionRow). top_place z page) (sym same))
 
-pub waits_shadowed : (maps : Mapped) (old new : ChainTable) (rs : ResidentTable) (os os2 : ObjectTable) (rows : List Waiting) (who : On → Bool) (waiting_at : ℕ → Option Access) (region : ℕ) (object : ObjectId) (row : RegionRow)
-    → HasWaiters maps old rs os rows who waiting_at → region_at old region ≡ Some row → ShadowsRegion region object row old new → ObjectsBelow object.0 old → KnowsMore os os2 → HasWaiters maps new rs os2 rows who waiting_at
-waits_shadowed maps old new rs os os2 rows who waiting_at region object row has there made below more =
+pub waits_shadowed : {stays unmet : PageKey → Type 0} (maps : Mapped) (old new : ChainTable) (rs : ResidentTable) (os os2 : ObjectTable) (rows : List Waiting) (who : On → Bool) (waiting_at : ℕ → Option Access) (region : ℕ) (object : ObjectId) (row : RegionRow)
+    → HasWaiters maps old rs os rows who waiting_at stays unmet → region_at old region ≡ Some row → ShadowsRegion region object row old new → ObjectsBelow object.0 old → ((page : ℕ) → stays (spot object page)) → KnowsMore os os2 → HasWaiters maps new rs os2 rows who waiting_at stays unmet
+waits_shadowed maps old new rs os os2 rows who waiting_at region object row has there made below bare more =
     waits_known maps new rs os os2 rows who waiting_at
-    (waits_placed maps old new rs os rows who waiting_at has (λ task what key place. place_shadowed maps old new region object row task what key there made below place))
+    (waits_placed maps old new rs os rows who waiting_at has (λ task what key place. place_shadowed maps old new region object row task what key there made below place)
+    (λ task what key place. behind_shadowed maps old new region object row task what key there made below bare place))
     more
 
 -- a region goes to which no entry leads
@@ -144,11 +190,26 @@ place_without maps cs cs2 task what key r put none place = elim (one_case r at.e
     at : IsAt maps cs task what place.top
     at = place.at
 
+behind_without : {stays : PageKey → Type 0} (maps : Mapped) (cs cs2 : ChainTable) (task : ℕ) (what : Want) (key : PageKey) (r : ℕ) → PutsRegion r None cs cs2 → has_entry r (rows_in task maps) ≡ false → IsPlaceBehind stays maps cs task what key → IsPlaceBehind stays maps cs2 task what key
+behind_without {stays = stays} maps cs cs2 task what key r put none place = elim (one_case r at.entry.region.0 None (region_at cs at.entry.region.0) (region_at cs2 at.entry.region.0) (put.at at.entry.region.0)) [
+  | inl this ↦ absurd (apart_at maps cs task what place.top r none at this.0)
+  | inr other ↦ record {
+    top = place.top;
+    at = record { entry = at.entry; found = at.found; row = at.row; region = other.1 ∙ at.region; is = at.is };
+    steps = place.steps;
+    leads = over_kept stays cs cs2 (λ o row found. ap (λ f. f o) put.shadows ∙ found) place.steps place.top key place.leads;
+  }
+]
+  where
+    at : IsAt maps cs task what place.top
+    at = place.at
+
 -- who waits has entries on other regions
-pub waits_without : (maps : Mapped) (cs cs2 : ChainTable) (rs : ResidentTable) (os : ObjectTable) (rows : List Waiting) (who : On → Bool) (waiting_at : ℕ → Option Access) (r : ℕ)
-    → HasWaiters maps cs rs os rows who waiting_at → PutsRegion r None cs cs2 → ((task : ℕ) → has_entry r (rows_in task maps) ≡ false) → HasWaiters maps cs2 rs os rows who waiting_at
+pub waits_without : {stays unmet : PageKey → Type 0} (maps : Mapped) (cs cs2 : ChainTable) (rs : ResidentTable) (os : ObjectTable) (rows : List Waiting) (who : On → Bool) (waiting_at : ℕ → Option Access) (r : ℕ)
+    → HasWaiters maps cs rs os rows who waiting_at stays unmet → PutsRegion r None cs cs2 → ((task : ℕ) → has_entry r (rows_in task maps) ≡ false) → HasWaiters maps cs2 rs os rows who waiting_at stays unmet
 waits_without maps cs cs2 rs os rows who waiting_at r has put none =
     waits_placed maps cs cs2 rs os rows who waiting_at has (λ task what key place. place_without maps cs cs2 task what key r put (none task) place)
+    (λ task what key place. behind_without maps cs cs2 task what key r put (none task) place)
 
 -- an object to which nothing leads: no region is over it, and no shadow
 
@@ -168,7 +229,7 @@ pub place_apart : (maps : Mapped) (cs : ChainTable) (task : ℕ) (what : Want) (
 place_apart maps cs task what key o tops unders place = leads_apart cs o unders place.steps place.top key (top_apart maps cs task what place.top o tops place.at) place.leads
 
 -- its pages that have rows are here, and no unlock of them is outstanding
-pub unawaited_apart : (maps : Mapped) (cs : ChainTable) (rs : ResidentTable) (os : ObjectTable) (rows : List Waiting) (who : On → Bool) (waiting_at : ℕ → Option Access) (o p : ℕ) (row : PageRow) → HasWaiters maps cs rs os rows who waiting_at
+pub unawaited_apart : {stays unmet : PageKey → Type 0} (maps : Mapped) (cs : ChainTable) (rs : ResidentTable) (os : ObjectTable) (rows : List Waiting) (who : On → Bool) (waiting_at : ℕ → Option Access) (o p : ℕ) (row : PageRow) → HasWaiters maps cs rs os rows who waiting_at stays unmet
     → ((r : ℕ) (row : RegionRow) → region_at cs r ≡ Some row → row.top.0 ≡ o → ⊥) → ((s : ℕ) (row : ShadowRow) → shadow_at cs s ≡ Some row → row.under.0 ≡ o → ⊥) → row_at rs o p ≡ Some row → is_awaited row ≡ false
 unawaited_apart maps cs rs os rows who waiting_at o p row has tops unders found = by_test (is_awaited row) refl
   where
@@ -178,11 +239,11 @@ unawaited_apart maps cs rs os rows who waiting_at o p row has tops unders found 
         let asker : Asker rows o p = has.askers o p row found awaits in
         absurd (place_apart maps cs asker.task asker.row.want (page_key o p) o tops unders (has.aims asker.task asker.row (page_key o p) asker.is asker.waits) refl)
 
-pub here_apart : (maps : Mapped) (cs : ChainTable) (rs : ResidentTable) (os : ObjectTable) (rows : List Waiting) (who : On → Bool) (waiting_at : ℕ → Option Access) (o p : ℕ) (row : PageRow) → HasWaiters maps cs rs os rows who waiting_at
+pub here_apart : {stays unmet : PageKey → Type 0} (maps : Mapped) (cs : ChainTable) (rs : ResidentTable) (os : ObjectTable) (rows : List Waiting) (who : On → Bool) (waiting_at : ℕ → Option Access) (o p : ℕ) (row : PageRow) → HasWaiters maps cs rs os rows who waiting_at stays unmet
     → ((r : ℕ) (row : RegionRow) → region_at cs r ≡ Some row → row.top.0 ≡ o → ⊥) → ((s : ℕ) (row : ShadowRow) → shadow_at cs s ≡ Some row → row.under.0 ≡ o → ⊥) → row_at rs o p ≡ Some row → row.here ≡ true
 here_apart maps cs rs os rows who waiting_at o p row has tops unders found = (unawaited_here row (unawaited_apart maps cs rs os rows who waiting_at o p row has tops unders found)).0
 
-pub unsent_apart : (maps : Mapped) (cs : ChainTable) (rs : ResidentTable) (os : ObjectTable) (rows : List Waiting) (who : On → Bool) (waiting_at : ℕ → Option Access) (o p : ℕ) (row : PageRow) → HasWaiters maps cs rs os rows who waiting_at
+pub unsent_apart : {stays unmet : PageKey → Type 0} (maps : Mapped) (cs : ChainTable) (rs : ResidentTable) (os : ObjectTable) (rows : List Waiting) (who : On → Bool) (waiting_at : ℕ → Option Access) (o p : ℕ) (row : PageRow) → HasWaiters maps cs rs os rows who waiting_at stays unmet
     → ((r : ℕ) (row : RegionRow) → region_at cs r ≡ Some row → row.top.0 ≡ o → ⊥) → ((s : ℕ) (row : ShadowRow) → shadow_at cs s ≡ Some row → row.under.0 ≡ o → ⊥) → row_at rs o p ≡ Some row → row.unlock_sent ≡ false
 unsent_apart maps cs rs os rows who waiting_at o p row has tops unders found = (unawaited_here row (unawaited_apart maps cs rs os rows who waiting_at o p row has tops unders found)).1
 
@@ -221,13 +282,34 @@ place_dropped maps cs cs2 task what key o drops tops unders place =
       },
     )
 
+over_dropped : (stays : PageKey → Type 0) (cs cs2 : ChainTable) (o : ℕ) → DropsShadow o cs cs2 → ((s : ℕ) (row : ShadowRow) → shadow_at cs s ≡ Some row → row.under.0 ≡ o → ⊥) → (n : ℕ) (from to : PageKey) → (from.object.0 ≡ o → ⊥) → LeadsOver stays cs n from to → LeadsOver stays cs2 n from to
+over_dropped stays cs cs2 o drops unders zero from to apart leads = leads
+over_dropped stays cs cs2 o drops unders (suc n) from to apart leads = elim (one_case o from.object.0 None (shadow_at cs from.object.0) (shadow_at cs2 from.object.0) (drops.at from.object.0)) [
+  | inl this ↦ absurd (apart (sym this.0))
+  | inr other ↦
+      let under : IsUnder cs from leads.1.0 = leads.1.1 in
+      (leads.0, (leads.1.0, record { row = under.row; found = other.1 ∙ under.found; is = under.is }, over_dropped stays cs cs2 o drops unders n leads.1.0 to (next_apart cs o unders from leads.1.0 under) leads.1.2))
+]
+
+behind_dropped : {stays : PageKey → Type 0} (maps : Mapped) (cs cs2 : ChainTable) (task : ℕ) (what : Want) (key : PageKey) (o : ℕ) → DropsShadow o cs cs2 → ((r : ℕ) (row : RegionRow) → region_at cs r ≡ Some row → row.top.0 ≡ o → ⊥)
+    → ((s : ℕ) (row : ShadowRow) → shadow_at cs s ≡ Some row → row.under.0 ≡ o → ⊥) → IsPlaceBehind stays maps cs task what key → IsPlaceBehind stays maps cs2 task what key
+behind_dropped {stays = stays} maps cs cs2 task what key o drops tops unders place =
+    let at = place.at in
+    record {
+      top = place.top;
+      at = record { entry = at.entry; found = at.found; row = at.row; region = ap (λ f. f at.entry.region.0) drops.regions ∙ at.region; is = at.is };
+      steps = place.steps;
+      leads = over_dropped stays cs cs2 o drops unders place.steps place.top key (top_apart maps cs task what place.top o tops at) place.leads;
+    }
+
 -- and has another number of references
-pub waits_dropped : (maps : Mapped) (cs cs2 : ChainTable) (rs : ResidentTable) (os os2 : ObjectTable) (rows : List Waiting) (who : On → Bool) (waiting_at : ℕ → Option Access) (o under left : ℕ) (was : ObjectRow)
-    → HasWaiters maps cs rs os rows who waiting_at → DropsShadow o cs cs2 → ((r : ℕ) (row : RegionRow) → region_at cs r ≡ Some row → row.top.0 ≡ o → ⊥) → ((s : ℕ) (row : ShadowRow) → shadow_at cs s ≡ Some row → row.under.0 ≡ o → ⊥)
-    → object_at os under ≡ Some was → PutsObject under (Some (record was { references = left })) os os2 → HasWaiters maps cs2 rs os2 rows who waiting_at
+pub waits_dropped : {stays unmet : PageKey → Type 0} (maps : Mapped) (cs cs2 : ChainTable) (rs : ResidentTable) (os os2 : ObjectTable) (rows : List Waiting) (who : On → Bool) (waiting_at : ℕ → Option Access) (o under left : ℕ) (was : ObjectRow)
+    → HasWaiters maps cs rs os rows who waiting_at stays unmet → DropsShadow o cs cs2 → ((r : ℕ) (row : RegionRow) → region_at cs r ≡ Some row → row.top.0 ≡ o → ⊥) → ((s : ℕ) (row : ShadowRow) → shadow_at cs s ≡ Some row → row.under.0 ≡ o → ⊥)
+    → object_at os under ≡ Some was → PutsObject under (Some (record was { references = left })) os os2 → HasWaiters maps cs2 rs os2 rows who waiting_at stays unmet
 waits_dropped maps cs cs2 rs os os2 rows who waiting_at o under left was has drops tops unders found put =
     waits_referred maps cs2 rs os os2 rows who waiting_at under left was
-    (waits_placed maps cs cs2 rs os rows who waiting_at has (λ task what key place. (place_dropped maps cs cs2 task what key o drops tops unders place).1))
+    (waits_placed maps cs cs2 rs os rows who waiting_at has (λ task what key place. (place_dropped maps cs cs2 task what key o drops tops unders place).1)
+    (λ task what key place. behind_dropped maps cs cs2 task what key o drops tops unders place))
     found put
 
 -- regions whose entries are counted anew, or that are made, or copied

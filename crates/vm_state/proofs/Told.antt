@@ -37,24 +37,25 @@ reason_told maps cs rs os os2 task what (on.Ready object) told reason = (
 reason_told maps cs rs os os2 task what (on.Page key) told reason = reason
 reason_told maps cs rs os os2 task what on.Frame told reason = reason
 
-pub waits_told : (maps : Mapped) (cs : ChainTable) (rs : ResidentTable) (os os2 : ObjectTable) (rows : List Waiting) (who : On → Bool) (waiting_at : ℕ → Option Access)
-    → HasWaiters maps cs rs os rows who waiting_at → StillTold maps cs os os2
-    → ((o p : ℕ) (row : PageRow) → row_at rs o p ≡ Some row → ready_in (object_at os o) ≡ true → ready_in (object_at os2 o) ≡ true) → HasWaiters maps cs rs os2 rows who waiting_at
+pub waits_told : {stays unmet : PageKey → Type 0} (maps : Mapped) (cs : ChainTable) (rs : ResidentTable) (os os2 : ObjectTable) (rows : List Waiting) (who : On → Bool) (waiting_at : ℕ → Option Access)
+    → HasWaiters maps cs rs os rows who waiting_at stays unmet → StillTold maps cs os os2
+    → ((o p : ℕ) (row : PageRow) → row_at rs o p ≡ Some row → ready_in (object_at os o) ≡ true → ready_in (object_at os2 o) ≡ true) → HasWaiters maps cs rs os2 rows who waiting_at stays unmet
 waits_told maps cs rs os os2 rows who waiting_at has told ready =
     record {
       is = has.is;
       allowed = has.allowed;
       sized = has.sized;
       reasons = λ t w found apart. reason_told maps cs rs os os2 t w.want w.on told (has.reasons t w found apart);
+      passed = has.passed;
       aims = has.aims;
       askers = has.askers;
       ready = λ o p row found away. ready o p row found (has.ready o p row found away);
     }
 
 -- a page that is here has gone, of which no unlock was outstanding, and its pager may have been told
-pub waiters_lost : (maps : Mapped) (cs : ChainTable) (rs rs2 : ResidentTable) (os os2 : ObjectTable) (rows : List Waiting) (who : On → Bool) (waiting_at : ℕ → Option Access) (o p : ℕ) (row : PageRow)
-    → HasWaiters maps cs rs os rows who waiting_at → row_at rs o p ≡ Some row → row.here ≡ true → row.unlock_sent ≡ false → PutsRow o p None rs rs2 → ((object : ℕ) → IsPagerTold os object → IsPagerTold os2 object)
-    → ((object : ℕ) → ready_in (object_at os object) ≡ true → ready_in (object_at os2 object) ≡ true) → HasWaiters maps cs rs2 os2 rows who waiting_at
+pub waiters_lost : {stays unmet : PageKey → Type 0} (maps : Mapped) (cs : ChainTable) (rs rs2 : ResidentTable) (os os2 : ObjectTable) (rows : List Waiting) (who : On → Bool) (waiting_at : ℕ → Option Access) (o p : ℕ) (row : PageRow)
+    → HasWaiters maps cs rs os rows who waiting_at stays unmet → row_at rs o p ≡ Some row → row.here ≡ true → row.unlock_sent ≡ false → PutsRow o p None rs rs2 → ((object : ℕ) → IsPagerTold os object → IsPagerTold os2 object)
+    → ((object : ℕ) → ready_in (object_at os object) ≡ true → ready_in (object_at os2 object) ≡ true) → HasWaiters maps cs rs2 os2 rows who waiting_at stays unmet
 waiters_lost maps cs rs rs2 os os2 rows who waiting_at o p row has found here sent put told ready =
     waits_told maps cs rs2 os os2 rows who waiting_at (waiters_page maps cs rs rs2 os rows who waiting_at o p None has put (inl (here_unawaited (row_at rs o p) row found here sent)) (none_unawaited None refl))
     (told_all maps cs os os2 told) (λ o2 p2 r there is. ready o2 is)
@@ -79,8 +80,8 @@ ready_referred r left was os os2 found put o = elim (one_case r o (Some (record 
   | inr other ↦ ap ready_in other.1
 ]
 
-pub waits_referred : (maps : Mapped) (cs : ChainTable) (rs : ResidentTable) (os os2 : ObjectTable) (rows : List Waiting) (who : On → Bool) (waiting_at : ℕ → Option Access) (r left : ℕ) (was : ObjectRow)
-    → HasWaiters maps cs rs os rows who waiting_at → object_at os r ≡ Some was → PutsObject r (Some (record was { references = left })) os os2 → HasWaiters maps cs rs os2 rows who waiting_at
+pub waits_referred : {stays unmet : PageKey → Type 0} (maps : Mapped) (cs : ChainTable) (rs : ResidentTable) (os os2 : ObjectTable) (rows : List Waiting) (who : On → Bool) (waiting_at : ℕ → Option Access) (r left : ℕ) (was : ObjectRow)
+    → HasWaiters maps cs rs os rows who waiting_at stays unmet → object_at os r ≡ Some was → PutsObject r (Some (record was { references = left })) os os2 → HasWaiters maps cs rs os2 rows who waiting_at stays unmet
 waits_referred maps cs rs os os2 rows who waiting_at r left was has found put =
     waits_told maps cs rs os os2 rows who waiting_at has (told_referred maps cs r left was os os2 found put) (λ o p row there is. ready_referred r left was os os2 found put o ∙ is)
 
@@ -97,8 +98,8 @@ knows_made os os2 n row none put =
       ];
     }
 
-pub waits_known : (maps : Mapped) (cs : ChainTable) (rs : ResidentTable) (os os2 : ObjectTable) (rows : List Waiting) (who : On → Bool) (waiting_at : ℕ → Option Access)
-    → HasWaiters maps cs rs os rows who waiting_at → KnowsMore os os2 → HasWaiters maps cs rs os2 rows who waiting_at
+pub waits_known : {stays unmet : PageKey → Type 0} (maps : Mapped) (cs : ChainTable) (rs : ResidentTable) (os os2 : ObjectTable) (rows : List Waiting) (who : On → Bool) (waiting_at : ℕ → Option Access)
+    → HasWaiters maps cs rs os rows who waiting_at stays unmet → KnowsMore os os2 → HasWaiters maps cs rs os2 rows who waiting_at stays unmet
 waits_known maps cs rs os os2 rows who waiting_at has more =
     waits_told maps cs rs os os2 rows who waiting_at has
     (told_all maps cs os os2 (λ o told. record { row = told.row; found = more.at o told.row told.found; sent = told.sent }))

@@ -14,6 +14,8 @@ use Rattle.vm_resident.specs.Resident.{ResidentTable}
 use Rattle.vm_shadow.specs.Chains.{ChainTable, region_at, shadow_at}
 use Rattle.vm_shadow.specs.declared.region_row.RegionRow.{RegionRow}
 use Rattle.vm_shadow.specs.declared.shadow_row.ShadowRow.{ShadowRow}
+use Rattle.vm_state.proofs.Passing.{over_kept, passed_placed}
+use Rattle.vm_state.specs.Passed.{IsPlaceBehind}
 use Rattle.vm_state.specs.Waiters.{HasWaiters, IsPlaceOf, LeadsTo, Reason, waiting_in}
 use Rattle.vm_waits.specs.Waits.{entry}
 use Rattle.vm_waits.specs.Wants.{IsSizedWant, address_in, need_in}
@@ -72,6 +74,16 @@ place_kept maps maps2 cs cs2 task what key same tops place =
       leads = leads_kept cs cs2 tops.shadows place.steps place.top key place.leads;
     }
 
+-- with what is passed over on the way there
+behind_kept : {stays : PageKey → Type 0} (maps maps2 : Mapped) (cs cs2 : ChainTable) (task : ℕ) (what : Want) (key : PageKey) → SameOf task maps maps2 → KeepsPlaces cs cs2 → IsPlaceBehind stays maps cs task what key → IsPlaceBehind stays maps2 cs2 task what key
+behind_kept {stays = stays} maps maps2 cs cs2 task what key same tops place =
+    record {
+      top = place.top;
+      at = at_kept maps maps2 cs cs2 task what place.top same tops place.at;
+      steps = place.steps;
+      leads = over_kept stays cs cs2 tops.shadows place.steps place.top key place.leads;
+    }
+
 pub allowed_kept : (maps maps2 : Mapped) (task address : ℕ) (need : Need) → SameOf task maps maps2 → IsAllowed maps task address need → IsAllowed maps2 task address need
 allowed_kept maps maps2 task address need same is =
     record {
@@ -102,25 +114,26 @@ told_changed maps maps2 rows waiting_at task was made told changes lives t here 
     sized u = ap (λ n. waiting_in n (entry rows u)) (sym changes.size)
 
 -- who waits has the entries that it had
-pub waits_kept : {waiting2 : ℕ → Option Access} (maps maps2 : Mapped) (cs cs2 : ChainTable) (rs : ResidentTable) (os : ObjectTable) (rows : List Waiting) (who : On → Bool) (waiting_at : ℕ → Option Access)
-    → HasWaiters maps cs rs os rows who waiting_at → ((t : ℕ) (w : Waiting) → entry rows t ≡ Some w → SameOf t maps maps2) → KeepsPlaces cs cs2 → AreTold maps2 rows waiting2
-    → HasWaiters maps2 cs2 rs os rows who waiting2
-waits_kept maps maps2 cs cs2 rs os rows who waiting_at has same tops told =
+pub waits_kept : {stays unmet : PageKey → Type 0} {waiting2 : ℕ → Option Access} (maps maps2 : Mapped) (cs cs2 : ChainTable) (rs : ResidentTable) (os : ObjectTable) (rows : List Waiting) (who : On → Bool) (waiting_at : ℕ → Option Access)
+    → HasWaiters maps cs rs os rows who waiting_at stays unmet → ((t : ℕ) (w : Waiting) → entry rows t ≡ Some w → SameOf t maps maps2) → KeepsPlaces cs cs2 → AreTold maps2 rows waiting2
+    → HasWaiters maps2 cs2 rs os rows who waiting2 stays unmet
+waits_kept {stays = stays} {unmet = unmet} maps maps2 cs cs2 rs os rows who waiting_at has same tops told =
     record {
       is = told;
       allowed = λ t w found. subst (λ (n : ℕ). IsAllowed maps2 t (address_in n w.want) (need_in w.want)) (sym (same t w found).size)
           (allowed_kept maps maps2 t (address_in maps.size w.want) (need_in w.want) (same t w found) (has.allowed t w found));
       sized = λ t w found. subst (λ (n : ℕ). IsSizedWant n w.want) (sym (same t w found).size) (has.sized t w found);
       reasons = λ t w found apart. reason_kept maps maps2 cs cs2 rs os t w.want w.on (same t w found) tops (has.reasons t w found apart);
+      passed = λ t w found apart. passed_placed stays unmet maps maps2 cs cs2 t w.want w.on (λ key place. behind_kept maps maps2 cs cs2 t w.want key (same t w found) tops place) (has.passed t w found apart);
       aims = λ t w key found is. place_kept maps maps2 cs cs2 t w.want key (same t w found) tops (has.aims t w key found is);
       askers = has.askers;
       ready = has.ready;
     }
 
 -- one task's entries change, which doesn't wait
-pub waits_changed : {waiting2 : ℕ → Option Access} (maps maps2 : Mapped) (cs cs2 : ChainTable) (rs : ResidentTable) (os : ObjectTable) (rows : List Waiting) (who : On → Bool) (waiting_at : ℕ → Option Access) (task : ℕ) (made : Option (List Entry))
-    → HasWaiters maps cs rs os rows who waiting_at → ChangesOnly maps maps2 task made → entry rows task ≡ None → KeepsPlaces cs cs2 → AreTold maps2 rows waiting2
-    → HasWaiters maps2 cs2 rs os rows who waiting2
+pub waits_changed : {stays unmet : PageKey → Type 0} {waiting2 : ℕ → Option Access} (maps maps2 : Mapped) (cs cs2 : ChainTable) (rs : ResidentTable) (os : ObjectTable) (rows : List Waiting) (who : On → Bool) (waiting_at : ℕ → Option Access) (task : ℕ) (made : Option (List Entry))
+    → HasWaiters maps cs rs os rows who waiting_at stays unmet → ChangesOnly maps maps2 task made → entry rows task ≡ None → KeepsPlaces cs cs2 → AreTold maps2 rows waiting2
+    → HasWaiters maps2 cs2 rs os rows who waiting2 stays unmet
 waits_changed maps maps2 cs cs2 rs os rows who waiting_at task made has changes none tops told =
     waits_kept maps maps2 cs cs2 rs os rows who waiting_at has
     (λ t w found. record {

@@ -1,10 +1,11 @@
 -- The accesses that wait, once one of them waits for something else or is over, or a page has come or was asked for.
-use Rattle.std.proofs.Common.{Bool, List, None, Option, Some, ap, false, inl, inr, refl, subst, sym, true, ℕ, ◌==◌, ◌||◌, ◌∙◌, ◌≡◌}
+use Rattle.std.proofs.Common.{Bool, List, None, Option, Some, ap, false, inl, inr, refl, subst, suc, sym, true, ℕ, ◌==◌, ◌||◌, ◌∙◌, ◌≡◌}
 use Rattle.std.proofs.lemmas.Bool.Decides.{eqb_tells}
 use Rattle.std.proofs.lemmas.Bool.{or_right}
 use Rattle.std.specs.Prelude.{if◌then◌else◌, not, ◌⊎◌}
 use Rattle.vm_base.specs.declared.ids.Lock.{Lock}
 use Rattle.vm_fault.specs.Walks.{is_storing, keeps_out}
+use Rattle.vm_base.specs.declared.ids.ObjectId.{ObjectId}
 use Rattle.vm_base.specs.declared.ids.PageKey.{PageKey}
 use Rattle.vm_maps.specs.Judge.{IsAllowed}
 use Rattle.vm_maps.specs.Maps.{Mapped}
@@ -15,6 +16,8 @@ use Rattle.vm_resident.specs.Resident.{PutsRow, ResidentTable, page_key, row_at}
 use Rattle.vm_resident.specs.declared.page_row.PageRow.{PageRow}
 use Rattle.vm_shadow.specs.Chains.{ChainTable}
 use Rattle.vm_state.specs.Pagers.{ready_in}
+use Rattle.vm_state.proofs.Passing.{StopsAt, behind_place, passed_now}
+use Rattle.vm_state.specs.Passed.{IsPlaceBehind, LeadsOver, Passed}
 use Rattle.vm_state.specs.Waiters.{Asker, HasWaiters, IsAsked, IsLockedFor, IsPlaceOf, Reason, is_awaited, is_woken, waiting_in}
 use Rattle.vm_supply.specs.declared.woken.Woken.TheVariants as woken
 use Rattle.vm_waits.proofs.Entries.{puts_cases, puts_elsewhere, puts_here}
@@ -25,6 +28,23 @@ use Rattle.vm_waits.specs.declared.waiting.On.TheVariants as on
 use Rattle.vm_waits.specs.declared.waiting.Waiting.{Waiting}
 use Rattle.vm_waits.specs.declared.waiting.Want.{Want}
 use Rattle.vm_state.proofs.Waited.{AreTold}
+
+-- where nothing has come to the places that were passed over, and to those that wait for their pager
+pub waits_seen : {stays unmet stays2 unmet2 : PageKey → Type 0} (maps : Mapped) (chains : ChainTable) (rs : ResidentTable) (os : ObjectTable) (rows : List Waiting) (who : On → Bool) (at : ℕ → Option Access) → HasWaiters maps chains rs os rows who at stays unmet
+    → ((t : ℕ) (w : Waiting) → entry rows t ≡ Some w → who w.on ≡ false → Reason maps chains rs os t w.want w.on → (to : PageKey) → StopsAt unmet w.on to → (m : ℕ) (from : PageKey) → IsPlaceOf maps chains t w.want from → LeadsOver stays chains (suc m) from to → stays2 from)
+    → ((t : ℕ) (w : Waiting) → entry rows t ≡ Some w → who w.on ≡ false → Reason maps chains rs os t w.want w.on → (object : ObjectId) → w.on ≡ on.Ready object → (to : PageKey) → to.object ≡ object → IsPlaceOf maps chains t w.want to → unmet to → unmet2 to)
+    → HasWaiters maps chains rs os rows who at stays2 unmet2
+waits_seen {stays = stays} {unmet = unmet} {stays2 = stays2} {unmet2 = unmet2} maps chains rs os rows who at has above there =
+    record {
+      is = has.is;
+      allowed = has.allowed;
+      sized = has.sized;
+      reasons = has.reasons;
+      passed = λ t w found asleep. passed_now stays stays2 unmet unmet2 maps chains t w.want w.on (above t w found asleep (has.reasons t w found asleep)) (there t w found asleep (has.reasons t w found asleep)) (has.passed t w found asleep);
+      aims = has.aims;
+      askers = has.askers;
+      ready = has.ready;
+    }
 
 -- the access waits for no page of which a word is outstanding
 pub record AsksNone (resident : ResidentTable) (reason : On) : Type 0 where
@@ -113,14 +133,15 @@ abbrev pub IsWokenFor : (On → Bool) → Option PageRow → ℕ → ℕ → Typ
 IsWokenFor who found o p = IsUnawaited found ⊎ (who (on.Page (page_key o p)) ≡ true)
 
 -- a page has another row, or none; no word of it is outstanding now, nor was before but for those that are to be woken
-pub waiters_page : (maps : Mapped) (chains : ChainTable) (rs rs2 : ResidentTable) (os : ObjectTable) (rows : List Waiting) (who : On → Bool) (at : ℕ → Option Access) (o p : ℕ) (x : Option PageRow)
-    → HasWaiters maps chains rs os rows who at → PutsRow o p x rs rs2 → IsWokenFor who (row_at rs o p) o p → IsUnawaited x → HasWaiters maps chains rs2 os rows who at
+pub waiters_page : {stays unmet : PageKey → Type 0} (maps : Mapped) (chains : ChainTable) (rs rs2 : ResidentTable) (os : ObjectTable) (rows : List Waiting) (who : On → Bool) (at : ℕ → Option Access) (o p : ℕ) (x : Option PageRow)
+    → HasWaiters maps chains rs os rows who at stays unmet → PutsRow o p x rs rs2 → IsWokenFor who (row_at rs o p) o p → IsUnawaited x → HasWaiters maps chains rs2 os rows who at stays unmet
 waiters_page maps chains rs rs2 os rows who at o p x has put before now =
     record {
       is = has.is;
       allowed = has.allowed;
       sized = has.sized;
       reasons = λ t w is asleep. reason_kept maps chains rs rs2 os t w.want w.on (λ key same awaits. stays w.want key (ap who (sym same) ∙ asleep) awaits) (has.reasons t w is asleep);
+      passed = has.passed;
       aims = has.aims;
       askers = λ o2 p2 row found awaits. elim (row_cases o p x rs rs2 put o2 p2) [
         | inl here ↦ awaited_apart x row now (sym here.is ∙ found) awaits
@@ -157,13 +178,14 @@ asker_kept rows rows2 t was x o p put is not asker = elim (eqb_tells t asker.tas
 ]
 
 -- one access is over, or waits for something else, and words that were outstanding are so still
-pub waiters_put : (maps : Mapped) (chains : ChainTable) (rs rs2 : ResidentTable) (os : ObjectTable) (rows rows2 : List Waiting) (at at2 : ℕ → Option Access) (t : ℕ) (x : Option Waiting)
-    → HasWaiters maps chains rs os rows (is_woken woken.Nobody) at → PutsEntry t x rows rows2
+pub waiters_put : {stays unmet : PageKey → Type 0} (maps : Mapped) (chains : ChainTable) (rs rs2 : ResidentTable) (os : ObjectTable) (rows rows2 : List Waiting) (at at2 : ℕ → Option Access) (t : ℕ) (x : Option Waiting)
+    → HasWaiters maps chains rs os rows (is_woken woken.Nobody) at stays unmet → PutsEntry t x rows rows2
     → AreTold maps rows2 at2
     → ((w : Waiting) → x ≡ Some w → Suits maps t w) → ((w : Waiting) → x ≡ Some w → Reason maps chains rs2 os t w.want w.on)
+    → ((w : Waiting) → x ≡ Some w → Passed stays unmet maps chains t w.want w.on)
     → ((what : Want) (o p : ℕ) → IsAwaitedBy rs what o p → IsAwaitedBy rs2 what o p) → ((o p : ℕ) (row : PageRow) → row_at rs2 o p ≡ Some row → is_awaited row ≡ true → Asker rows2 o p)
-    → ((o p : ℕ) (row : PageRow) → row_at rs2 o p ≡ Some row → row.here ≡ false → ready_in (object_at os o) ≡ true) → HasWaiters maps chains rs2 os rows2 (is_woken woken.Nobody) at2
-waiters_put maps chains rs rs2 os rows rows2 at at2 t x has put told suits reason kept askers ready =
+    → ((o p : ℕ) (row : PageRow) → row_at rs2 o p ≡ Some row → row.here ≡ false → ready_in (object_at os o) ≡ true) → HasWaiters maps chains rs2 os rows2 (is_woken woken.Nobody) at2 stays unmet
+waiters_put {stays = stays} {unmet = unmet} maps chains rs rs2 os rows rows2 at at2 t x has put told suits reason passed kept askers ready =
     record {
       is = told;
       allowed = λ u w is. puts_cases {P = IsAllowed maps u (address_in maps.size w.want) (need_in w.want)} t u x rows rows2 w put is
@@ -173,6 +195,9 @@ waiters_put maps chains rs rs2 os rows rows2 at at2 t x has put told suits reaso
       reasons = λ u w is asleep. puts_cases {P = Reason maps chains rs2 os u w.want w.on} t u x rows rows2 w put is
           (λ same it. subst (λ (z : ℕ). Reason maps chains rs2 os z w.want w.on) same (reason w it))
           (λ apart was. reason_kept maps chains rs rs2 os u w.want w.on (λ key why. kept w.want key.object.0 key.page.0) (has.reasons u w was refl));
+      passed = λ u w is asleep. puts_cases {P = Passed stays unmet maps chains u w.want w.on} t u x rows rows2 w put is
+          (λ same it. subst (λ (z : ℕ). Passed stays unmet maps chains z w.want w.on) same (passed w it))
+          (λ apart was. has.passed u w was refl);
       aims = λ u w key is waits. puts_cases {P = IsPlaceOf maps chains u w.want key} t u x rows rows2 w put is
           (λ same it. subst (λ (z : ℕ). IsPlaceOf maps chains z w.want key) same (aimed t w.want w.on key waits (reason w it)))
           (λ apart was. has.aims u w key was waits);
@@ -190,11 +215,12 @@ over_is maps rows rows2 t at at2 is put ends u here = elim (eqb_tells t u) [
 ]
 
 -- an access is over that waits for no page of which a word is outstanding
-pub waiters_over : (maps : Mapped) (chains : ChainTable) (rs : ResidentTable) (os : ObjectTable) (rows rows2 : List Waiting) (at at2 : ℕ → Option Access) (t : ℕ) (was : Waiting)
-    → HasWaiters maps chains rs os rows (is_woken woken.Nobody) at → entry rows t ≡ Some was → AsksNone rs was.on → PutsEntry t None rows rows2 → ((u : ℕ) → at2 u ≡ (if t == u then None else at u))
-    → HasWaiters maps chains rs os rows2 (is_woken woken.Nobody) at2
+pub waiters_over : {stays unmet : PageKey → Type 0} (maps : Mapped) (chains : ChainTable) (rs : ResidentTable) (os : ObjectTable) (rows rows2 : List Waiting) (at at2 : ℕ → Option Access) (t : ℕ) (was : Waiting)
+    → HasWaiters maps chains rs os rows (is_woken woken.Nobody) at stays unmet → entry rows t ≡ Some was → AsksNone rs was.on → PutsEntry t None rows rows2 → ((u : ℕ) → at2 u ≡ (if t == u then None else at u))
+    → HasWaiters maps chains rs os rows2 (is_woken woken.Nobody) at2 stays unmet
 waiters_over maps chains rs os rows rows2 at at2 t was has is none put ends =
     waiters_put maps chains rs rs os rows rows2 at at2 t None has put (over_is maps rows rows2 t at at2 has.is put ends)
+    (λ w it. absurd (let bad : None ≡ Some w = it in cc))
     (λ w it. absurd (let bad : None ≡ Some w = it in cc))
     (λ w it. absurd (let bad : None ≡ Some w = it in cc))
     (λ what o p awaits. awaits)
@@ -209,8 +235,8 @@ turned_is maps rows rows2 t was reason at is there put u here = elim (eqb_tells 
   | inr apart ↦ is u here ∙ sym (ap (waiting_in maps.size) (put.at u ∙ ap (λ b. if b then Some (with_on was reason) else entry rows u) apart.0))
 ]
 
-turned_suits : (maps : Mapped) (chains : ChainTable) (rs : ResidentTable) (os : ObjectTable) (rows : List Waiting) (who : On → Bool) (at : ℕ → Option Access) (t : ℕ) (was w : Waiting) (reason : On)
-    → HasWaiters maps chains rs os rows who at → entry rows t ≡ Some was → Some (with_on was reason) ≡ Some w → Suits maps t w
+turned_suits : {stays unmet : PageKey → Type 0} (maps : Mapped) (chains : ChainTable) (rs : ResidentTable) (os : ObjectTable) (rows : List Waiting) (who : On → Bool) (at : ℕ → Option Access) (t : ℕ) (was w : Waiting) (reason : On)
+    → HasWaiters maps chains rs os rows who at stays unmet → entry rows t ≡ Some was → Some (with_on was reason) ≡ Some w → Suits maps t w
 turned_suits maps chains rs os rows who at t was w reason has there same =
     subst (λ (z : Waiting). Suits maps t z) (some_is (with_on was reason) w same) (record { allowed = has.allowed t was there; sized = has.sized t was there })
 
@@ -219,14 +245,20 @@ turned_reason : (maps : Mapped) (chains : ChainTable) (rs : ResidentTable) (os :
 turned_reason maps chains rs os t was w reason holds same =
     subst (λ (z : Waiting). Reason maps chains rs os t z.want z.on) (some_is (with_on was reason) w same) holds
 
+turned_passed : (stays unmet : PageKey → Type 0) (maps : Mapped) (chains : ChainTable) (t : ℕ) (was w : Waiting) (reason : On) → Passed stays unmet maps chains t was.want reason → Some (with_on was reason) ≡ Some w
+    → Passed stays unmet maps chains t w.want w.on
+turned_passed stays unmet maps chains t was w reason holds same =
+    subst (λ (z : Waiting). Passed stays unmet maps chains t z.want z.on) (some_is (with_on was reason) w same) holds
+
 -- an access waits for something else; before, for no page of which a word is outstanding
-pub waiters_turned : (maps : Mapped) (chains : ChainTable) (rs : ResidentTable) (os : ObjectTable) (rows rows2 : List Waiting) (at : ℕ → Option Access) (t : ℕ) (was : Waiting) (reason : On)
-    → HasWaiters maps chains rs os rows (is_woken woken.Nobody) at → entry rows t ≡ Some was → AsksNone rs was.on → PutsEntry t (Some (with_on was reason)) rows rows2 → Reason maps chains rs os t was.want reason
-    → HasWaiters maps chains rs os rows2 (is_woken woken.Nobody) at
-waiters_turned maps chains rs os rows rows2 at t was reason has is none put holds =
+pub waiters_turned : {stays unmet : PageKey → Type 0} (maps : Mapped) (chains : ChainTable) (rs : ResidentTable) (os : ObjectTable) (rows rows2 : List Waiting) (at : ℕ → Option Access) (t : ℕ) (was : Waiting) (reason : On)
+    → HasWaiters maps chains rs os rows (is_woken woken.Nobody) at stays unmet → entry rows t ≡ Some was → AsksNone rs was.on → PutsEntry t (Some (with_on was reason)) rows rows2 → Reason maps chains rs os t was.want reason
+    → Passed stays unmet maps chains t was.want reason → HasWaiters maps chains rs os rows2 (is_woken woken.Nobody) at stays unmet
+waiters_turned {stays = stays} {unmet = unmet} maps chains rs os rows rows2 at t was reason has is none put holds passed =
     waiters_put maps chains rs rs os rows rows2 at at t (Some (with_on was reason)) has put (turned_is maps rows rows2 t was reason at has.is is put)
     (λ w it. turned_suits maps chains rs os rows (is_woken woken.Nobody) at t was w reason has is it)
     (λ w it. turned_reason maps chains rs os t was w reason holds it)
+    (λ w it. turned_passed stays unmet maps chains t was w reason passed it)
     (λ what o p awaits. awaits)
     (λ o p row found away. asker_kept rows rows2 t was (Some (with_on was reason)) o p put is (λ why. none.at o p row found away why) (has.askers o p row found away))
     has.ready
@@ -242,20 +274,21 @@ its_asker rows rows2 t was key o p put same also =
     }
 
 -- an access waits for a page of which a word was outstanding before
-pub waiters_joined : (maps : Mapped) (chains : ChainTable) (rs : ResidentTable) (os : ObjectTable) (rows rows2 : List Waiting) (at : ℕ → Option Access) (t : ℕ) (was : Waiting) (key : PageKey)
-    → HasWaiters maps chains rs os rows (is_woken woken.Nobody) at → entry rows t ≡ Some was → AsksNone rs was.on → IsPlaceOf maps chains t was.want key → IsAwaitedBy rs was.want key.object.0 key.page.0 → PutsEntry t (Some (with_on was (on.Page key))) rows rows2
-    → HasWaiters maps chains rs os rows2 (is_woken woken.Nobody) at
-waiters_joined maps chains rs os rows rows2 at t was key has is none aims awaits put = waiters_turned maps chains rs os rows rows2 at t was (on.Page key) has is none put (aims, awaits)
+pub waiters_joined : {stays unmet : PageKey → Type 0} (maps : Mapped) (chains : ChainTable) (rs : ResidentTable) (os : ObjectTable) (rows rows2 : List Waiting) (at : ℕ → Option Access) (t : ℕ) (was : Waiting) (key : PageKey)
+    → HasWaiters maps chains rs os rows (is_woken woken.Nobody) at stays unmet → entry rows t ≡ Some was → AsksNone rs was.on → IsPlaceBehind stays maps chains t was.want key → IsAwaitedBy rs was.want key.object.0 key.page.0 → PutsEntry t (Some (with_on was (on.Page key))) rows rows2
+    → HasWaiters maps chains rs os rows2 (is_woken woken.Nobody) at stays unmet
+waiters_joined maps chains rs os rows rows2 at t was key has is none behind awaits put = waiters_turned maps chains rs os rows rows2 at t was (on.Page key) has is none put (behind_place behind, awaits) behind
 
 -- a word of a page is asked for of which none was outstanding, for an access that waits for it now
-pub waiters_asked : (maps : Mapped) (chains : ChainTable) (rs rs2 : ResidentTable) (os : ObjectTable) (rows rows2 : List Waiting) (at : ℕ → Option Access) (t : ℕ) (was : Waiting) (key : PageKey) (row : PageRow)
-    → HasWaiters maps chains rs os rows (is_woken woken.Nobody) at → entry rows t ≡ Some was → AsksNone rs was.on → IsPlaceOf maps chains t was.want key → IsUnawaited (row_at rs key.object.0 key.page.0)
+pub waiters_asked : {stays unmet : PageKey → Type 0} (maps : Mapped) (chains : ChainTable) (rs rs2 : ResidentTable) (os : ObjectTable) (rows rows2 : List Waiting) (at : ℕ → Option Access) (t : ℕ) (was : Waiting) (key : PageKey) (row : PageRow)
+    → HasWaiters maps chains rs os rows (is_woken woken.Nobody) at stays unmet → entry rows t ≡ Some was → AsksNone rs was.on → IsPlaceBehind stays maps chains t was.want key → IsUnawaited (row_at rs key.object.0 key.page.0)
     → PutsRow key.object.0 key.page.0 (Some row) rs rs2 → IsAwaitedBy rs2 was.want key.object.0 key.page.0 → PutsEntry t (Some (with_on was (on.Page key))) rows rows2 → (row.here ≡ false → ready_in (object_at os key.object.0) ≡ true)
-    → HasWaiters maps chains rs2 os rows2 (is_woken woken.Nobody) at
-waiters_asked maps chains rs rs2 os rows rows2 at t was key row has is none aims fresh put awaits turns ready =
+    → HasWaiters maps chains rs2 os rows2 (is_woken woken.Nobody) at stays unmet
+waiters_asked {stays = stays} {unmet = unmet} maps chains rs rs2 os rows rows2 at t was key row has is none behind fresh put awaits turns ready =
     waiters_put maps chains rs rs2 os rows rows2 at at t (Some (with_on was (on.Page key))) has turns (turned_is maps rows rows2 t was (on.Page key) at has.is is turns)
     (λ w it. turned_suits maps chains rs os rows (is_woken woken.Nobody) at t was w (on.Page key) has is it)
-    (λ w it. turned_reason maps chains rs2 os t was w (on.Page key) (aims, awaits) it)
+    (λ w it. turned_reason maps chains rs2 os t was w (on.Page key) (behind_place behind, awaits) it)
+    (λ w it. turned_passed stays unmet maps chains t was w (on.Page key) behind it)
     (λ what o p other. awaited_kept key.object.0 key.page.0 (Some row) rs rs2 what o p put fresh other)
     (λ o p r found waits. elim (row_cases key.object.0 key.page.0 (Some row) rs rs2 put o p) [
       | inl now ↦ its_asker rows rows2 t was key o p turns now.object now.page
@@ -285,7 +318,7 @@ put_now o p x rs rs2 put = elim (row_cases o p x rs rs2 put o p) [
 ]
 
 -- whose lock keeps nobody out has no unlock outstanding: for each that is, somebody waits whom the lock keeps out
-pub open_unsent : (maps : Mapped) (chains : ChainTable) (rs : ResidentTable) (os : ObjectTable) (rows : List Waiting) (at : ℕ → Option Access) (o p : ℕ) (row : PageRow) → HasWaiters maps chains rs os rows (is_woken woken.Nobody) at
+pub open_unsent : {stays unmet : PageKey → Type 0} (maps : Mapped) (chains : ChainTable) (rs : ResidentTable) (os : ObjectTable) (rows : List Waiting) (at : ℕ → Option Access) (o p : ℕ) (row : PageRow) → HasWaiters maps chains rs os rows (is_woken woken.Nobody) at stays unmet
     → row_at rs o p ≡ Some row → row.here ≡ true → keeps_out row.lock true ≡ false → row.unlock_sent ≡ false
 open_unsent maps chains rs os rows at o p row has found here open_to = by_test row.unlock_sent refl
   where

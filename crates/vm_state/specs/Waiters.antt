@@ -21,6 +21,7 @@ use Rattle.vm_waits.specs.declared.waiting.Waiting.{Waiting}
 use Rattle.vm_waits.specs.declared.waiting.Want.{Want}
 use Rattle.vm_waits.specs.declared.waiting.Want.TheVariants as want
 use Rattle.vm_maps.specs.Judge.{IsAllowed}
+use Rattle.vm_state.specs.Passed.{Passed}
 use Rattle.vm_state.specs.Pagers.{ready_in}
 
 -- where a slow copy's pages are to be mapped
@@ -101,12 +102,14 @@ is_woken (woken.Page key) reason = woken_page key reason
 is_woken (woken.Fails key) reason = woken_page key reason
 
 -- The accesses of tasks here that wait in the history wait here, each with an entry that allows it, within a page; each has a reason, but those that are to be woken
--- may have lost theirs; and somebody waits for each page that is asked, whose pager is ready, and for each unlock that is outstanding.
-pub record HasWaiters (maps : Mapped) (chains : ChainTable) (resident : ResidentTable) (objects : ObjectTable) (rows : List Waiting) (who : On → Bool) (waiting_at : ℕ → Option Access) : Type 0 where
+-- may have lost theirs, and the others have passed over places where nothing has come since; and somebody waits for each page that is asked, whose pager is ready, and for
+-- each unlock that is outstanding.
+pub record HasWaiters (maps : Mapped) (chains : ChainTable) (resident : ResidentTable) (objects : ObjectTable) (rows : List Waiting) (who : On → Bool) (waiting_at : ℕ → Option Access) (stays unmet : PageKey → Type 0) : Type 0 where
   pub is : (t : ℕ) → is_some (entries_in t maps) ≡ true → waiting_at t ≡ waiting_in maps.size (entry rows t)
   pub allowed : (t : ℕ) (w : Waiting) → entry rows t ≡ Some w → IsAllowed maps t (address_in maps.size w.want) (need_in w.want)
   pub sized : (t : ℕ) (w : Waiting) → entry rows t ≡ Some w → IsSizedWant maps.size w.want
   pub reasons : (t : ℕ) (w : Waiting) → entry rows t ≡ Some w → who w.on ≡ false → Reason maps chains resident objects t w.want w.on
+  pub passed : (t : ℕ) (w : Waiting) → entry rows t ≡ Some w → who w.on ≡ false → Passed stays unmet maps chains t w.want w.on
   pub aims : (t : ℕ) (w : Waiting) (key : PageKey) → entry rows t ≡ Some w → w.on ≡ on.Page key → IsPlaceOf maps chains t w.want key
   pub askers : (o p : ℕ) (row : PageRow) → row_at resident o p ≡ Some row → is_awaited row ≡ true → Asker rows o p
   pub ready : (o p : ℕ) (row : PageRow) → row_at resident o p ≡ Some row → row.here ≡ false → ready_in (object_at objects o) ≡ true

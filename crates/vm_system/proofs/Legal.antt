@@ -25,6 +25,9 @@ use Rattle.vm_legal.proofs.Serving.{one_served}
 use Rattle.vm_system.proofs.Served.{nobodys_own}
 use Rattle.vm_model.specs.Moments.{BeforeSteps}
 use Rattle.vm_system.proofs.Silent.{ends_lined}
+use Rattle.vm_legal.specs.InTurn.{NoneSleeps}
+use Rattle.vm_system.proofs.Awake.{awake_of}
+use Rattle.vm_system.proofs.Silent.{awake_code, awake_line}
 
 -- a line in front changes no refusal and no head
 
@@ -139,6 +142,7 @@ pub record IsStep (header : Header) (outside : Outside) (c : Numbered) (h events
   pub rests : IsAtRest header h → IsAtRest header (events ++ event.Line c.line ∷ h)
   pub recalls : AllRecalled header h → AllRecalled header (events ++ event.Line c.line ∷ h)
   pub turns : HostsServed header (events ++ event.Line c.line ∷ h)
+  pub awake : EachEvent (HasCause header outside) (events ++ event.Line c.line ∷ h) → NoneSleeps header h → NoneSleeps header (events ++ event.Line c.line ∷ h)
 
 pub legal_step : (header : Header) (outside : Outside) (c : Numbered) (h events : List Event) → AllSupplied header → IsStep header outside c h events
     → KeepsCanonical header outside c h (events ++ event.Line c.line ∷ h)
@@ -161,7 +165,7 @@ legal_step header outside c h events supplied step run legal =
     let rests = step.rests legal.rests in
     let ended : BeforeSteps (StepIsInTurn header) (events ++ past) = steps_whole (StepIsInTurn header) events past step.inner (legal.last, legal.ended) in
     let recalled : BeforeSteps (AllRecalled header) (events ++ past) = steps_whole (AllRecalled header) events past step.inner (legal.recalls, legal.recalled) in
-    let last : StepIsInTurn header (events ++ past) = record { ended = ends_lined header c.line events h step.inner; served = step.turns } in
+    let last : StepIsInTurn header (events ++ past) = record { ended = ends_lined header c.line events h step.inner; served = step.turns; awake = step.awake causes legal.last.awake } in
     record {
       so_far = record { follows = follows; holds = holds; rests = rests; ended = ended; last = last; recalled = recalled; recalls = step.recalls legal.recalls };
       whole = λ none. record { follows = (h, events, refl, step.made, step.whole none, legal.follows); holds = holds; rests = rests; ended = ended; last = last; recalled = recalled; recalls = step.recalls legal.recalls };
@@ -184,6 +188,7 @@ legal_refused header outside c why h supplied refused = legal_step header outsid
   };
   recalls = λ recalled. recalled_more header (event.Refused why ∷ event.Line c.line ∷ []) h (tt, (tt, tt)) recalled;
   turns = one_served header 0 (event.Refused why ∷ []) (event.Line c.line ∷ h) tt tt (tt, tt) (nobodys_own header 0 (event.Refused why ∷ []) (event.Line c.line ∷ h) (tt, tt));
+  awake = λ causes awake. awake_code header why (event.Line c.line ∷ h) (awake_line header c.line h awake);
 })
 
 -- a command's head, and what follows from it
@@ -203,6 +208,7 @@ legal_began header outside c h events hosts supplied fine began =
       rests = λ rests. record { prompt = began.ended.prompt; paid = began.paid; served = served_said header c.line h events (others_said header events (event.Line c.line ∷ h) stretch.said) rests.served };
       recalls = λ recalled. recalled_said header c.line h events (others_said header events (event.Line c.line ∷ h) stretch.said) recalled;
       turns = record { before = event.Line c.line ∷ h; events = events; is = refl; begins = tt; inner = stretch.inner; host = began.host; acts = tt; turns = began.turns };
+      awake = λ causes before. awake_of header outside hosts (events ++ event.Line c.line ∷ h) began.ended.rests began.ended.queues causes;
     })
 
 idle_done : (header : Header) (group past : List Event) (doing : Command) → is_idle doing ≡ true → IsDoneInTurn header doing group past
@@ -251,6 +257,7 @@ legal_passed header outside c h asked events hosts supplied idle fine is says we
         acts = tt;
         turns = record { front = asked; served = more; is = went.is; own = nobodys_own header 0 asked past says.nobodys; turns = went.turns };
       };
+      awake = λ causes before. awake_of header outside hosts (events ++ past) went.ended.rests went.ended.queues causes;
     })
 
 -- a settle begins with its line
@@ -265,4 +272,5 @@ legal_settle header outside line count h supplied = legal_step header outside (r
   rests = λ rests. record { prompt = prompt_line header line h rests.prompt; paid = paid_inner header line h [] tt refl; served = served_said header line h [] tt rests.served };
   recalls = λ recalled. recalled_said header line h [] tt recalled;
   turns = one_served header 0 [] (event.Line line ∷ h) tt tt tt tt;
+  awake = λ causes awake. awake_line header line h awake;
 })

@@ -1,4 +1,5 @@
 mod Common
+pub mod Awake
 pub mod Agreeing
 pub mod Answering
 pub mod Apart

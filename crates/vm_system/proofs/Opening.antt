@@ -11,6 +11,7 @@ use Rattle.vm_system.proofs.Legal.{flat_of}
 use Rattle.vm_legal.proofs.Turns.{cut_in_turn, so_far_of as weak_so_far}
 use Rattle.vm_legal.specs.Follows.{FollowsSoFar}
 use Rattle.vm_legal.specs.InTurn.{AllRecalled, StepIsInTurn}
+use Rattle.vm_system.proofs.Awake.{awake_of}
 
 -- what holds in front of a taking
 pub record HoldsUpTo (header : Header) (outside : Outside) (past : List Event) : Type 0 where
@@ -102,13 +103,14 @@ keeps_open header outside count s new stands took line run legal =
     let items = new.history.items in
     let step = took.step in
     let follows : FollowsSoFarInTurn header outside (numbered ∷ run) items = follows_open header outside count line run s.history.items items step legal.follows in
+    let causes : EachEvent (HasCause header outside) items = so_far header outside (numbered ∷ run) items (weak_so_far header outside (numbered ∷ run) items follows) in
     record {
       so_far = record {
         follows = follows;
-        holds = holds_taken given items step (so_far header outside (numbered ∷ run) items (weak_so_far header outside (numbered ∷ run) items follows)) (up_to_open header outside (numbered ∷ run) s stands legal);
+        holds = holds_taken given items step causes (up_to_open header outside (numbered ∷ run) s stands legal);
         rests = record { prompt = took.prompt; paid = took.paid; served = took.stands.served };
         ended = steps_taken (StepIsInTurn header) given items step (legal.last, legal.ended);
-        last = took.ended;
+        last = record { ended = took.ended; served = took.turns; awake = awake_of header outside new.hosts items took.stands.rests took.stands.queues causes };
         recalled = steps_taken (AllRecalled header) given items step (legal.recalls, legal.recalled);
         recalls = took.stands.recalled;
       };

@@ -9,6 +9,7 @@ use Rattle.std.proofs.Common.{sym, ◌∙◌}
 use Rattle.vm_legal.specs.Steps.{error_taken}
 use Rattle.vm_model.specs.declared.message.Channel.TheVariants.{Up}
 use Rattle.vm_model.specs.declared.message.Message.{Message}
+use Rattle.vm_legal.specs.InTurn.{NoneSleeps}
 
 -- the accesses that wait, and what they wait for
 
@@ -91,6 +92,20 @@ prompt_line header line h prompt host below = record {
   swept = let swept = (prompt host below).swept in record { pages = swept.pages; controls = swept.controls; declared_pages = swept.declared_pages; declared_controls = swept.declared_controls };
 }
 
+pub awake_line : (header : Header) (line : ℕ) (h : List Event) → NoneSleeps header h → NoneSleeps header (event.Line line ∷ h)
+awake_line header line h awake host known task sleeper =
+    awake host known task
+    (record {
+      access = sleeper.access;
+      waits = waits_of_line header task sleeper.access line h sleeper.waits;
+      on_host = sleeper.on_host;
+      object = sleeper.object;
+      page = sleeper.page;
+      comes = record { top = sleeper.comes.top; top_page = sleeper.comes.top_page; steps = sleeper.comes.steps; is_top = sleeper.comes.is_top; walks = sleeper.comes.walks };
+      here = sleeper.here;
+      let_in = sleeper.let_in;
+    })
+
 -- a code
 
 abbrev waits_code : (header : Header) (task : ℕ) (access : Access) (why : Code) (h : List Event) → Waits header task access h → Waits header task access (event.Refused why ∷ h)
@@ -164,6 +179,20 @@ not_in_vain_code header host why h none task access waits on = elim (none task a
   | inl for ↦ inl (for_pager_code header host task access why h for)
   | inr full ↦ inr (full_code header host why h full)
 ]
+
+pub awake_code : (header : Header) (why : Code) (h : List Event) → NoneSleeps header h → NoneSleeps header (event.Refused why ∷ h)
+awake_code header why h awake host known task sleeper =
+    awake host known task
+    (record {
+      access = sleeper.access;
+      waits = waits_of_code header task sleeper.access why h sleeper.waits;
+      on_host = sleeper.on_host;
+      object = sleeper.object;
+      page = sleeper.page;
+      comes = record { top = sleeper.comes.top; top_page = sleeper.comes.top_page; steps = sleeper.comes.steps; is_top = sleeper.comes.is_top; walks = sleeper.comes.walks };
+      here = sleeper.here;
+      let_in = sleeper.let_in;
+    })
 
 pub prompt_code : (header : Header) (why : Code) (h : List Event) → Prompt header h → Prompt header (event.Refused why ∷ h)
 prompt_code header why h prompt host below = record {

@@ -105,7 +105,8 @@ took_down given line number host object control m s new events may head passed f
       step = takes_step given channel m events new.history.items items head may.may (front_settled given s front) (front_suffice given s front) passed.follows.follows stretch.licensed stretch.own_bytes stretch.frames stretch.inner;
       prompt = rw items passed.ended.prompt;
       paid = owed;
-      ended = rw items (record { ended = ended; served = served_down header outside doing host object control m given.past new.hosts events passed });
+      ended = rw items ended;
+      turns = rw items (served_down header outside doing host object control m given.past new.hosts events passed);
     }
 
 -- pagers and contents have no part in that

@@ -353,7 +353,8 @@ took_filed given host object m s new old table events filed followed =
           (each_both IsConsequence more events past (subst (λ (z : List Event). EachIn IsConsequence more z) same followed.follows.follows) (reply_consequences Files events past told)) licensed own frames (inner_both more events stretch.inner (reply_inner Files events told));
       prompt = followed.prompt;
       paid = followed.stands.paid;
-      ended = record { ended = rw (items ∙ sym (append_assoc more events past)) (ends_up header host object m (more ++ events) given.past (inner_both more events stretch.inner (reply_inner Files events told))); served = followed.turns };
+      ended = rw (items ∙ sym (append_assoc more events past)) (ends_up header host object m (more ++ events) given.past (inner_both more events stretch.inner (reply_inner Files events told)));
+      turns = followed.turns;
     }
 
 pub devices_filed : (given : Step) (line : Option ℕ) (number : ChannelId) (host : HostId) (object : ObjectId) (m : Message) (s : State) (old table : FileTable) (events : Listed Event) (before now : ℕ) (new : List Event)

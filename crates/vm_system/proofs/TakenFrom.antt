@@ -11,6 +11,11 @@ use Rattle.vm_legal.specs.InTurn.{AllRecalled, StepIsInTurn}
 use Rattle.vm_legal.proofs.Serving.{one_served}
 use Rattle.vm_model.specs.Moments.{BeforeSteps}
 use Rattle.std.proofs.Common.{[]}
+use Rattle.vm_legal.specs.InTurn.{NoneSleeps}
+use Rattle.vm_system.proofs.Awake.{awake_of}
+use Rattle.vm_system.proofs.Silent.{awake_line}
+use Rattle.vm_model.specs.Moments.{EachEvent}
+use Rattle.vm_legal.specs.Licences.{HasCause}
 
 some_none : {A : Type 0} → {x : A} → Some x ≡ None → ⊥
 some_none is = absurd (let bad : true ≡ false = ap is_some is in cc)
@@ -68,8 +73,8 @@ up_to_line header outside line run s stands legal =
     }
 
 -- a line alone is in its turn
-lined : (header : Header) (line : ℕ) (h : List Event) → StepIsInTurn header (event.Line line ∷ h)
-lined header line h = record { ended = ends_lined header line [] h tt; served = one_served header 0 [] (event.Line line ∷ h) tt tt tt tt }
+lined : (header : Header) (line : ℕ) (h : List Event) → NoneSleeps header h → StepIsInTurn header (event.Line line ∷ h)
+lined header line h awake = record { ended = ends_lined header line [] h tt; served = one_served header 0 [] (event.Line line ∷ h) tt tt tt tt; awake = awake_line header line h awake }
 
 pub keeps_taken : (header : Header) (outside : Outside) (line : ℕ) (channel : Channel) (s new : State) → SystemStands header outside s → refusal header s.history.items (command.Take channel) ≡ None
     → Took (taking_of header outside line channel s.history.items) new → KeepsCanonical header outside (record { line = line; command = command.Take channel }) s.history.items new.history.items
@@ -79,13 +84,15 @@ keeps_taken header outside line channel s new stands fine took run legal =
     let items = new.history.items in
     let follows : FollowsInTurn header outside (numbered ∷ run) items = follows_take header outside line channel run s.history.items items fine took.step legal.follows in
     let opened : FollowsSoFarInTurn header outside (numbered ∷ run) items = open_in_turn header outside (numbered ∷ run) items follows in
-    let holds : Holds header outside items = holds_taken given items took.step (so_far header outside (numbered ∷ run) items (weak_so_far header outside (numbered ∷ run) items opened)) (up_to_line header outside line run s stands legal) in
+    let causes : EachEvent (HasCause header outside) items = so_far header outside (numbered ∷ run) items (weak_so_far header outside (numbered ∷ run) items opened) in
+    let holds : Holds header outside items = holds_taken given items took.step causes (up_to_line header outside line run s stands legal) in
+    let last : StepIsInTurn header items = record { ended = took.ended; served = took.turns; awake = awake_of header outside new.hosts items took.stands.rests took.stands.queues causes } in
     let rests : IsAtRest header items = record { prompt = took.prompt; paid = took.paid; served = took.stands.served } in
-    let ended : BeforeSteps (StepIsInTurn header) items = steps_taken (StepIsInTurn header) given items took.step (lined header line s.history.items, (legal.last, legal.ended)) in
+    let ended : BeforeSteps (StepIsInTurn header) items = steps_taken (StepIsInTurn header) given items took.step (lined header line s.history.items legal.last.awake, (legal.last, legal.ended)) in
     let recalled : BeforeSteps (AllRecalled header) items = steps_taken (AllRecalled header) given items took.step (recalled_other header (event.Line line) s.history.items tt legal.recalls, (legal.recalls, legal.recalled)) in
     record {
-      so_far = record { follows = opened; holds = holds; rests = rests; ended = ended; last = took.ended; recalled = recalled; recalls = took.stands.recalled };
-      whole = λ none. record { follows = follows; holds = holds; rests = rests; ended = ended; last = took.ended; recalled = recalled; recalls = took.stands.recalled };
+      so_far = record { follows = opened; holds = holds; rests = rests; ended = ended; last = last; recalled = recalled; recalls = took.stands.recalled };
+      whole = λ none. record { follows = follows; holds = holds; rests = rests; ended = ended; last = last; recalled = recalled; recalls = took.stands.recalled };
       none = inr refl;
     }
 
@@ -100,6 +107,6 @@ cuts_taken header outside line channel s new stands fine (inr step) = inr (λ ru
     record {
       follows = cut_in_turn header outside (numbered ∷ run) new opened;
       holds = holds_taken given new step (so_far header outside (numbered ∷ run) new weak) (up_to_line header outside line run s stands legal);
-      ended = steps_taken (StepIsInTurn header) given new step (lined header line s.history.items, (legal.last, legal.ended));
+      ended = steps_taken (StepIsInTurn header) given new step (lined header line s.history.items legal.last.awake, (legal.last, legal.ended));
       recalled = steps_taken (AllRecalled header) given new step (recalled_other header (event.Line line) s.history.items tt legal.recalls, (legal.recalls, legal.recalled));
     })

@@ -366,7 +366,8 @@ took_shared given host object m s new old table events said followed =
           (each_both IsConsequence more events past (subst (λ (z : List Event). EachIn IsConsequence more z) same followed.follows.follows) (reply_consequences Files events past replies)) licensed own frames (inner_both more events stretch.inner (reply_inner Files events replies));
       prompt = followed.prompt;
       paid = followed.stands.paid;
-      ended = record { ended = rw (items ∙ sym (append_assoc more events past)) (ends_up header host object m (more ++ events) given.past (inner_both more events stretch.inner (reply_inner Files events replies))); served = followed.turns };
+      ended = rw (items ∙ sym (append_assoc more events past)) (ends_up header host object m (more ++ events) given.past (inner_both more events stretch.inner (reply_inner Files events replies)));
+      turns = followed.turns;
     }
 
 -- with room made behind the server's answer, all but the server is as it was

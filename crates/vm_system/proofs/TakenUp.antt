@@ -234,7 +234,8 @@ took_up given host object m s new old slots events reply followed =
           (each_both IsConsequence more events past (subst (λ (z : List Event). EachIn IsConsequence more z) same followed.follows.follows) (reply_consequences Paging events past told)) licensed own frames (inner_both more events stretch.inner (reply_inner Paging events told));
       prompt = followed.prompt;
       paid = followed.stands.paid;
-      ended = record { ended = rw (items ∙ sym (append_assoc more events past)) (ends_up header host object m (more ++ events) given.past (inner_both more events stretch.inner (reply_inner Paging events told))); served = followed.turns };
+      ended = rw (items ∙ sym (append_assoc more events past)) (ends_up header host object m (more ++ events) given.past (inner_both more events stretch.inner (reply_inner Paging events told)));
+      turns = followed.turns;
     }
 
 -- what was stored stands in the areas behind the answer

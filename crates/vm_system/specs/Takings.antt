@@ -12,7 +12,7 @@ use Rattle.vm_legal.specs.Debts.{IsPaid}
 use Rattle.vm_legal.specs.Follows.{IsConsequence}
 use Rattle.vm_legal.specs.Frames.{FramesSuffice}
 use Rattle.vm_legal.specs.Licences.{MayTake}
-use Rattle.vm_legal.specs.InTurn.{AllRecalled, AllInTurn, StepIsInTurn}
+use Rattle.vm_legal.specs.InTurn.{AllRecalled, AllInTurn, EndsAll}
 use Rattle.vm_legal.specs.Serving.{HostsServed}
 use Rattle.vm_legal.specs.Prompt.{AllServed, Prompt}
 use Rattle.vm_legal.specs.Stretches.{AllInner, EachIn, MomentsIn}
@@ -49,7 +49,8 @@ pub record Took (given : Step) (new : State) : Type 0 where
   pub step : TakesStep given new.history.items
   pub prompt : Prompt given.header new.history.items
   pub paid : IsPaid given.header new.history.items
-  pub ended : StepIsInTurn given.header new.history.items
+  pub ended : EndsAll given.header new.history.items
+  pub turns : HostsServed given.header new.history.items
 
 -- memory ended: nothing was told, or a part of the step
 abbrev pub MayBeCut : Step → List Event → List Event → Type 0

@@ -1,5 +1,5 @@
 -- The whole history with the slow copy is canonical.
-use Rattle.std.proofs.Common.{ℕ, zero, suc, ◌≡◌, ◌<◌, ◌≤◌, Bool, Option, List, [], ◌∷◌, true, false, refl, subst, ap, sym, arith, Some, None, inl, inr}
+use Rattle.std.proofs.Common.{ℕ, zero, suc, ◌≡◌, ◌<◌, ◌≤◌, Bool, Option, List, [], ◌∷◌, true, false, refl, subst, ap, sym, arith, Some, None, inl, inr, ◌∙◌}
 use Rattle.std.proofs.lemmas.Bool.Decides.{nat_tests}
 use Rattle.std.specs.Prelude.{◌==◌, ◌&&◌, ◌||◌, if◌then◌else◌}
 use Rattle.vm_base.specs.declared.entry.Entry.{Entry}
@@ -19,7 +19,7 @@ use Rattle.vm_legal.specs.Accesses.{Waits}
 use Rattle.vm_legal.specs.Bytes.{FlatBytes, OwnBytes}
 use Rattle.vm_legal.specs.Debts.{IsPaid}
 use Rattle.vm_legal.specs.Frames.{FramesSuffice, frames_used}
-use Rattle.vm_legal.specs.InTurn.{AllInTurn, AllRecalled, FollowsInTurn, StepIsInTurn}
+use Rattle.vm_legal.specs.InTurn.{NoneSleeps, AllInTurn, AllRecalled, FollowsInTurn, StepIsInTurn}
 use Rattle.vm_legal.specs.Serving.{HostsServed}
 use Rattle.vm_legal.proofs.Serving.{one_served}
 use Rattle.vm_legal.specs.Legal.{CanonicalFor}
@@ -34,7 +34,7 @@ use Rattle.vm_quiet.proofs.Letters.{never}
 use Rattle.vm_quiet.specs.Unended.{copied, down, file, filled, host, mapped, page, task, up, zero_page}
 use Rattle.vm_quiet.specs.Unended as unended
 use Rattle.vm_worked.specs.Worked.{both, commands, header, history, outside}
-use Rattle.vm_worked.proofs.Steps.{clash, each_step, ends_nobody, nobody, number_is, one_host, one_writer, owes_nothing, recalls, served, suffice, not_shared}
+use Rattle.vm_worked.proofs.Steps.{awake_bare, awake_idle, clash, each_step, ends_nobody, nobody, number_is, one_host, one_writer, owes_nothing, recalls, served, suffice, not_shared}
 
 -- the moments at which a step has ended
 
@@ -356,46 +356,69 @@ made_own h is = grind (arith, nat_tests)
 nobodys : (h : ℕ) → false ≡ true → h ≡ 1
 nobodys h is = absurd (cc)
 
-in_turn : (past : List Event) → error_taken header.size past ≡ None → HostsServed header past → StepIsInTurn header past
-in_turn past none served = record { ended = ends_nobody header past none; served = served }
+in_turn : (past : List Event) → error_taken header.size past ≡ None → HostsServed header past → NoneSleeps header past → StepIsInTurn header past
+in_turn past none served awake = record { ended = ends_nobody header past none; served = served; awake = awake }
+
+-- while the page is asked nothing is here
+away_asked : (o p : ℕ) → (page_on header 0 o p asked).here ≡ false
+away_asked o p = by (0 == o) (0 == p) refl refl
+  where
+    by : (a b : Bool) → (0 == o) ≡ a → (0 == p) ≡ b → (page_on header 0 o p asked).here ≡ false
+    by true true one two = rw (one, two) refl
+    by true false one two = rw (one, two) refl
+    by false b one two = rw one refl
+
+away_again : (o p : ℕ) → (page_on header 0 o p settles_again).here ≡ false
+away_again o p = away_asked o p
+
+away_supplied : (o p : ℕ) → (page_on header 0 o p supplied).here ≡ false
+away_supplied o p = away_asked o p
+
+idle : (past : List Event) → ((b : Bool) → ◌≡◌ {A = Option Access} (if b then None else None) None) → ((task : ℕ) → waiting task past ≡ (if 0 == task then None else None)) → NoneSleeps header past
+idle past none is = awake_idle header past (λ task. is task ∙ none (0 == task))
 
 turn_supplied : StepIsInTurn header supplied
 turn_supplied = in_turn supplied refl (one_served header 1 (event.Sent down (message.Supply page 0 false zero_page) ∷ []) (event.Taken up (message.Request 1 page 1) ∷ settles_again) tt refl (tt, tt) (nobodys, tt))
+    (awake_bare header refl supplied away_supplied)
 
 turn_asked : StepIsInTurn header asked
 turn_asked =
     in_turn asked refl (one_served header 0 (event.Sent up (message.Request 1 page 1) ∷ event.RegionMade filled copied 1 ∷ event.BegunCopy task 0 16 32 ∷ []) (event.Line 7 ∷ settled) tt tt (tt, (tt, (tt, tt))) (own, (own, (own, tt))))
+    (awake_bare header refl asked away_asked)
 
 turn_readied : StepIsInTurn header readied
 turn_readied = in_turn readied refl (one_served header 1 (event.Sent down (message.Ready false 0) ∷ []) (event.Taken up (message.Init 1 16) ∷ settles) tt refl (tt, tt) (nobodys, tt))
+    (idle readied neither (λ task. refl))
 
 turn_opened : StepIsInTurn header opened
 turn_opened = in_turn opened refl (one_served header 0 map_group (event.Line 5 ∷ made) tt tt (tt, (tt, tt)) (own, (own, tt)))
+    (idle opened neither (λ task. refl))
 
 turn_now : StepIsInTurn header history
 turn_now =
     in_turn history refl
     (one_served header 0 (event.Entered task 32 16 filled 0 both Copy ∷ event.CopyEnded task ∷ event.CopiedPage task page file page copied ∷ []) (event.Taken down (message.Supply page 0 false zero_page) ∷ supplied) tt refl (tt, (tt, (tt, tt)))
     (own, (own, (own, tt))))
+    (awake_idle header history (λ task. ended (0 == task)))
 
 all_in_turn : BeforeSteps (StepIsInTurn header) history
 all_in_turn = (
   turn_supplied,
   (
-    in_turn settles_again refl (one_served header 0 [] settles_again tt tt tt tt),
+    in_turn settles_again refl (one_served header 0 [] settles_again tt tt tt tt) (awake_bare header refl settles_again away_again),
     (
       turn_asked,
       (
-        in_turn settled refl (one_served header 0 [] settled tt refl tt tt),
+        in_turn settled refl (one_served header 0 [] settled tt refl tt tt) (idle settled neither (λ task. refl)),
         (
           turn_readied,
           (
-            in_turn settles refl (one_served header 0 [] settles tt tt tt tt),
+            in_turn settles refl (one_served header 0 [] settles tt tt tt tt) (idle settles neither (λ task. refl)),
             (
               turn_opened,
               (
-                in_turn made refl (one_served header 0 (event.TaskMade task host ∷ []) (event.Line 4 ∷ []) tt tt (tt, tt) (made_own, tt)),
-                (in_turn [] refl (one_served header 0 [] [] tt tt tt tt), tt),
+                in_turn made refl (one_served header 0 (event.TaskMade task host ∷ []) (event.Line 4 ∷ []) tt tt (tt, tt) (made_own, tt)) (idle made neither (λ task. refl)),
+                (in_turn [] refl (one_served header 0 [] [] tt tt tt tt) (awake_idle header [] (λ task. refl)), tt),
               ),
             ),
           ),

@@ -11,12 +11,13 @@ use Rattle.vm_model.specs.Moments.{BeforeSteps, EachMoment}
 use Rattle.vm_model.specs.Waiting.{Access, waiting}
 use Rattle.vm_legal.specs.Debts.{IsPaid}
 use Rattle.vm_legal.specs.Frames.{FramesSuffice, frames_used}
-use Rattle.vm_legal.specs.InTurn.{AllRecalled, EndsAll}
+use Rattle.vm_legal.specs.InTurn.{AllRecalled, EndsAll, NoneSleeps}
 use Rattle.vm_legal.specs.Legal.{HasOneWriter}
 use Rattle.vm_legal.specs.Licences.{lock_taken, owed}
 use Rattle.vm_legal.specs.Outside.{is_shared}
 use Rattle.vm_legal.specs.Prompt.{AllServed, IsSwept, Prompt, PromptAt}
 use Rattle.vm_legal.specs.Steps.{Letter, absence_taken, error_taken, taken_letter}
+use Rattle.vm_legal.specs.Walks.{page_on}
 use Rattle.vm_legal.proofs.Locks.{no_request}
 use Rattle.vm_legal.proofs.Unshared.{NoneIsShared}
 use Rattle.vm_quiet.proofs.Letters.{never}
@@ -123,3 +124,14 @@ nobody header one past none swept =
       waits = λ t access waits on. no_access access (sym (none t) ∙ waits.waits);
       swept = swept;
     })
+
+-- nobody sleeps beside its page
+
+-- where nobody waits
+pub awake_idle : (header : Header) (past : List Event) → ((task : ℕ) → waiting task past ≡ None) → NoneSleeps header past
+awake_idle header past none host known task sleeper = no_access sleeper.access (sym (none task) ∙ sleeper.waits.waits)
+
+-- or where no page is here
+pub awake_bare : (header : Header) → length header.frames.items ≡ 1 → (past : List Event) → ((object page : ℕ) → (page_on header 0 object page past).here ≡ false) → NoneSleeps header past
+awake_bare header one past none zero known task sleeper = never (sym (none sleeper.object sleeper.page) ∙ sleeper.here)
+awake_bare header one past none (suc host) known task sleeper = absurd (omega (arith, known, one))

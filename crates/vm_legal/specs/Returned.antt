@@ -1,0 +1,28 @@
+-- Pages that went to their pagers and came back.
+use Rattle.std.specs.Prelude.{ℕ, ◌≡◌, ◌≤◌, ◌<◌, ◌==◌, ◌&&◌, ◌||◌, Bool, true, false, List, [], ◌∷◌}
+use Rattle.vm_model.specs.declared.event.Event.{Event}
+use Rattle.vm_model.specs.declared.event.Event.TheVariants as event
+use Rattle.vm_model.specs.declared.message.Channel.TheVariants.{Down, Up}
+use Rattle.vm_model.specs.declared.message.Message.TheVariants as message
+use Rattle.vm_model.specs.Controls.{last_control}
+
+-- the host has returned the page to its pager
+abbrev pub was_returned : ℕ → ℕ → ℕ → List Event → Bool
+was_returned h o p [] = false
+was_returned h o p (event.Sent (Up host object) (message.Return control page dirty keep bytes) ∷ past) =
+    (host.0 == h && (object.0 == o && page.0 == p)) || was_returned h o p past
+was_returned h o p (e ∷ past) = was_returned h o p past
+
+-- The pagers of temporary memory, whose objects are numbered from a number on, give the host only what it had returned, and lock nothing. Controls are numbered from one,
+-- and a page is returned to a control.
+abbrev pub OnlyReturned : ℕ → ℕ → List Event → Type 0
+OnlyReturned least h [] = Unit {0}
+OnlyReturned least h (event.Taken (Down host object control) (message.Supply page lock precious bytes) ∷ past) =
+    (host.0 ≡ h → least ≤ object.0 → (lock ≡ 0) × (was_returned h object.0 page.0 past ≡ true)) × OnlyReturned least h past
+OnlyReturned least h (event.Taken (Down host object control) (message.Lock page count returns flush lock reply) ∷ past) =
+    (host.0 ≡ h → object.0 < least) × OnlyReturned least h past
+OnlyReturned least h (event.Sent (Up host object) (message.Init control size) ∷ past) = (host.0 ≡ h → 0 < control) × OnlyReturned least h past
+OnlyReturned least h (event.Sent (Up host object) (message.Create control size) ∷ past) = (host.0 ≡ h → 0 < control) × OnlyReturned least h past
+OnlyReturned least h (event.Sent (Up host object) (message.Return control page dirty keep bytes) ∷ past) =
+    (host.0 ≡ h → 0 < last_control h object.0 past) × OnlyReturned least h past
+OnlyReturned least h (e ∷ past) = OnlyReturned least h past
