@@ -35,7 +35,7 @@ enum Status {
     ReadFault = 3,
     OutputFault = 4,
     EventLimit = 5,
-    NotBuilt = 7,
+    LeftOut = 64,
 }
 
 fn main() -> ExitCode {
@@ -76,7 +76,10 @@ fn run_source(shows: bool) -> Status {
     }
     match Script::read(&bytes) {
         Err((line, fault)) => tell(&format!("bad {line} {} {fault:?}\n", number_of(fault)), Status::BadScript),
-        Ok(Script { wild: Some(line), .. }) => tell(&format!("notbuilt {line}\n"), Status::NotBuilt),
+        Ok(Script { wild: Some(line), .. }) => {
+            eprintln!("line {line}: this baseline leaves wild objects out");
+            Status::LeftOut
+        }
         Ok(script) => run(&script, shows),
     }
 }

@@ -361,7 +361,7 @@ impl<'a> Reader<'a> {
         Ok(Command::Take { host, object, control: control.map(|control| control as u32) })
     }
 
-    // Reads a message that is said. Nothing of it is kept, since no wild object is built.
+    // Reads a message that is said. Nothing of it is kept, since wild objects are left out.
     fn check_message(&self, mut it: Fields) -> Result<(), Fault> {
         match it.word() {
             b"ready" => {

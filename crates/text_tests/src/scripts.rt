@@ -3,7 +3,7 @@ use crate::shows::shows;
 use std::test::*;
 use vm_base::{HostId, Inherit, ObjectId, ObjectKind, PageNo, Prot, TaskId};
 use vm_model::{Channel, Command, Declarations, Header, Message};
-use vm_text::{Line, read_script, unbuilt_header};
+use vm_text::{Line, read_script};
 
 const READ: Prot = Prot {
     read: true,
@@ -328,21 +328,4 @@ fn what_a_script_says(rt: HostRuntime) -> Result<(), Fail> {
         );
     }
     Ok(())
-}
-
-// Line 0 stands for none.
-#[test]
-fn headers_that_are_not_built(rt: HostRuntime) {
-    for (script, line) in [
-        ("", 0),
-        ("hosts 1 4\nframes 0 2\npage 16\nslots 3\ntask 0 0\n", 0),
-        ("hosts 2 4\n", 0),
-        ("page 16\r\n\thosts  08 4", 0),
-        ("hosts 1 4\nfile f 1\nfile g 4096\nload 0 0 1\n", 0),
-        ("# wild w 1\n\n hosts 01 4\n  file f 1\nshared s 1\n", 0),
-        ("shared s 1\nhosts 2 2\n\twild w 1", 3),
-        ("page 16\nwild w 2\nhosts 3 4\n", 2),
-    ] {
-        shows(&rt, unbuilt_header(script.as_bytes()).unwrap_or(0) == line);
-    }
 }

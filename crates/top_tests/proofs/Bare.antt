@@ -8,7 +8,7 @@ use Rattle.vm_model.specs.Named.{declared, named}
 use Rattle.vm_model.specs.declared.script.Header.{Header}
 use Rattle.vm_outside.specs.Areas.{Told}
 use Rattle.vm_system.specs.Keeping.{FilesAreTold}
-use Rattle.vm_system.specs.Stands.{IsSupplied}
+use Rattle.vm_system.specs.Stands.{IsServable}
 
 no_file : (header : Header) → header.objects.items ≡ [] → (o : ℕ) → is_file header o ≡ true → {A : Type 0} → A
 no_file header none o file = absurd (let bad : false ≡ true = sym (one (named header) (is_file_kept (declared header o)) (ap length none)) ∙ file in cc)
@@ -16,10 +16,9 @@ no_file header none o file = absurd (let bad : false ≡ true = sym (one (named 
     one : (n : ℕ) (b : Bool) → n ≡ 0 → nat_lt o n && b ≡ false
     one n b zero = let none : nat_lt o n ≡ false = grind (arith, nat_tests) in rw none refl
 
-pub bare : (header : Header) → IsRanged header → header.objects.items ≡ [] → IsSupplied header
+pub bare : (header : Header) → IsRanged header → header.objects.items ≡ [] → IsServable header
 bare header ranged none = record {
   ranged = ranged;
-  supplied = λ o below. let zero : named header ≡ 0 = ap length none in absurd (omega (arith, below, zero));
   names = λ one other first second same. no_file header none one first;
 }
 

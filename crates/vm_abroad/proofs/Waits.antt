@@ -18,6 +18,7 @@ use Rattle.vm_legal.specs.Frames.{frames_free}
 use Rattle.vm_legal.specs.Homes.{is_open, is_used}
 use Rattle.vm_legal.specs.Licences.{IsUnheld}
 use Rattle.vm_legal.specs.Living.{lives_on}
+use Rattle.vm_legal.proofs.Exhausted.{exhausted_still}
 use Rattle.vm_legal.specs.Prompt.{AReady, AnAnswer, AnUnlock, Awaits, EachLeads, HostIsFull, IsExhausted, IsSource, IsSwept, NoneInVain, WaitsForPager}
 use Rattle.vm_legal.specs.Walks.{Below, IsTop, Reach, Sight, Sinks, Walks, page_on, sight}
 use Rattle.vm_abroad.specs.Same.{SameFacts}
@@ -188,10 +189,7 @@ module _ (header : Header) (h : ℕ) (old new : List Event) (sound : Sound heade
   here_was o p here = sym (ap (λ z. z.here) (page_now o p)) ∙ here
 
   exhausted_now : IsExhausted header h old old → IsExhausted header h new new
-  exhausted_now is = record {
-    held = λ o p here. elim (is.held o p (here_was o p here)) [ inl waits ↦ inl (unlocked_now o p waits) | inr source ↦ inr (source_now o p source) ];
-    one = λ o p q r here there none nor. is.one o p q r (here_was o p here) (here_was q r there) (λ waits. none (unlocked_now o p waits)) (λ waits. nor (unlocked_now q r waits));
-  }
+  exhausted_now = exhausted_still header h old new here_was unlocked_now source_now
 
   free_now : frames_free header h new ≡ frames_free header h old
   free_now = let held = same.pages.held in let wired = same.pages.wired in omega (arith, held, wired)

@@ -200,16 +200,22 @@ impl Hosts {
         self.kernels[host.0 as usize].refusal(command, &self.ids, elsewhere)
     }
 
-    /// Whether a control of an object lives on a host.
-    pub fn has_control(&self, host: HostId, object: ObjectId) -> bool
+    /// The control of an object that lives on a host, if one does.
+    pub fn control(&self, host: HostId, object: ObjectId) -> Option<u32>
         ghost given: { Step }
         requires rests { AllRest given.header self.now given.past }
         requires known { host.0 < length given.header.frames.items }
-        ensures { result ≡ is_some (live_control host.0 object.0 given.past) }
+        ensures { result ≡ live_control host.0 object.0 given.past }
     {
         match self.kernels[host.0 as usize].object(object) {
-            Some(known) => known.live,
-            None => false,
+            Some(known) => {
+                if known.live {
+                    Some(known.control)
+                } else {
+                    None
+                }
+            }
+            None => None,
         }
     }
 

@@ -6,7 +6,7 @@ use Rattle.vm_legal.specs.Living.{tasks as made_tasks}
 use Rattle.vm_legal.specs.Reclaims.{Reclaims as May}
 use Rattle.vm_model.specs.declared.event.Event.TheVariants as event
 use Rattle.vm_model.specs.declared.message.Message.TheVariants as message
-use Rattle.vm_model.specs.Local.{Drops as Leaves}
+use Rattle.vm_model.specs.Local.{Drops as Leaves, Place}
 use Rattle.vm_objects.specs.declared.row.PagerState.TheVariants as state
 use Rattle.vm_pageout.specs.declared.answer.Reclaim.TheVariants as reclaim
 use Rattle.vm_supply.specs.declared.woken.Woken.TheVariants as woken
@@ -540,28 +540,27 @@ here_row : (fs : FrameTable) (x : Option PageRow) (lacked : Bool) → (local_of_
 here_row fs None lacked bad = absurd (let no : false ≡ true = bad in cc)
 here_row fs (Some row) lacked is = (row, refl, is)
 
+-- the place of a page that is spared
+abbrev spare_of : Option PageKey → Option Place
+spare_of None = None
+spare_of (Some key) = Some (place_of key.object.0 key.page.0)
+
 -- each page that is here is the one that is spared, and that was to be copied at a moment, or somebody waits for its unlock: so nothing can be reclaimed
 pub exhausted : (header : Header) (h : ℕ) (k : Parts) (ids : Ids) (spared : Option PageKey) (moment past : List Event) → Rests header h k ids past → IfSome spared (λ key. IsSource header h key.object.0 key.page.0 moment)
     → ((o p : ℕ) (row : PageRow) → row_at k.memory.resident o p ≡ Some row → row.here ≡ true → (spared ≡ Some (page_key o p)) ⊎ (row.unlock_sent ≡ true)) → IsExhausted header h moment past
 exhausted header h k ids spared moment past rests source each =
     record {
-      held = λ o p here. elim (only o p here) [
-        | inl one ↦ inr (subst (λ (z : Option PageKey). IfSome z (λ key. IsSource header h key.object.0 key.page.0 moment)) one source)
-        | inr waits ↦ inl waits
-      ];
-      one = λ o p q u here there waited waits. elim (only o p here) [
-        | inl this ↦ elim (only q u there) [
-          | inl that ↦
-              let same : page_key o p ≡ page_key q u = some_is (page_key o p) (page_key q u) (sym this ∙ that) in
-              (ap (λ (z : PageKey). z.object.0) same, ap (λ (z : PageKey). z.page.0) same)
-          | inr other ↦ absurd (waits other)
-        ]
-        | inr other ↦ absurd (waited other)
-      ];
+      spare = spare_of spared;
+      source = source_spared spared source;
+      held = λ o p here. elim (only o p here) [ inl one ↦ inr (ap spare_of one) | inr waits ↦ inl waits ];
     }
   where
     m : Matches header h k ids [] past
     m = rests.matches
+
+    source_spared : (x : Option PageKey) → IfSome x (λ key. IsSource header h key.object.0 key.page.0 moment) → IfSome (spare_of x) (λ place. IsSource header h place.object place.page moment)
+    source_spared None is = tt
+    source_spared (Some key) is = is
 
     only : (o p : ℕ) → (local header.size h (place_of o p) past).here ≡ true → (spared ≡ Some (page_key o p)) ⊎ WaitsUnlocked header h o p past
     only o p here =

@@ -1,5 +1,6 @@
 pub mod Answering
 pub mod Completing
+pub mod Exhausted
 pub mod Files
 pub mod Groups
 pub mod Heads

@@ -1,5 +1,5 @@
 -- What is told of the outside, and of which objects the flat map speaks.
-use Rattle.std.specs.Prelude.{ℕ, ◌&&◌, ◌||◌, not, nat_lt, Bool, true, false, List, replicate, Option, Some, None, if◌then◌else◌}
+use Rattle.std.specs.Prelude.{ℕ, ◌<◌, ◌≢◌, ◌&&◌, ◌||◌, not, nat_lt, Bool, true, false, List, replicate, Option, Some, None, if◌then◌else◌}
 use Rattle.vm_base.specs.declared.ids.ObjectKind.{ObjectKind}
 use Rattle.vm_base.specs.declared.ids.ObjectKind.TheVariants.{Temp, File, Shared, Wild}
 use Rattle.vm_model.specs.declared.script.Header.{Header}
@@ -13,6 +13,10 @@ kind_in (Some object) = object.kind
 -- the kind of an object: temporary, where none with its number is declared
 abbrev pub kind_of : Header → ℕ → ObjectKind
 kind_of header object = if nat_lt object (named header) then kind_in (declared header object) else Temp
+
+-- no declared object is temporary
+abbrev pub NoneIsTemporary : Header → Type 0
+NoneIsTemporary header = (o : ℕ) → o < named header → kind_of header o ≢ Temp
 
 abbrev pub is_wild_kind : ObjectKind → Bool
 is_wild_kind Temp = false

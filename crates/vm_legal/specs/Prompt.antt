@@ -1,9 +1,10 @@
 -- Nobody waits in vain, and nothing is left behind: what holds whenever a step has ended.
-use Rattle.std.specs.Prelude.{ℕ, ◌<◌, ◌≤◌, ◌≡◌, ◌⊎◌, List, length, Bool, true, false, Some, None}
+use Rattle.std.specs.Prelude.{ℕ, ◌<◌, ◌≤◌, ◌≡◌, ◌⊎◌, List, length, Bool, true, false, IfSome, Option, Some, None}
 use Rattle.vm_model.specs.declared.event.Event.{Event}
 use Rattle.vm_model.specs.declared.script.Header.{Header}
 use Rattle.vm_model.specs.Coherence.{SomebodyIsAwaited}
 use Rattle.vm_model.specs.Controls.{live_control}
+use Rattle.vm_model.specs.Local.{Place}
 use Rattle.vm_model.specs.Named.{named}
 use Rattle.vm_model.specs.PagePart.{page_part}
 use Rattle.vm_model.specs.Waiting.{Access, is_store, waiting}
@@ -42,11 +43,11 @@ pub record IsSource (header : Header) (host object page : ℕ) (past : List Even
   pub comes : Comes header host waits.at.entry.region.0 (page_of header task access past waits.at.entry) object page past
   pub wants : WantsFrame header host task access waits.at.entry.region.0 (page_of header task access past waits.at.entry) past
 
--- nothing on the host can be reclaimed: somebody waits for each page that is here, but for at most one, which was a source at a moment
+-- nothing on the host can be reclaimed: somebody waits for each page that is here, but for the spare one, if there is one, which was a source at a moment
 pub record IsExhausted (header : Header) (host : ℕ) (moment past : List Event) : Type 0 where
-  pub held : (o p : ℕ) → (page_on header host o p past).here ≡ true → WaitsUnlocked header host o p past ⊎ IsSource header host o p moment
-  pub one : (o p q r : ℕ) → (page_on header host o p past).here ≡ true → (page_on header host q r past).here ≡ true
-      → (WaitsUnlocked header host o p past → ⊥) → (WaitsUnlocked header host q r past → ⊥) → (o ≡ q) × (p ≡ r)
+  pub spare : Option Place
+  pub source : IfSome spare (λ place. IsSource header host place.object place.page moment)
+  pub held : (o p : ℕ) → (page_on header host o p past).here ≡ true → WaitsUnlocked header host o p past ⊎ (spare ≡ Some (record { object = o; page = p }))
 
 -- the host has no free frame, and a return is on its way, or nothing can be reclaimed
 pub record HostIsFull (header : Header) (host : ℕ) (past : List Event) : Type 0 where

@@ -81,7 +81,7 @@ full_leads t access is lives = by (0 == t) refl is
     by false other e = absurd (let bad : ◌≡◌ {A = Option Access} None (Some access) = e in cc)
 
 full_none : NoneInVain header 0 history
-full_none t access waits on = inr (record { none = refl; why = inr (record { held = λ o p is. never is; one = λ o p q r is also no_wait none_waits. never is }) })
+full_none t access waits on = inr (record { none = refl; why = inr (record { spare = None; source = tt; held = λ o p is. never is }) })
 
 pub full_prompt : Prompt header history
 full_prompt h below =

@@ -8,4 +8,5 @@ pub mod Awaited
 pub mod Carried
 pub mod Quiet
 pub mod Full
+pub mod Unanswered
 pub mod Unended

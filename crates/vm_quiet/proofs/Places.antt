@@ -51,7 +51,7 @@ abbrev pub without_place : ℕ → ℕ → List Place → List Place
 without_place o p [] = []
 without_place o p (place ∷ places) = if place.object == o && place.page == p then places else place ∷ without_place o p places
 
-times_without : (a b o p : ℕ) (places : List Place) → times o p (without_place a b places) ≡ (if a == o && b == p then times o p places - 1 else times o p places)
+pub times_without : (a b o p : ℕ) (places : List Place) → times o p (without_place a b places) ≡ (if a == o && b == p then times o p places - 1 else times o p places)
 times_without a b o p [] = none (a == o && b == p)
   where
     none : (t : Bool) → 0 ≡ (if t then 0 - 1 else 0)
@@ -82,7 +82,7 @@ times_without a b o p (x ∷ xs) = by (x.object == a && x.page == b) (x.object =
     by true u t e f g more = hit (x.object == o && x.page == p) (a == o && b == p) (times o p xs) (equal x.object x.page a b o p e)
     by false u t e f g more = miss (x.object == o && x.page == p) (a == o && b == p) (times o p xs) (times o p (without_place a b xs)) (apart x.object x.page a b o p e) more
 
-length_without : (a b : ℕ) (places : List Place) → 1 ≤ times a b places → length (without_place a b places) + 1 ≡ length places
+pub length_without : (a b : ℕ) (places : List Place) → 1 ≤ times a b places → length (without_place a b places) + 1 ≡ length places
 length_without a b [] some = absurd (omega (arith, some))
 length_without a b (x ∷ xs) some = by (x.object == a && x.page == b) some (length_without a b xs)
   where
@@ -105,43 +105,3 @@ held_less U V n a b there new h =
 -- some place is held where one has U
 pub held_some : (U : ℕ → ℕ → Bool) (n a b : ℕ) → U a b ≡ true → Held U n → 1 ≤ n
 held_some U n a b there h = omega (arith, length_without a b h.places (omega (arith, h.each a b ∙ ap one_if there)), h.count)
-
--- at most one is where all that have U are the same
-pub held_one : (U : ℕ → ℕ → Bool) (n : ℕ) → ((o p q r : ℕ) → U o p ≡ true → U q r ≡ true → (o ≡ q) × (p ≡ r)) → Held U n → n ≤ 1
-held_one U n one h = by h.places h.each h.count
-  where
-    has : (b : Bool) (k : ℕ) → suc k ≡ one_if b → b ≡ true
-    has true k e = refl
-    has false k e = absurd (omega (arith, e))
-
-    at : (x : Place) (xs : List Place) → times x.object x.page (x ∷ xs) ≡ suc (times x.object x.page xs)
-    at x xs = pick (x.object == x.object && x.page == x.page) (times x.object x.page xs) (own_place x.object x.page)
-      where
-        pick : (b : Bool) (k : ℕ) → b ≡ true → (if b then suc k else k) ≡ suc k
-        pick true k e = refl
-        pick false k e = never e
-
-    under : (b : Bool) (k j : ℕ) → k ≡ suc j → suc j ≤ (if b then suc k else k)
-    under true k j e = omega (arith, e)
-    under false k j e = omega (arith, e)
-
-    some : (b : Bool) (k : ℕ) → 1 ≤ k → k ≡ one_if b → b ≡ true
-    some true k m e = refl
-    some false k m e = absurd (omega (arith, m, e))
-
-    most : (b : Bool) (k : ℕ) → k ≡ one_if b → k ≤ 1
-    most true k e = omega (arith, e)
-    most false k e = omega (arith, e)
-
-    by : (places : List Place) → ((o p : ℕ) → times o p places ≡ one_if (U o p)) → length places ≡ n → n ≤ 1
-    by [] each count = omega (arith, count)
-    by (x ∷ []) each count = omega (arith, count)
-    by (x ∷ y ∷ ys) each count = absurd (clash x y ys each)
-      where
-        clash : (x y : Place) (ys : List Place) → ((o p : ℕ) → times o p (x ∷ y ∷ ys) ≡ one_if (U o p)) → ⊥
-        clash x y ys each =
-            let first : U x.object x.page ≡ true = some (U x.object x.page) (times x.object x.page (x ∷ y ∷ ys)) (omega (arith, at x (y ∷ ys))) (each x.object x.page) in
-            let second : U y.object y.page ≡ true = some (U y.object y.page) (times y.object y.page (x ∷ y ∷ ys)) (omega (arith, under (x.object == y.object && x.page == y.page) (times y.object y.page (y ∷ ys)) (times y.object y.page ys) (at y ys))) (each y.object y.page) in
-            let same : (x.object ≡ y.object) × (x.page ≡ y.page) = one x.object x.page y.object y.page first second in
-            let again : times x.object x.page (y ∷ ys) ≡ suc (times y.object y.page ys) = ap (λ i. times i x.page (y ∷ ys)) same.0 ∙ ap (λ i. times y.object i (y ∷ ys)) same.1 ∙ at y ys in
-            omega (arith, at x (y ∷ ys), again, most (U x.object x.page) (times x.object x.page (x ∷ y ∷ ys)) (each x.object x.page))

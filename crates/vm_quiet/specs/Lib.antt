@@ -3,4 +3,5 @@ pub mod Full
 pub mod Letters
 pub mod Places
 pub mod Quiet
+pub mod Unanswered
 pub mod Unended

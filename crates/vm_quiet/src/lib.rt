@@ -16,8 +16,9 @@ ghost use Rattle.vm_model.specs.Server.{first};
 ghost use Rattle.vm_model.specs.Waiting.{Copying, Loading, waiting};
 ghost use Rattle.vm_legal.specs.Accesses.{Waits};
 ghost use Rattle.vm_legal.specs.Debts.{IsPaid};
+ghost use Rattle.vm_legal.specs.Frames.{frames_free};
 ghost use Rattle.vm_legal.specs.Licences.{HasCause};
-ghost use Rattle.vm_legal.specs.Outside.{Outside};
+ghost use Rattle.vm_legal.specs.Outside.{NoneIsTemporary, Outside};
 ghost use Rattle.vm_legal.specs.Prompt.{Prompt};
 ghost use Rattle.vm_legal.specs.Undelivered.{undelivered};
 ghost use Rattle.vm_legal.specs.Walks.{page_on};
@@ -25,7 +26,8 @@ ghost use Rattle.vm_quiet.specs.Carried.{IsCarried};
 ghost use Rattle.vm_quiet.specs.Full as full;
 ghost use Rattle.vm_quiet.specs.Letters.{messages_on};
 ghost use Rattle.vm_quiet.specs.Places.{AllPaged, FramesAreCounted};
-ghost use Rattle.vm_quiet.specs.Quiet.{AllSupplied, NobodyWaitsInVain, SharedAreAnswered};
+ghost use Rattle.vm_quiet.specs.Quiet.{NobodyWaitsInVain, NoneIsWild, OnlyFramesAreAwaited, OnlyWildAreAwaited, SharedAreAnswered};
+ghost use Rattle.vm_quiet.specs.Unanswered as unanswered;
 ghost use Rattle.vm_quiet.specs.Unended as unended;
 
 /// The queue of a channel is the channel's undelivered messages, in the order in which they were
@@ -58,18 +60,24 @@ pub fn what_is_asked_is_on_its_way()
 {}
 
 /// Where nothing is undelivered, and each step has done what it owes, whoever still waits does so for
-/// want of frames: its host has fewer than two that are not wired, and none of them is free. So on a
-/// host that leaves two frames unwired every access ends once all messages are taken.
+/// want of frames, or for the pager of a wild object, which the script drives. A host that is short of frames
+/// has none that is free, and fewer than two that are neither wired nor held for such a pager: a page of a wild
+/// object that is asked, or whose unlock somebody waits for, keeps its frame for as long as its pager likes.
 ///
 /// Two are what an access can need at one moment: the page that it copies, and the page that it copies to.
 ///
-/// It holds where each declared object is a file. With shared objects too it holds where their server has
-/// answered everybody, which is a matter of the law of shared pages; with wild objects it doesn't, since
-/// nobody says what their pagers answer.
-#[tactic(auto, using(crate::proofs::Quiet::quiet, crate::proofs::Quiet::supplied))]
+/// With shared objects it holds where their server has answered everybody, which is a matter of the law of
+/// shared pages. Where each declared object is a file there are neither shared nor wild ones.
+#[tactic(auto, using(crate::proofs::Quiet::quiet, crate::proofs::Quiet::only_wild))]
 pub fn nobody_waits_in_vain()
-    ensures supplied { (header : Header) (outside : Outside) (history : List Event) → AllSupplied header → EachEvent (HasCause header outside) history → BeforeSteps (IsPaid header) history → IsPaid header history → SharedAreAnswered header history → Prompt header history → undelivered history ≡ [] → NobodyWaitsInVain header history }
+    ensures wild { (header : Header) (outside : Outside) (history : List Event) → NoneIsTemporary header → EachEvent (HasCause header outside) history → BeforeSteps (IsPaid header) history → IsPaid header history → SharedAreAnswered header history → Prompt header history → undelivered history ≡ [] → OnlyWildAreAwaited header history }
     ensures quiet { (header : Header) (outside : Outside) (history : List Event) → AllPaged header → EachEvent (HasCause header outside) history → BeforeSteps (IsPaid header) history → IsPaid header history → Prompt header history → undelivered history ≡ [] → NobodyWaitsInVain header history }
+{}
+
+/// Where no object is wild, nobody waits for the pager of one, and no frame is held for it. So on a host that
+/// leaves two frames unwired every access ends once all messages are taken.
+pub fn without_wild_objects_frames_alone_are_awaited()
+    ensures { (header : Header) (history : List Event) → NoneIsWild header → NobodyWaitsInVain header history → OnlyFramesAreAwaited header history }
 {}
 
 /// A worked history that meets all of that with an access that waits: the host's two frames are both
@@ -83,6 +91,23 @@ pub fn full_run()
     ensures prompt { Prompt full.header full.history }
     ensures delivered { undelivered full.history ≡ [] }
     ensures waits { Waits full.header 0 (Loading 0 1) full.history }
+{}
+
+/// A worked history of a wild object on two hosts that meets the premises, with two loads that wait for ever, though
+/// each host has a free frame: one for an answer that the script never gives, the other for a ready.
+#[tactic(auto, using(crate::proofs::Unanswered::wild_kinds, crate::proofs::Unanswered::wild_causes, crate::proofs::Unanswered::wild_steps, crate::proofs::Unanswered::wild_paid, crate::proofs::Unanswered::wild_answered, crate::proofs::Unanswered::wild_delivered, crate::proofs::Unanswered::wild_waits, crate::proofs::Unanswered::wild_unready))]
+pub fn unanswered_run()
+    ensures kinds { NoneIsTemporary unanswered.header }
+    ensures causes { EachEvent (HasCause unanswered.header unanswered.outside) unanswered.history }
+    ensures steps { BeforeSteps (IsPaid unanswered.header) unanswered.history }
+    ensures paid { IsPaid unanswered.header unanswered.history }
+    ensures shared { SharedAreAnswered unanswered.header unanswered.history }
+    ensures prompt { Prompt unanswered.header unanswered.history }
+    ensures delivered { undelivered unanswered.history ≡ [] }
+    ensures free { frames_free unanswered.header 0 unanswered.history ≡ 1 }
+    ensures free_elsewhere { frames_free unanswered.header 1 unanswered.history ≡ 2 }
+    ensures unanswered { Waits unanswered.header 0 (Loading 0 1) unanswered.history }
+    ensures unready { Waits unanswered.header 1 (Loading 0 1) unanswered.history }
 {}
 
 /// A slow copy that has copied all its pages may not go on waiting: where one never ends, somebody waits in

@@ -11,11 +11,10 @@ use Rattle.vm_legal.specs.Bytes.{FlatBytes, OwnBytes}
 use Rattle.vm_legal.specs.Follows.{FollowsCut, FollowsSoFar}
 use Rattle.vm_legal.specs.Legal.{CanonicalFor, CanonicalSoFar, HasOneWriter, Holds, LegalFor, LegalSoFar}
 use Rattle.vm_legal.specs.Licences.{HasCause}
-use Rattle.vm_legal.specs.Outside.{Outside}
+use Rattle.vm_legal.specs.Outside.{NoneIsTemporary, Outside}
 use Rattle.vm_flat.proofs.Loads.{answers}
 use Rattle.vm_shared.proofs.Currents.{copies_current, loads_current}
 use Rattle.vm_shared.proofs.Pages.{legal, one_writer}
-use Rattle.vm_shared.specs.Kinds.{NoneIsTemporary}
 use Rattle.vm_rules.specs.Tests.{Tests}
 
 -- where each load answers from its own host's page it answers the flat map's bytes

@@ -11,8 +11,7 @@ ghost use Rattle.vm_model.specs.declared.script.Header.{Header};
 ghost use Rattle.vm_model.specs.declared.script.Script.{Script};
 ghost use Rattle.vm_legal.specs.Follows.{FollowsCut};
 ghost use Rattle.vm_legal.specs.Legal.{CanonicalFor, CanonicalSoFar, Holds, LegalFor, LegalSoFar};
-ghost use Rattle.vm_legal.specs.Outside.{Outside};
-ghost use Rattle.vm_shared.specs.Kinds.{NoneIsTemporary};
+ghost use Rattle.vm_legal.specs.Outside.{NoneIsTemporary, Outside};
 ghost use Rattle.vm_rules.specs.Tests.{Tests};
 
 /// A history needs no other test than these, wherever it ends. Its groups are those of the commands, and each event has its

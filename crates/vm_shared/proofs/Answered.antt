@@ -1,6 +1,7 @@
 -- Where nothing is undelivered the server of shared memory has answered everybody.
-use Rattle.std.proofs.Common.{ℕ, zero, suc, ◌≡◌, ◌∙◌, List, [], Bool, true, false, refl, sym, ap, subst, arith, Option, Some, None, if◌then◌else◌}
-use Rattle.std.specs.Prelude.{◌<◌}
+use Rattle.std.proofs.Common.{inl, inr, ⊎_elim, ℕ, zero, suc, ◌≡◌, ◌∙◌, List, [], Bool, true, false, refl, sym, ap, subst, arith, Option, Some, None, if◌then◌else◌}
+use Rattle.std.proofs.lemmas.Bool.{cases_lt}
+use Rattle.std.specs.Prelude.{◌<◌, ◌⊎◌}
 use Rattle.vm_model.specs.declared.event.Event.{Event}
 use Rattle.vm_model.specs.declared.script.Header.{Header}
 use Rattle.vm_model.specs.Channels.{down_port, down_words, up_port, up_words}
@@ -11,11 +12,15 @@ use Rattle.vm_model.specs.Local.{Local}
 use Rattle.vm_model.specs.Moments.{BeforeSteps, EachEvent}
 use Rattle.vm_model.specs.PageLicences.{ActsLicensed}
 use Rattle.vm_model.specs.PagePart.{page_part}
+use Rattle.vm_model.specs.Named.{named}
+use Rattle.vm_model.specs.Waiting.{Access, address_of, next_page}
 use Rattle.vm_model.specs.Side.{Side, right_of, side}
+use Rattle.vm_legal.proofs.Served.{later_paged, paged_supplied}
+use Rattle.vm_legal.specs.Accesses.{Waits, page_of}
 use Rattle.vm_legal.specs.Bytes.{OwnBytes}
 use Rattle.vm_legal.specs.Debts.{IsPaid}
 use Rattle.vm_legal.specs.Licences.{HasCause}
-use Rattle.vm_legal.specs.Outside.{Outside, is_shared}
+use Rattle.vm_legal.specs.Outside.{NoneIsTemporary, Outside, is_shared, is_wild}
 use Rattle.vm_legal.specs.Prompt.{AllServed, Prompt}
 use Rattle.vm_legal.specs.Undelivered.{undelivered}
 use Rattle.vm_legal.specs.Walks.{page_on}
@@ -26,10 +31,12 @@ use Rattle.vm_coherence.proofs.Locals.{side_is_local}
 use Rattle.vm_coherence.proofs.Still.{answered}
 use Rattle.vm_coherence.specs.Locals.{SideIsLocal, right_now}
 use Rattle.vm_quiet.proofs.Letters.{none_queued}
-use Rattle.vm_quiet.proofs.Quiet.{ready_now, shared_supplied, supplied}
-use Rattle.vm_quiet.specs.Quiet.{AllSupplied, NobodyWaitsInVain, SharedAreAnswered}
+use Rattle.vm_quiet.proofs.Quiet.{only_wild, ready_now, shared_supplied}
+use Rattle.vm_quiet.specs.Quiet.{IsShortOfFrames, NobodyWaitsInVain, OnlyWildAreAwaited, SharedAreAnswered, WaitsForWild, WaitsOnWild}
 use Rattle.vm_shared.proofs.Causes.{licensed}
+use Rattle.vm_shared.proofs.Declared.{place_own}
 use Rattle.vm_shared.proofs.Founded.{founded}
+use Rattle.vm_shared.proofs.Numbering.{Numbering, at_made, numbering}
 use Rattle.vm_shared.proofs.Order.{down_in_order, up_in_order}
 use Rattle.vm_shared.proofs.Stepped.{stepped_of}
 use Rattle.vm_shared.proofs.Steps.{done_now, steps_done}
@@ -101,7 +108,27 @@ pub shared_are_answered : (header : Header) (outside : Outside) (history : List 
 shared_are_answered header outside history causes own steps paid served delivered =
     all_answered header outside history (record { causes = causes; steps = steps; paid = paid; delivered = delivered }) (λ o p shared. licensed header outside history causes own o p shared) served
 
-pub nobody_waits : (header : Header) (outside : Outside) (history : List Event) → AllSupplied header → EachEvent (HasCause header outside) history → EachEvent (OwnBytes header) history → BeforeSteps (IsPaid header) history → IsPaid header history → AllServed header history → Prompt header history → undelivered history ≡ []
-    → NobodyWaitsInVain header history
-nobody_waits header outside history all causes own steps paid served prompt delivered =
-    supplied header outside history all causes steps paid (shared_are_answered header outside history causes own steps paid served delivered) prompt delivered
+-- whoever waits for a wild object's place waits on its region
+
+wild_declared : (header : Header) (o : ℕ) → is_wild header o ≡ true → o < named header
+wild_declared header o wild = ⊎_elim (λ less. less) (λ above. let bad : true ≡ false = sym wild ∙ paged_supplied header o (later_paged header o above) in absurd (cc)) (cases_lt o (named header))
+
+on_wild : (header : Header) (outside : Outside) (history : List Event) (host task : ℕ) (access : Access) → EachEvent (HasCause header outside) history → WaitsForWild header host task access history → WaitsOnWild header host task access history
+on_wild header outside history host task access causes is =
+    let waits : Waits header task access history = is.what.waits in
+    let n : Numbering header history = numbering header outside history causes in
+    let made = at_made header task (address_of header.size (next_page task history) access) history n.made waits.at in
+    let own = place_own header history waits.at.entry.region.0 (page_of header task access history waits.at.entry) is.what.object is.what.page n.numbered (wild_declared header is.what.object is.wild) made is.what.place in
+    record { waits = waits; on_host = is.what.on_host; wild = ap (is_wild header) own.own.region ∙ is.wild }
+
+pub nobody_waits : (header : Header) (outside : Outside) (history : List Event) → NoneIsTemporary header → EachEvent (HasCause header outside) history → EachEvent (OwnBytes header) history → BeforeSteps (IsPaid header) history → IsPaid header history → AllServed header history → Prompt header history
+    → undelivered history ≡ [] → NobodyWaitsInVain header history
+nobody_waits header outside history kinds causes own steps paid served prompt delivered =
+    record { short = λ host task access below waits lives. by host task access (only.short host task access below waits lives) }
+  where
+    only : OnlyWildAreAwaited header history
+    only = only_wild header outside history kinds causes steps paid (shared_are_answered header outside history causes own steps paid served delivered) prompt delivered
+
+    by : (host task : ℕ) (access : Access) → WaitsForWild header host task access history ⊎ IsShortOfFrames header host history → WaitsOnWild header host task access history ⊎ IsShortOfFrames header host history
+    by host task access (inl is) = inl (on_wild header outside history host task access causes is)
+    by host task access (inr frames) = inr frames

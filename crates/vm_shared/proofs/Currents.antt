@@ -22,9 +22,8 @@ use Rattle.vm_legal.specs.Flat.{flat_page}
 use Rattle.vm_legal.specs.Licences as L
 use Rattle.vm_legal.specs.Licences.{HasCause}
 use Rattle.vm_legal.specs.Living.{lives_on}
-use Rattle.vm_legal.specs.Outside.{Outside, is_file, is_file_kept, is_file_kind, is_private, is_shared, is_shared_kind, is_wild, is_wild_kind, kind_in, kind_of}
+use Rattle.vm_legal.specs.Outside.{NoneIsTemporary, Outside, is_file, is_file_kept, is_file_kind, is_private, is_shared, is_shared_kind, is_wild, is_wild_kind, kind_in, kind_of}
 use Rattle.vm_legal.specs.Walks.{page_on}
-use Rattle.vm_shared.specs.Kinds.{NoneIsTemporary}
 use Rattle.vm_shared.proofs.Declared.{comes_from_declared, declared_top_own, shared_declared}
 use Rattle.vm_shared.proofs.Flat.{current_is_flat}
 use Rattle.vm_shared.proofs.Numbering.{numbering}

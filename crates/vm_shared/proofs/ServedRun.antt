@@ -2,7 +2,9 @@
 use Rattle.std.proofs.Common.{inr, ℕ, ◌≡◌, ◌<◌, ◌≤◌, List, [], ◌∷◌, true, false, refl, subst, arith}
 use Rattle.std.proofs.lemmas.Bool.Decides.{nat_tests}
 use Rattle.vm_base.specs.declared.entry.Entry.{Entry}
+use Rattle.std.specs.Prelude.{◌≢◌}
 use Rattle.vm_base.specs.declared.ids.Inherit.TheVariants.{Share}
+use Rattle.vm_base.specs.declared.ids.ObjectKind.TheVariants.{Shared, Temp}
 use Rattle.vm_model.specs.declared.command.Command.{Command}
 use Rattle.vm_model.specs.declared.command.Command.TheVariants as command
 use Rattle.vm_model.specs.declared.event.Event.{Event}
@@ -15,10 +17,10 @@ use Rattle.vm_model.specs.PagePart.{page_part}
 use Rattle.vm_model.specs.Waiting.{Loading, Storing}
 use Rattle.vm_legal.specs.Bytes.{OwnBytes}
 use Rattle.vm_legal.specs.Licences.{Flushed, HasCause, gives_back}
+use Rattle.vm_legal.specs.Outside.{NoneIsTemporary, kind_of}
 use Rattle.vm_legal.specs.Undelivered.{undelivered}
 use Rattle.vm_legal.specs.Walks.{page_on}
 use Rattle.vm_quiet.proofs.Letters.{never}
-use Rattle.vm_quiet.specs.Quiet.{AllSupplied}
 use Rattle.vm_coherence.specs.Crossing.{host, task, object, page, zeros}
 use Rattle.vm_coherence.specs.Remapping.{region, both}
 use Rattle.vm_shared.specs.Served.{header, history, outside}
@@ -275,5 +277,5 @@ served_own = (own_store, (tt, (tt, (tt, (tt, (tt, (tt, (own_load, (tt, (tt, (tt,
 pub served_delivered : undelivered history ≡ []
 served_delivered = refl
 
-pub served_supplied : AllSupplied header
-served_supplied o below = let same : o ≡ 0 = omega (arith, below) in rw same refl
+pub served_kinds : NoneIsTemporary header
+served_kinds o below = let first : 0 ≡ o = omega (arith, below) in subst (λ k. kind_of header k ≢ Temp) first (λ is. absurd (let bad : Shared ≡ Temp = is in cc))

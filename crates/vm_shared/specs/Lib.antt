@@ -1,4 +1,3 @@
 pub mod Carried
-pub mod Kinds
 pub mod Run
 pub mod Served

@@ -22,15 +22,14 @@ ghost use Rattle.vm_model.specs.Server.{current, NoRequest, NoUpgrade, first, li
 ghost use Rattle.vm_legal.specs.Bytes.{OwnBytes, CopiesCurrent, LoadsCurrent};
 ghost use Rattle.vm_legal.specs.Flat.{flat_page};
 ghost use Rattle.vm_legal.specs.Licences.{HasCause};
-ghost use Rattle.vm_legal.specs.Outside.{Outside, is_shared};
+ghost use Rattle.vm_legal.specs.Outside.{NoneIsTemporary, Outside, is_shared};
 ghost use Rattle.vm_legal.specs.Walks.{page_on};
-ghost use Rattle.vm_shared.specs.Kinds.{NoneIsTemporary};
 ghost use Rattle.vm_shared.specs.Run as run;
 ghost use Rattle.vm_model.specs.Side.{side};
 ghost use Rattle.vm_legal.specs.Debts.{IsPaid};
 ghost use Rattle.vm_legal.specs.Prompt.{AllServed, Prompt};
 ghost use Rattle.vm_legal.specs.Undelivered.{undelivered};
-ghost use Rattle.vm_quiet.specs.Quiet.{SharedAreAnswered, AllSupplied, NobodyWaitsInVain};
+ghost use Rattle.vm_quiet.specs.Quiet.{SharedAreAnswered, NobodyWaitsInVain};
 ghost use Rattle.vm_shared.specs.Carried.{SharedAreCarried};
 ghost use Rattle.vm_shared.specs.Served as served;
 
@@ -73,12 +72,13 @@ pub fn steps_are_done()
 
 /// Where nothing is undelivered and each step has paid what it owes, the server of shared memory has answered
 /// everybody, if of each page for which somebody stands in line some host is awaited: no page of a shared
-/// object is asked, and no unlock of one is outstanding. So whoever still waits, where no declared object is
-/// wild, waits on a host that is short of frames.
+/// object is asked, and no unlock of one is outstanding. So whoever still waits, waits on a wild object's region,
+/// whose pager the script drives, or on a host that is short of frames: with no free frame, and fewer than two
+/// that are neither wired nor held for such a pager. No declared object is temporary.
 #[tactic(auto, using(crate::proofs::Answered::shared_are_answered, crate::proofs::Answered::nobody_waits))]
 pub fn nobody_waits_for_the_server()
     ensures answered { (header : Header) (outside : Outside) (history : List Event) → EachEvent (HasCause header outside) history → EachEvent (OwnBytes header) history → BeforeSteps (IsPaid header) history → IsPaid header history → AllServed header history → undelivered history ≡ [] → SharedAreAnswered header history }
-    ensures waits { (header : Header) (outside : Outside) (history : List Event) → AllSupplied header → EachEvent (HasCause header outside) history → EachEvent (OwnBytes header) history → BeforeSteps (IsPaid header) history → IsPaid header history → AllServed header history → Prompt header history → undelivered history ≡ [] → NobodyWaitsInVain header history }
+    ensures waits { (header : Header) (outside : Outside) (history : List Event) → NoneIsTemporary header → EachEvent (HasCause header outside) history → EachEvent (OwnBytes header) history → BeforeSteps (IsPaid header) history → IsPaid header history → AllServed header history → Prompt header history → undelivered history ≡ [] → NobodyWaitsInVain header history }
 {}
 
 /// What the server of shared memory is promised of the message that it takes, before it looks at it. The host
@@ -107,9 +107,9 @@ pub fn what_the_server_is_asked_is_on_its_way()
 
 /// A worked history that meets all of that: two hosts map one shared page, host 0 reads it, host 1 wants to
 /// write it, and host 0 gives it up. It ends with nothing undelivered.
-#[tactic(auto, using(crate::proofs::ServedRun::served_causes, crate::proofs::ServedRun::served_own, crate::proofs::ServedRun::served_delivered, crate::proofs::ServedRun::served_supplied))]
+#[tactic(auto, using(crate::proofs::ServedRun::served_causes, crate::proofs::ServedRun::served_own, crate::proofs::ServedRun::served_delivered, crate::proofs::ServedRun::served_kinds))]
 pub fn served_run()
-    ensures supplied { AllSupplied served.header }
+    ensures kinds { NoneIsTemporary served.header }
     ensures causes { EachEvent (HasCause served.header served.outside) served.history }
     ensures own { EachEvent (OwnBytes served.header) served.history }
     ensures delivered { undelivered served.history ≡ [] }

@@ -5,7 +5,9 @@ use Rattle.vm_model.specs.declared.event.Device.TheVariants as device
 use Rattle.vm_model.specs.declared.event.Event.TheVariants as event
 use Rattle.vm_model.specs.declared.command.Command.TheVariants as command
 use Rattle.vm_system.proofs.Agreeing.{IsSpared, carry_spared, content_spared, devices_spared, files_spared, serve_spared, spared_said}
-use Rattle.vm_system.proofs.Cleaning.{IsAsked, asked_fine}
+use Rattle.vm_model.specs.Ranges.{InRange}
+use Rattle.vm_system.proofs.Cleaning.{IsAsked}
+use Rattle.vm_system.proofs.Spoken.{asked_fine}
 use Rattle.sms_server.specs.Stands.{IsOther as IsServerOther}
 use Rattle.sms_server.proofs.Acting.{others_recall as recalled_other, others_serve as served_other, others_stand as server_other}
 use Rattle.vm_system.proofs.Lawfulness.{lawful_line, lawful_more, others_said, recalled_more, served_more, server_more}
@@ -15,6 +17,7 @@ use Rattle.vm_system.proofs.Following.{fit_same, kept_at, same_declared, same_fi
 use Rattle.vm_system.proofs.Growth.{front_begun, grew_begun}
 use Rattle.vm_system.proofs.Silent.{all_settled, paid_inner, prompt_code, prompt_line}
 use Rattle.vm_system.proofs.Legal.{head_line, legal_refused, legal_settle}
+use Rattle.vm_system.proofs.Sharing.{none_temporary}
 
 -- what was told behind a line, and what the hosts are then
 pub record IsTold (header : Header) (outside : Outside) (line : ℕ) (events : List Event) (hosts : HostTable) (s : State) : Type 0 where
@@ -32,7 +35,7 @@ pub can_tell : (header : Header) (outside : Outside) (doing : Command) (line : �
 can_tell header outside doing line events s stands stretch =
     let past = event.Line line ∷ s.history.items in
     subst (λ (z : ℕ). CanTellAll z events past) (sym stands.agrees.size)
-    (can_say header outside doing past events stands.built.supplied (orderly_line header line s.history.items stands.agrees.orderly) stretch.licensed stretch.said stretch.inner)
+    (can_say header outside doing past events (orderly_line header line s.history.items stands.agrees.orderly) stretch.licensed stretch.said stretch.inner)
 
 pub told_said : (header : Header) (outside : Outside) (doing : Command) (line : ℕ) (events : List Event) (hosts : HostTable) (s : State) → SystemStands header outside s → Stretch header outside doing (event.Line line ∷ s.history.items) events
     → AllRest header hosts (events ++ event.Line line ∷ s.history.items) → AllQueued header hosts (events ++ event.Line line ∷ s.history.items) → IsTold header outside line events hosts s
@@ -43,7 +46,7 @@ told_said header outside doing line events hosts s stands stretch rests queues =
       spared = spared_said header events past stretch.said;
       silent = others_said header events past stretch.said;
       lawful = lawful_more header outside doing events past stretch.licensed stretch.own_bytes stretch.inner (lawful_line header outside line s.history.items stands.paid stands.agrees.lawful);
-      orderly = orderly_said header outside doing past events stands.built.supplied (orderly_line header line s.history.items stands.agrees.orderly) stretch.licensed stretch.said stretch.inner;
+      orderly = orderly_said header outside doing past events (orderly_line header line s.history.items stands.agrees.orderly) stretch.licensed stretch.said stretch.inner;
       rests = rests;
       queues = queues;
     }
@@ -58,10 +61,10 @@ can_both size (e ∷ later) front past all before = (subst (λ (z : List Event).
 pub head_of : (header : Header) (doing : Command) (line : ℕ) (h past asked : List Event) → past ≡ event.Line line ∷ h → head header past doing ≡ Some asked → head header h doing ≡ Some asked
 head_of header doing line h past asked front is = sym (head_line header line h doing) ∙ (sym (ap (λ (z : List Event). head header z doing) front) ∙ is)
 
-pub asked_of : (header : Header) (outside : Outside) (doing : Command) (line : ℕ) (s : State) (past asked : List Event) → SystemStands header outside s → refusal header s.history.items doing ≡ None → is_idle doing ≡ true → past ≡ event.Line line ∷ s.history.items
+pub asked_of : (header : Header) (outside : Outside) (doing : Command) (line : ℕ) (s : State) (past asked : List Event) → SystemStands header outside s → InRange header doing → refusal header s.history.items doing ≡ None → is_idle doing ≡ true → past ≡ event.Line line ∷ s.history.items
     → head header past doing ≡ Some asked → IsAsked header outside doing (event.Line line ∷ s.history.items) asked
-asked_of header outside doing line s past asked stands accepted idle front is =
-    asked_fine header outside doing line s.history.items asked accepted idle (head_of header doing line s.history.items past asked front is)
+asked_of header outside doing line s past asked stands range accepted idle front is =
+    asked_fine header outside doing line s.history.items asked range accepted idle (head_of header doing line s.history.items past asked front is)
 
 -- the hosts stand for what is asked
 pub asked_rests : (header : Header) (outside : Outside) (doing : Command) (line : ℕ) (asked : List Event) (s : State) → SystemStands header outside s → IsAsked header outside doing (event.Line line ∷ s.history.items) asked
@@ -75,7 +78,7 @@ can_ask header outside doing line asked events hosts s stands says went =
     let past = event.Line line ∷ s.history.items in
     let orderly = orderly_line header line s.history.items stands.agrees.orderly in
     let stretch = went.follows.stretch in
-    let later = can_say header outside doing (asked ++ past) went.more stands.built.supplied (says.orderly orderly) stretch.licensed stretch.said stretch.inner in
+    let later = can_say header outside doing (asked ++ past) went.more (says.orderly orderly) stretch.licensed stretch.said stretch.inner in
     subst (λ (z : ℕ). CanTellAll z events past) (sym stands.agrees.size)
     (subst (λ (z : List Event). CanTellAll header.size z past) (sym went.is) (can_both header.size went.more asked past later (says.can orderly)))
 
@@ -86,7 +89,7 @@ told_asked header outside doing line asked events hosts s stands says went =
     let orderly = orderly_line header line s.history.items stands.agrees.orderly in
     let stretch = went.follows.stretch in
     let more = went.more in
-    let behind : IsOrderly header (more ++ (asked ++ past)) = orderly_said header outside doing (asked ++ past) more stands.built.supplied (says.orderly orderly) stretch.licensed stretch.said stretch.inner in
+    let behind : IsOrderly header (more ++ (asked ++ past)) = orderly_said header outside doing (asked ++ past) more (says.orderly orderly) stretch.licensed stretch.said stretch.inner in
     let whole : events ++ past ≡ more ++ (asked ++ past) = ap (λ (z : List Event). z ++ past) went.is ∙ append_assoc more asked past in
     record {
       inner = subst AllInner (sym went.is) (inner_both more asked stretch.inner says.inner);
@@ -205,7 +208,7 @@ pub makes_refused : (header : Header) (outside : Outside) (numbered : Numbered) 
     → Posts new new.history.items → new.history.items ≡ event.Refused why ∷ event.Line numbered.line ∷ old.history.items → Makes header outside numbered old new
 makes_refused header outside numbered why old new stands refused same posts grown =
     makes_told header outside numbered (event.Refused why ∷ []) old.hosts old new stands (told_code header outside numbered.command why numbered.line old stands)
-    (legal_refused header outside numbered why old.history.items stands.built.supplied refused)
+    (legal_refused header outside numbered why old.history.items (none_temporary header stands.built.ranged) refused)
     (λ prompt. prompt_code header why (event.Line numbered.line ∷ old.history.items) (prompt_line header numbered.line old.history.items prompt)) same posts grown
 
 pub told_none : (header : Header) (outside : Outside) (doing : Command) (line : ℕ) (s : State) → SystemStands header outside s → IsTold header outside line [] s.hosts s
@@ -217,7 +220,7 @@ pub makes_lined : (header : Header) (outside : Outside) (line count : ℕ) (old 
     → new.history.items ≡ event.Line line ∷ old.history.items → Makes header outside (record { line = line; command = command.Settle count }) old new
 makes_lined header outside line count old new stands same posts grown =
     makes_told header outside (record { line = line; command = command.Settle count }) [] old.hosts old new stands (told_none header outside (command.Settle count) line old stands)
-    (legal_settle header outside line count old.history.items stands.built.supplied) (λ prompt. prompt_line header line old.history.items prompt) same posts grown
+    (legal_settle header outside line count old.history.items (none_temporary header stands.built.ranged)) (λ prompt. prompt_line header line old.history.items prompt) same posts grown
 
 -- parts that are as they were are so behind two calls
 pub same_hosts : (old mid new : State) → SameHosts old mid → SameHosts mid new → SameHosts old new

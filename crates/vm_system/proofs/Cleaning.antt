@@ -1,5 +1,5 @@
 -- What a file's pager says for a clean.
-use Rattle.vm_system.proofs.Common.{AllInner, AllInTurn, Bool, CanTellAll, CleanEvents, Command, EachIn, EachOf, Event, FileTable, FramesSuffice, Header, IsKnownAs, IsNobodys, IsOrderly, Known, KnownControl, List, MakesNoControl, MomentsIn, None, ObjectId, Option, Outside, OwnBytes, PageNo, Some, State, SystemStands, [], ap, arith, clean_head, false, head, home_for, inl, inr, is_file, is_idle, is_made, known_below, known_control, length, named, nat_lt, none-some, not, or_known, refl, reverse, same_Some, slice_get, subst, suc, sym, true, up, zero, ℕ, ◌++◌, ◌<◌, ◌||◌, ◌∙◌, ◌∷◌, ◌≡◌, ◌⊎◌, is_shared, refusal, code_where, declared_pages, ◌==◌, ◌+◌}
+use Rattle.vm_system.proofs.Common.{AllInner, AllInTurn, Bool, CanTellAll, CleanEvents, Command, EachIn, EachOf, Event, FileTable, FramesSuffice, Header, IsKnownAs, IsNobodys, IsOrderly, Known, KnownControl, List, MakesNoControl, MomentsIn, None, ObjectId, Option, Outside, OwnBytes, PageNo, Some, State, SystemStands, [], ap, arith, clean_head, false, head, home_for, inl, inr, is_file, is_idle, is_made, is_paged, known_below, known_control, length, named, nat_lt, none-some, not, or_known, refl, reverse, same_Some, slice_get, subst, suc, sym, true, up, zero, ℕ, ◌++◌, ◌<◌, ◌||◌, ◌∙◌, ◌∷◌, ◌≡◌, ◌⊎◌, is_shared, refusal, code_where, declared_pages, ◌==◌, ◌+◌}
 use Rattle.vm_base.specs.declared.code.Code.TheVariants as code
 use Rattle.vm_legal.proofs.Served.{paged_sends}
 use Rattle.vm_legal.proofs.Unshared.{file_unshared}
@@ -8,6 +8,7 @@ use Rattle.vm_model.specs.declared.command.Command.TheVariants as command
 use Rattle.vm_model.specs.declared.event.Event.TheVariants as event
 use Rattle.vm_model.specs.declared.message.Message.TheVariants as message
 use Rattle.vm_system.proofs.Agreeing.{IsSpared}
+use Rattle.vm_system.proofs.Homes.{file_paged}
 use Rattle.vm_system.proofs.Sayings.{orderly_cleaned}
 
 -- the pager of an object knows the control that it knew in front of a line
@@ -51,21 +52,21 @@ known_there (suc n) o past known is = one (known_there n o past known) (known_be
 
 -- the control that a file's pager knows is the only one, and that of which the head of a clean speaks
 
-known_home : (header : Header) (h o k : ℕ) (past : List Event) → IsOrderly header past → is_shared header o ≡ false → known_control h o past ≡ Some k → home_for header o past ≡ Some h
-known_home header h o k past orderly plain at = by (is_made (up h o) past) refl
+known_home : (header : Header) (h o k : ℕ) (past : List Event) → IsOrderly header past → is_paged header o ≡ true → known_control h o past ≡ Some k → home_for header o past ≡ Some h
+known_home header h o k past orderly paged at = by (is_made (up h o) past) refl
   where
     by : (b : Bool) → is_made (up h o) past ≡ b → home_for header o past ≡ Some h
-    by true made = (orderly.home h o).made plain made
+    by true made = (orderly.home h o).made paged made
     by false none = absurd (none-some k (sym ((orderly.made h o).unknown none) ∙ at))
 
 abbrev known_of : Option KnownControl → Option Known
 known_of None = None
 known_of (Some known) = Some (record { host = known.host.0; control = known.control })
 
-known_tie : (header : Header) (o : ℕ) (known : Option KnownControl) (past : List Event) → IsOrderly header past → is_shared header o ≡ false → IsKnownAs o known past → known_below (length header.frames.items) o past ≡ known_of known
-known_tie header o None past orderly plain is = below_none (length header.frames.items) o past (λ g below. is g)
-known_tie header o (Some known) past orderly plain is = below_some (length header.frames.items) o known.host.0 known.control past is
-    (λ g k at. same_Some g known.host.0 (sym (known_home header g o k past orderly plain at) ∙ known_home header known.host.0 o known.control past orderly plain is)) (orderly.known known.host.0 o known.control is)
+known_tie : (header : Header) (o : ℕ) (known : Option KnownControl) (past : List Event) → IsOrderly header past → is_paged header o ≡ true → IsKnownAs o known past → known_below (length header.frames.items) o past ≡ known_of known
+known_tie header o None past orderly paged is = below_none (length header.frames.items) o past (λ g below. is g)
+known_tie header o (Some known) past orderly paged is = below_some (length header.frames.items) o known.host.0 known.control past is
+    (λ g k at. same_Some g known.host.0 (sym (known_home header g o k past orderly paged at) ∙ known_home header known.host.0 o known.control past orderly paged is)) (orderly.known known.host.0 o known.control is)
 
 head_events : (object : ObjectId) (page : PageNo) (count : ℕ) (flush : Bool) (known : Option KnownControl) (events : List Event) → CleanEvents known object.0 page count flush events → clean_head object page count flush (known_of known) ≡ events
 head_events object page count flush None events is = sym is
@@ -79,7 +80,7 @@ asked_is header outside s object page count flush line pager events stands file 
     let files = stands.agrees.files in
     let its = files.stand object.0 pager file at in
     let own : CleanEvents pager.known object.0 page count flush events = subst (λ (o : ℕ). CleanEvents pager.known o page count flush events) its.object_is says in
-    let tie = known_tie header object.0 pager.known past stands.agrees.orderly (file_unshared header object.0 file) its.known_is in
+    let tie = known_tie header object.0 pager.known past stands.agrees.orderly (file_paged header object.0 file) its.known_is in
     ap (λ (z : Option Known). Some (clean_head object page count flush z)) (known_line (length header.frames.items) object.0 line past ∙ tie) ∙ ap (λ (z : List Event). Some z) (head_events object page count flush pager.known events own)
 
 -- what is asked behind a line has its cause, is no host's, and can be told
@@ -96,10 +97,10 @@ pub record IsAsked (header : Header) (outside : Outside) (doing : Command) (past
   pub orderly : IsOrderly header past → IsOrderly header (asked ++ past)
   pub can : IsOrderly header past → CanTellAll header.size asked past
 
-asked_none : (header : Header) (outside : Outside) (doing : Command) (past : List Event) → IsAsked header outside doing past []
+pub asked_none : (header : Header) (outside : Outside) (doing : Command) (past : List Event) → IsAsked header outside doing past []
 asked_none header outside doing past = record { back = refl; licensed = tt; own_bytes = tt; frames = λ now. tt; inner = tt; nobodys = tt; controls = tt; spared = tt; silent = tt; orderly = λ orderly. orderly; can = λ orderly. tt }
 
-asked_one : (header : Header) (outside : Outside) (object : ObjectId) (page : PageNo) (count : ℕ) (flush : Bool) (line : ℕ) (h : List Event) (known : Option Known) → is_file header object.0 ≡ true
+pub asked_one : (header : Header) (outside : Outside) (object : ObjectId) (page : PageNo) (count : ℕ) (flush : Bool) (line : ℕ) (h : List Event) (known : Option Known) → is_file header object.0 ≡ true
     → known_below (length header.frames.items) object.0 h ≡ known → IsAsked header outside (command.Clean object page count flush) (event.Line line ∷ h) (clean_head object page count flush known)
 asked_one header outside object page count flush line h None file is = asked_none header outside (command.Clean object page count flush) (event.Line line ∷ h)
 asked_one header outside object page count flush line h (Some known) file is =
@@ -108,7 +109,7 @@ asked_one header outside object page count flush line h (Some known) file is =
       back = refl;
       licensed = (
         (
-          paged_sends header outside (command.Clean object page count flush) known.host object.0 known.control (message.Lock page count 2 flush 8 true) (event.Line line ∷ h) (either (not (nat_lt object.0 (named header))) (is_file header object.0) file)
+          paged_sends header outside (command.Clean object page count flush) known.host object.0 known.control (message.Lock page count 2 flush 8 true) (event.Line line ∷ h) (file_paged header object.0 file)
               (file, refl, refl, refl, there.0, (refl, refl, refl, refl), refl),
           tt,
         ),
@@ -124,10 +125,6 @@ asked_one header outside object page count flush line h (Some known) file is =
       orderly = λ orderly. orderly_cleaned header known.host object known.control page count flush (event.Line line ∷ h) orderly there.1 (file_unshared header object.0 file);
       can = λ orderly. ((tt, (orderly.made known.host object.0).known known.control there.0), tt);
     }
-  where
-    either : (b c : Bool) → c ≡ true → b || c ≡ true
-    either true c is = refl
-    either false c is = is
 
 -- what is cleaned is a file
 pub cleaned_file : (header : Header) (past : List Event) (object : ObjectId) (page : PageNo) (count : ℕ) (flush : Bool) → refusal header past (command.Clean object page count flush) ≡ None → is_file header object.0 ≡ true
@@ -136,15 +133,3 @@ cleaned_file header past object page count flush accepted = by (is_file header o
     by : (b c : Bool) → code_where (not b || c) code.InvalidArgument None ≡ None → b ≡ true
     by true c accepted = refl
     by false c accepted = absurd (let bad : Some code.InvalidArgument ≡ None = accepted in cc)
-
-pub asked_fine : (header : Header) (outside : Outside) (doing : Command) (line : ℕ) (h asked : List Event) → refusal header h doing ≡ None → is_idle doing ≡ true → head header h doing ≡ Some asked
-    → IsAsked header outside doing (event.Line line ∷ h) asked
-asked_fine header outside (command.FailFiles count) line h asked accepted idle is =
-    subst (λ (z : List Event). IsAsked header outside (command.FailFiles count) (event.Line line ∷ h) z) (same_Some [] asked is) (asked_none header outside (command.FailFiles count) (event.Line line ∷ h))
-asked_fine header outside (command.FailPaging count) line h asked accepted idle is =
-    subst (λ (z : List Event). IsAsked header outside (command.FailPaging count) (event.Line line ∷ h) z) (same_Some [] asked is) (asked_none header outside (command.FailPaging count) (event.Line line ∷ h))
-asked_fine header outside (command.Clean object page count flush) line h asked accepted idle is =
-    subst (λ (z : List Event). IsAsked header outside (command.Clean object page count flush) (event.Line line ∷ h) z)
-    (same_Some (clean_head object page count flush (known_below (length header.frames.items) object.0 h)) asked is)
-    (asked_one header outside object page count flush line h (known_below (length header.frames.items) object.0 h) (cleaned_file header h object page count flush accepted) refl)
-asked_fine header outside other line h asked accepted idle is = absurd (let bad : false ≡ true = idle in cc)

@@ -62,9 +62,9 @@ pub use Rattle.vm_legal.specs.InTurn.{FollowsInTurn, FollowsSoFarInTurn, IsDoneI
 pub use Rattle.vm_legal.specs.Frames.{FramesSuffice, Gives, Suffice, change_where, frames_after, frames_held, frames_used, returns_out, taken_down_change, taken_up_change}
 pub use Rattle.vm_legal.specs.Homes.{gives_frame}
 pub use Rattle.vm_legal.specs.Legal.{HasOneWriter, Holds, IsAtRest, CanonicalFor}
-pub use Rattle.vm_legal.specs.Licences.{HasCause, MaySendUp, MayTake, ReturnsOn, lock_taken, owed, tells, up}
+pub use Rattle.vm_legal.specs.Licences.{HasCause, MaySendUp, MayTake, ReturnsOn, is_paged, lock_taken, owed, tells, up}
 pub use Rattle.vm_legal.specs.InTurn.{AllInTurn, LicensedInTurn}
-pub use Rattle.vm_legal.specs.Outside.{Outside, is_file, is_shared, kind_of}
+pub use Rattle.vm_legal.specs.Outside.{NoneIsTemporary, Outside, is_file, is_shared, is_wild, kind_of}
 pub use Rattle.vm_legal.specs.Pagers.{Known, known_after, known_below, known_control, last_return, or_known}
 pub use Rattle.vm_legal.specs.Prompt.{AReady, AnAnswer, AnUnlock, Awaits, HostIsFull, IsExhausted, IsSource, NoneInVain, Prompt, AllServed, WaitsForPager}
 pub use Rattle.vm_legal.specs.Refusal.{acting, code_where, copy_refusal, has_copy_mark, is_copy_full, is_elsewhere, is_empty, is_fork_full, is_full, refusal}
@@ -102,7 +102,6 @@ pub use Rattle.vm_outside.specs.Causes.{CountRises, sum_count}
 pub use Rattle.vm_ports.specs.Ports.{PortTable}
 pub use Rattle.vm_quiet.proofs.Letters.{first_is, is_out, never, outs, outs_sent, outs_taken, queue_is, same_channel, some_out}
 pub use Rattle.vm_quiet.specs.Letters.{messages_on}
-pub use Rattle.vm_quiet.specs.Quiet.{AllSupplied}
 pub use Rattle.vm_system.specs.Channels.{ChannelTable, channel_number}
 pub use Rattle.vm_system.specs.Keeping.{FilesAreTold, FilesCarry, MayHave}
 pub use Rattle.vm_system.specs.Lawful.{Lawful}
@@ -112,7 +111,7 @@ pub use Rattle.vm_system.specs.Posts.{AreSame, CanSend, CanTell, CanTellAll, Has
 pub use Rattle.vm_system.specs.Refusing.{channel_code, code_at}
 pub use Rattle.vm_system.specs.Sends.{AreFresh, Delivered, made_by, opened}
 pub use Rattle.vm_system.specs.Settling.{DevicesCounted, StaysOpen}
-pub use Rattle.vm_system.specs.Stands.{Agrees, AllFilesServe, AllServe, AllTold, AreEmpty, AreNamedApart, AreNumbered, FilesAreKept, IsSupplied, PagingIsKept, SystemStands}
+pub use Rattle.vm_system.specs.Stands.{Agrees, AllFilesServe, AllServe, AllTold, AreEmpty, AreNamedApart, AreNumbered, FilesAreKept, IsServable, PagingIsKept, SystemStands}
 pub use Rattle.vm_system.specs.Steps.{DevicesHaveCause, EndsCut, GrowsWithinLimit, HasMore, IsBelowLimit, IsMemoryStop, KeepsCanonical, KeepsOpen, LeavesBacking, CanonicalCut, CanonicalOpen, MayBegin, MayCut, MayCutOpen, arms, devices, is_device, is_idle, is_kept_in, lined, settles, takes_any, takes_up, took_any, took_up}
 pub use Rattle.vm_system.specs.Takings.{Followed, MayBeCut, MayTakeFrom, PagerHasAnswered, TakesStep, Took}
 pub use Rattle.vm_system.specs.declared.state.State.{State}

@@ -112,7 +112,7 @@ can_follow given host washed old hosts events answered passed =
     let past = given.front ++ given.past in
     let stretch = passed.follows.stretch in
     let orderly : IsOrderly given.header past = subst (λ (z : List Event). IsOrderly given.header z) answered.is answered.agrees.orderly in
-    rw (answered.agrees.size, answered.is) (can_say given.header given.outside given.command past events answered.built.supplied orderly stretch.licensed stretch.said stretch.inner)
+    rw (answered.agrees.size, answered.is) (can_say given.header given.outside given.command past events orderly stretch.licensed stretch.said stretch.inner)
 
 -- and is told
 pub followed : (given : Going) (host : HostId) (washed : Bool) (old new : State) (events : List Event) → PagerHasAnswered given host washed old
@@ -141,7 +141,7 @@ followed given host washed old new events answered passed size pagers files decl
         rests = rw now passed.ended.rests;
         queues = rw now passed.ended.queues;
         agrees = agrees_said header given.outside given.command past events new
-            (orderly_said header given.outside given.command past events answered.built.supplied orderly stretch.licensed stretch.said stretch.inner) serve filed heard lawful (declared ∙ answered.agrees.declared) stretch (size ∙ answered.agrees.size) now posts;
+            (orderly_said header given.outside given.command past events orderly stretch.licensed stretch.said stretch.inner) serve filed heard lawful (declared ∙ answered.agrees.declared) stretch (size ∙ answered.agrees.size) now posts;
         paid = rw now (paid_more header events past stretch.inner owed (all_settled header new.hosts (events ++ past) passed.ended.rests));
         served = rw now (served_more header events past (others_said header events past stretch.said) served);
         recalled = rw now (recalled_more header events past (others_said header events past stretch.said) recalled);

@@ -1,13 +1,31 @@
 -- Only the pager of the host of an object's region hears of the object.
-use Rattle.vm_system.proofs.Common.{Bool, Event, Header, HostId, IsHome, List, Message, None, ObjectId, Option, Some, Up, ap, arith, false, home_for, home_of, home_stays, if◌then◌else◌, inl, inr, is_heard_elsewhere, is_made, is_shared, named, nat_lt, nat_tests, none-some, object_home, object_stays, refl, same_Some, subst, sym, true, up, ℕ, ◌&&◌, ◌==◌, ◌||◌, ◌∙◌, ◌∷◌, ◌≡◌, ◌≢◌, ◌≤◌, ◌<◌, ◌⊎◌, EachEvent, HasCause, HaveHomes, Outside, homes_next, homes_start, []}
+use Rattle.vm_system.proofs.Common.{Bool, Event, Header, HostId, IsHome, List, Message, None, ObjectId, Option, Some, Up, ap, arith, false, home_for, home_of, home_stays, if◌then◌else◌, inl, inr, is_heard_elsewhere, is_file, is_made, is_paged, named, nat_lt, nat_tests, never, none-some, object_home, object_stays, refl, same_Some, subst, sym, true, up, ℕ, ◌&&◌, ◌==◌, ◌||◌, ◌∙◌, ◌∷◌, ◌≡◌, ◌≢◌, ◌≤◌, ◌<◌, ◌⊎◌, EachEvent, HasCause, HaveHomes, Outside, homes_next, homes_start, []}
 use Rattle.std.specs.Prelude.{not}
 use Rattle.vm_model.specs.declared.event.Event.TheVariants as event
-use Rattle.vm_legal.proofs.Unshared.{temporary_unshared}
+use Rattle.vm_legal.proofs.Served.{later_paged}
+use Rattle.vm_legal.specs.Outside.{is_file_kept}
+use Rattle.vm_model.specs.Named.{declared as found}
 
 -- each history whose events have their causes has them
 pub homes : (header : Header) (outside : Outside) (past : List Event) → EachEvent (HasCause header outside) past → HaveHomes header past
 homes header outside [] causes = homes_start header
 homes header outside (e ∷ past) causes = homes_next header outside e past causes.0 (homes header outside past causes.1)
+
+-- a file is one that its pager serves, and of the declared objects no other is served by a file's pager or a default pager
+
+pub file_paged : (header : Header) (o : ℕ) → is_file header o ≡ true → is_paged header o ≡ true
+file_paged header o file = either (not (nat_lt o (named header))) (is_file header o) file
+  where
+    either : (b c : Bool) → c ≡ true → b || c ≡ true
+    either true c is = refl
+    either false c is = is
+
+pub paged_file : (header : Header) (o : ℕ) → o < named header → is_paged header o ≡ true → is_file header o ≡ true
+paged_file header o low paged = by (nat_lt o (named header)) (is_file_kept (found header o)) (grind (arith, nat_tests)) paged
+  where
+    by : (b c : Bool) → b ≡ true → not b || (b && c) ≡ true → b && c ≡ true
+    by true c below is = is
+    by false c below is = never below
 
 -- a declared object's home is its region's, and a temporary one's that of the region that it was made for
 
@@ -38,9 +56,9 @@ before h o e past home = by (object_home o past) refl home
     by (Some g) is (inr here) = inr (is ∙ sym (object_stays o g e past is) ∙ here)
 
 -- no pager hears of an object, and a channel is made on the host of its region alone
-pub home_kept : (header : Header) (h o : ℕ) (e : Event) (past : List Event) → IsHome header h o past → (is_shared header o ≡ false → is_made (up h o) (e ∷ past) ≡ true → home_for header o past ≡ Some h)
+pub home_kept : (header : Header) (h o : ℕ) (e : Event) (past : List Event) → IsHome header h o past → (is_paged header o ≡ true → is_made (up h o) (e ∷ past) ≡ true → home_for header o past ≡ Some h)
     → is_heard_elsewhere h o (e ∷ past) ≡ is_heard_elsewhere h o past → IsHome header h o (e ∷ past)
-home_kept header h o e past old made same = record { made = λ plain is. for_stays header h o e past (made plain is); own = λ temporary home. same ∙ old.own temporary (before h o e past home) }
+home_kept header h o e past old made same = record { made = λ paged is. for_stays header h o e past (made paged is); own = λ temporary home. same ∙ old.own temporary (before h o e past home) }
 
 other_host : (a h n o : ℕ) → (not (a == h) && n == o) ≡ true → a ≢ h
 other_host a h n o is = grind (arith, nat_tests)
@@ -52,15 +70,15 @@ elsewhere : (a g n : ℕ) → g ≢ a → (not (a == g) && n == n) ≡ true
 elsewhere a g n other = grind (arith, nat_tests)
 
 -- a pager hears of an object of its own host
-pub home_taken : (header : Header) (host : HostId) (object : ObjectId) (m : Message) (past : List Event) (h o : ℕ) → IsHome header h o past → (is_shared header object.0 ≡ false → home_for header object.0 past ≡ Some host.0)
+pub home_taken : (header : Header) (host : HostId) (object : ObjectId) (m : Message) (past : List Event) (h o : ℕ) → IsHome header h o past → (is_paged header object.0 ≡ true → home_for header object.0 past ≡ Some host.0)
     → IsHome header h o (event.Taken (Up host object) m ∷ past)
 home_taken header host object m past h o old here =
-    record { made = λ plain is. for_stays header h o (event.Taken (Up host object) m) past (old.made plain is); own = λ temporary home. by temporary (not (host.0 == h) && object.0 == o) refl (before h o (event.Taken (Up host object) m) past home) }
+    record { made = λ paged is. for_stays header h o (event.Taken (Up host object) m) past (old.made paged is); own = λ temporary home. by temporary (not (host.0 == h) && object.0 == o) refl (before h o (event.Taken (Up host object) m) past home) }
   where
     its : named header ≤ o → (not (host.0 == h) && object.0 == o) ≡ true → object_home o past ≡ Some host.0
     its temporary is =
         let same : object.0 ≡ o = same_object host.0 h object.0 o is in
-        sym (home_temporary header o past temporary) ∙ subst (λ (n : ℕ). home_for header n past ≡ Some host.0) same (here (subst (λ (n : ℕ). is_shared header n ≡ false) (sym same) (temporary_unshared header o temporary)))
+        sym (home_temporary header o past temporary) ∙ subst (λ (n : ℕ). home_for header n past ≡ Some host.0) same (here (subst (λ (n : ℕ). is_paged header n ≡ true) (sym same) (later_paged header o temporary)))
 
     by : named header ≤ o → (b : Bool) → (not (host.0 == h) && object.0 == o) ≡ b → (object_home o past ≡ None) ⊎ (object_home o past ≡ Some h) → b || is_heard_elsewhere h o past ≡ false
     by temporary false is home = old.own temporary home

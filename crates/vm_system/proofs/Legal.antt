@@ -3,7 +3,7 @@ use Rattle.std.proofs.Common.{zero, suc, length, refl, ap, ℕ, Some, None, Opti
 use Rattle.vm_base.specs.declared.ids.ObjectId.{ObjectId}
 use Rattle.vm_base.specs.declared.ids.TaskId.{TaskId}
 use Rattle.vm_legal.specs.Follows.{clean_head, map_head}
-use Rattle.vm_system.proofs.Common.{AllInner, AllInTurn, AllServed, Began, Bool, Code, Command, EachEvent, EachIn, EachOf, Entry, Event, FlatBytes, FollowsSoFarInTurn, FramesSuffice, HasCause, Header, Holds, HostTable, IfNone, IsAtRest, IsConsequence, IsDoneInTurn, IsGroupInTurn, IsPaid, IsRunInTurn, IsWholeInTurn, IsWholeSoFarInTurn, KeepsCanonical, List, MomentsIn, None, Numbered, Option, Outside, OwnBytes, Prompt, Some, Went, [], acting, answers, ap, code_where, copies, copies_from, copy_refusal, each_both, each_whole, entries_of, entry_at, false, has_copy_mark, head, host_of, if◌then◌else◌, inl, inner_both, is_copied, is_copy_full, is_elsewhere, is_fork_full, is_full, is_idle, is_none, is_range, is_some, length, licensed_both, marked_below, marked_regions, meets_range, moment_last, moments_both, moments_whole, most_entries, nat_le, new_marks, next_object, next_region, not, of_both, refl, refusal, region_of, reverse, settles, so_far, steps_whole, subst, suc, sym, takings_more, true, waiting, zero, ℕ, ◌++◌, ◌+◌, ◌/◌, ◌∙◌, ◌∷◌, ◌≡◌, AllSupplied}
+use Rattle.vm_system.proofs.Common.{AllInner, NoneIsTemporary, AllInTurn, AllServed, Began, Bool, Code, Command, EachEvent, EachIn, EachOf, Entry, Event, FlatBytes, FollowsSoFarInTurn, FramesSuffice, HasCause, Header, Holds, HostTable, IfNone, IsAtRest, IsConsequence, IsDoneInTurn, IsGroupInTurn, IsPaid, IsRunInTurn, IsWholeInTurn, IsWholeSoFarInTurn, KeepsCanonical, List, MomentsIn, None, Numbered, Option, Outside, OwnBytes, Prompt, Some, Went, [], acting, answers, ap, code_where, copies, copies_from, copy_refusal, each_both, each_whole, entries_of, entry_at, false, has_copy_mark, head, host_of, if◌then◌else◌, inl, inner_both, is_copied, is_copy_full, is_elsewhere, is_fork_full, is_full, is_idle, is_none, is_range, is_some, length, licensed_both, marked_below, marked_regions, meets_range, moment_last, moments_both, moments_whole, most_entries, nat_le, new_marks, next_object, next_region, not, of_both, refl, refusal, region_of, reverse, settles, so_far, steps_whole, subst, suc, sym, takings_more, true, waiting, zero, ℕ, ◌++◌, ◌+◌, ◌/◌, ◌∙◌, ◌∷◌, ◌≡◌}
 use Rattle.std.proofs.Common.{◌||◌, ◌&&◌, nat_lt}
 use Rattle.vm_base.specs.declared.code.Code.TheVariants as code
 use Rattle.vm_model.specs.declared.event.Event.TheVariants as event
@@ -16,7 +16,6 @@ use Rattle.vm_system.proofs.Sharing.{writers as one_writer}
 use Rattle.vm_shared.proofs.Pages.{legal as pages_legal}
 use Rattle.sms_server.proofs.Acting.{others_recall as recalled_other, others_serve as served_other}
 use Rattle.vm_system.proofs.Lawfulness.{others_said, recalled_more, served_more}
-use Rattle.vm_system.proofs.Sharing.{none_temporary}
 use Rattle.vm_legal.proofs.Turns.{so_far_of as weak_so_far}
 use Rattle.vm_legal.specs.Follows.{SoFarBy}
 use Rattle.vm_legal.specs.InTurn.{AllRecalled, StepIsInTurn}
@@ -120,8 +119,8 @@ recalled_said : (header : Header) (line : ℕ) (h events : List Event) → EachO
 recalled_said header line h events silent recalled = recalled_more header events (event.Line line ∷ h) silent (recalled_other header (event.Line line) h tt recalled)
 
 -- where each load answers from its own host's page it answers the flat map's bytes
-pub flat_of : (header : Header) (outside : Outside) (h : List Event) → AllSupplied header → EachEvent (HasCause header outside) h → EachEvent (OwnBytes header) h → EachEvent (FlatBytes header outside) h
-flat_of header outside h supplied causes own = answers header outside h causes own (copies_current header outside h (none_temporary header supplied) causes own) (loads_current header outside h causes own)
+pub flat_of : (header : Header) (outside : Outside) (h : List Event) → NoneIsTemporary header → EachEvent (HasCause header outside) h → EachEvent (OwnBytes header) h → EachEvent (FlatBytes header outside) h
+flat_of header outside h kinds causes own = answers header outside h causes own (copies_current header outside h (kinds) causes own) (loads_current header outside h causes own)
 
 -- a command that is no settle is whole so far, where it is whole
 so_far_of : (header : Header) (c : Numbered) (h events : List Event) → (settles c.command ≡ None → IsWholeInTurn header h c events) → IsWholeSoFarInTurn header h c events
@@ -144,9 +143,9 @@ pub record IsStep (header : Header) (outside : Outside) (c : Numbered) (h events
   pub turns : HostsServed header (events ++ event.Line c.line ∷ h)
   pub awake : EachEvent (HasCause header outside) (events ++ event.Line c.line ∷ h) → NoneSleeps header h → NoneSleeps header (events ++ event.Line c.line ∷ h)
 
-pub legal_step : (header : Header) (outside : Outside) (c : Numbered) (h events : List Event) → AllSupplied header → IsStep header outside c h events
+pub legal_step : (header : Header) (outside : Outside) (c : Numbered) (h events : List Event) → NoneIsTemporary header → IsStep header outside c h events
     → KeepsCanonical header outside c h (events ++ event.Line c.line ∷ h)
-legal_step header outside c h events supplied step run legal =
+legal_step header outside c h events kinds step run legal =
     let past = event.Line c.line ∷ h in
     let now = moment_last (FramesSuffice header) h legal.holds.frames in
     let follows : FollowsSoFarInTurn header outside (c ∷ run) (events ++ past) = (h, events, refl, step.made, so_far_of header c h events step.whole, legal.follows) in
@@ -154,7 +153,7 @@ legal_step header outside c h events supplied step run legal =
     let causes = so_far header outside (c ∷ run) (events ++ past) (weak_so_far header outside (c ∷ run) (events ++ past) follows) in
     let holds : Holds header outside (events ++ past) = record {
       own_bytes = own;
-      flat_bytes = flat_of header outside (events ++ past) supplied causes own;
+      flat_bytes = flat_of header outside (events ++ past) kinds causes own;
       frames = moments_whole (FramesSuffice header) events past (step.frames now) (now, legal.holds.frames);
       prompt = steps_whole (Prompt header) events past step.inner (legal.rests.prompt, legal.holds.prompt);
       paid = steps_whole (IsPaid header) events past step.inner (legal.rests.paid, legal.holds.paid);
@@ -173,9 +172,9 @@ legal_step header outside c h events supplied step run legal =
     }
 
 -- a refused command adds its line and its code
-pub legal_refused : (header : Header) (outside : Outside) (c : Numbered) (why : Code) (h : List Event) → AllSupplied header
+pub legal_refused : (header : Header) (outside : Outside) (c : Numbered) (why : Code) (h : List Event) → NoneIsTemporary header
     → refusal header h c.command ≡ Some why → KeepsCanonical header outside c h (event.Refused why ∷ event.Line c.line ∷ h)
-legal_refused header outside c why h supplied refused = legal_step header outside c h (event.Refused why ∷ []) supplied (record {
+legal_refused header outside c why h kinds refused = legal_step header outside c h (event.Refused why ∷ []) kinds (record {
   made = rw refused refl;
   whole = λ none. rw refused tt;
   own_bytes = (tt, tt);
@@ -192,14 +191,14 @@ legal_refused header outside c why h supplied refused = legal_step header outsid
 })
 
 -- a command's head, and what follows from it
-pub legal_began : (header : Header) (outside : Outside) (c : Numbered) (h events : List Event) (hosts : HostTable) → AllSupplied header
+pub legal_began : (header : Header) (outside : Outside) (c : Numbered) (h events : List Event) (hosts : HostTable) → NoneIsTemporary header
     → refusal header h c.command ≡ None → Began header outside c.command (event.Line c.line ∷ h) hosts events → KeepsCanonical header outside c h (events ++ event.Line c.line ∷ h)
-legal_began header outside c h events hosts supplied fine began =
+legal_began header outside c h events hosts kinds fine began =
     let heads = began.heads in
     let stretch = heads.stretch in
     let is : head header h c.command ≡ Some heads.first = sym (head_line header c.line h c.command) ∙ heads.head in
     let made : IsRunInTurn header outside h c heads.first events = record { more = heads.more; is = heads.is; follows = heads.follows; licensed = stretch.licensed } in
-    legal_step header outside c h events supplied (record {
+    legal_step header outside c h events kinds (record {
       made = rw (fine, is) made;
       whole = λ none. rw fine began.done;
       own_bytes = stretch.own_bytes;
@@ -215,13 +214,14 @@ idle_done : (header : Header) (group past : List Event) (doing : Command) → is
 idle_done header group past (command.FailFiles count) is = tt
 idle_done header group past (command.FailPaging count) is = tt
 idle_done header group past (command.Clean object page count flush) is = tt
+idle_done header group past (command.Say host object m) is = tt
 idle_done header group past other is = absurd (let bad : false ≡ true = is in cc)
 
 -- a command that is no host's: what is asked for it, and what the hosts do behind that
-pub legal_passed : (header : Header) (outside : Outside) (c : Numbered) (h asked events : List Event) (hosts : HostTable) → AllSupplied header
+pub legal_passed : (header : Header) (outside : Outside) (c : Numbered) (h asked events : List Event) (hosts : HostTable) → NoneIsTemporary header
     → is_idle c.command ≡ true → refusal header h c.command ≡ None → head header h c.command ≡ Some asked → IsAsked header outside c.command (event.Line c.line ∷ h) asked
     → Went header outside c.command (event.Line c.line ∷ h) asked hosts events → KeepsCanonical header outside c h (events ++ event.Line c.line ∷ h)
-legal_passed header outside c h asked events hosts supplied idle fine is says went =
+legal_passed header outside c h asked events hosts kinds idle fine is says went =
     let past = event.Line c.line ∷ h in
     let more = went.more in
     let stretch = went.follows.stretch in
@@ -233,7 +233,7 @@ legal_passed header outside c h asked events hosts supplied idle fine is says we
       follows = subst (λ (z : List Event). EachIn IsConsequence more (z ++ past)) (sym says.back) went.follows.follows;
       licensed = subst (λ (z : List Event). AllInTurn header outside c.command z past) (sym went.is) (licensed_both header outside c.command more asked past stretch.licensed says.licensed);
     } in
-    legal_step header outside c h events supplied (record {
+    legal_step header outside c h events kinds (record {
       made = rw (fine, is) made;
       whole = λ none. rw fine (idle_done header events past c.command idle);
       own_bytes = subst (λ (z : List Event). EachIn (OwnBytes header) z past) (sym went.is) (each_both (OwnBytes header) more asked past stretch.own_bytes says.own_bytes);
@@ -261,9 +261,9 @@ legal_passed header outside c h asked events hosts supplied idle fine is says we
     })
 
 -- a settle begins with its line
-pub legal_settle : (header : Header) (outside : Outside) (line count : ℕ) (h : List Event) → AllSupplied header
+pub legal_settle : (header : Header) (outside : Outside) (line count : ℕ) (h : List Event) → NoneIsTemporary header
     → KeepsCanonical header outside (record { line = line; command = command.Settle count }) h (event.Line line ∷ h)
-legal_settle header outside line count h supplied = legal_step header outside (record { line = line; command = command.Settle count }) h [] supplied (record {
+legal_settle header outside line count h kinds = legal_step header outside (record { line = line; command = command.Settle count }) h [] kinds (record {
   made = record { more = []; is = refl; follows = tt; licensed = tt };
   whole = λ none. absurd (let bad : Some count ≡ None = none in cc);
   own_bytes = tt;

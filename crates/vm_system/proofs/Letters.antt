@@ -1,9 +1,9 @@
 -- The letters on their way under events that begin a step, and the first of a channel.
-use Rattle.vm_system.proofs.Common.{AllLetters, Bool, Channel, Down, Ending, Event, HasHeard, Header, HostId, IsHostLetter, IsOrderly, IsWordUp, Letter, List, Message, None, ObjectId, Some, Up, [], false, first, first_is, gives_frame, home_for, host_id, if◌then◌else◌, inr, is_channel, is_ended, is_heard_elsewhere, is_made, is_shared, arith, known_after, known_control, length, live_control, lock_taken, messages_on, named, never, queue, queue_is, refl, rest, returns_out, same_Some, same_channel, subst, sym, true, undelivered, up, without_first, ℕ, ◌&&◌, ◌++◌, ◌==◌, ◌∙◌, ◌∷◌, ◌≡◌, ◌≢◌, ◌≤◌}
+use Rattle.vm_system.proofs.Common.{AllLetters, Bool, Channel, Down, Ending, Event, HasHeard, Header, HostId, IsHostLetter, IsOrderly, IsWordUp, Letter, List, Message, None, ObjectId, Some, Up, [], false, first, first_is, gives_frame, home_for, host_id, if◌then◌else◌, inr, is_channel, is_ended, is_paged, is_heard_elsewhere, is_made, is_shared, arith, known_after, known_control, length, live_control, lock_taken, messages_on, named, never, queue, queue_is, refl, rest, returns_out, same_Some, same_channel, subst, sym, true, undelivered, up, without_first, ℕ, ◌&&◌, ◌++◌, ◌==◌, ◌∙◌, ◌∷◌, ◌≡◌, ◌≢◌, ◌≤◌}
 use Rattle.std.specs.Prelude.{◌<◌}
 use Rattle.vm_model.specs.declared.event.Event.TheVariants as event
 use Rattle.vm_model.specs.declared.message.Message.TheVariants as message
-use Rattle.vm_legal.proofs.Unshared.{temporary_unshared}
+use Rattle.vm_legal.proofs.Served.{later_paged}
 use Rattle.vm_legal.specs.Licences.{LockRequest}
 use Rattle.vm_model.specs.Controls.{is_control}
 use Rattle.vm_system.proofs.Endings.{ends_taken}
@@ -82,19 +82,19 @@ unended_first header h object m past orderly temporary head = one (is_ended h ob
     one false is = is
 
 -- a message is on the way up from the host of its object
-at_home : (header : Header) (host : HostId) (object : ObjectId) (m : Message) (past : List Event) → IsOrderly header past → first (queue (Up host object) past) ≡ Some m → is_shared header object.0 ≡ false → home_for header object.0 past ≡ Some host.0
-at_home header host object m past orderly head plain = (orderly.home host.0 object.0).made plain (is_open host.0 object.0 m past (orderly.made host.0 object.0) head)
+at_home : (header : Header) (host : HostId) (object : ObjectId) (m : Message) (past : List Event) → IsOrderly header past → first (queue (Up host object) past) ≡ Some m → is_paged header object.0 ≡ true → home_for header object.0 past ≡ Some host.0
+at_home header host object m past orderly head paged = (orderly.home host.0 object.0).made paged (is_open host.0 object.0 m past (orderly.made host.0 object.0) head)
 
 pub home_first : (header : Header) (h : ℕ) (object : ObjectId) (m : Message) (past : List Event) → IsOrderly header past → named header ≤ object.0 → first (queue (Up (host_id h) object) past) ≡ Some m → is_heard_elsewhere h object.0 past ≡ false
 home_first header h object m past orderly temporary head =
-    (orderly.home h object.0).own temporary (inr (sym (home_temporary header object.0 past temporary) ∙ at_home header (host_id h) object m past orderly head (temporary_unshared header object.0 temporary)))
+    (orderly.home h object.0).own temporary (inr (sym (home_temporary header object.0 past temporary) ∙ at_home header (host_id h) object m past orderly head (later_paged header object.0 temporary)))
 
--- its pager knows no control of another host, unless that is the server of shared memory
-pub known_first : (header : Header) (h : ℕ) (object : ObjectId) (m : Message) (past : List Event) → IsOrderly header past → is_shared header object.0 ≡ false → first (queue (Up (host_id h) object) past) ≡ Some m → (other : ℕ) → other ≢ h → known_control other object.0 past ≡ None
-known_first header h object m past orderly plain head other apart = by (is_made (up other object.0) past) refl
+-- of a file or of temporary memory its pager knows no control of another host
+pub known_first : (header : Header) (h : ℕ) (object : ObjectId) (m : Message) (past : List Event) → IsOrderly header past → is_paged header object.0 ≡ true → first (queue (Up (host_id h) object) past) ≡ Some m → (other : ℕ) → other ≢ h → known_control other object.0 past ≡ None
+known_first header h object m past orderly paged head other apart = by (is_made (up other object.0) past) refl
   where
     by : (b : Bool) → is_made (up other object.0) past ≡ b → known_control other object.0 past ≡ None
-    by true is = absurd (apart (same_Some other h (sym ((orderly.home other object.0).made plain is) ∙ at_home header (host_id h) object m past orderly head plain)))
+    by true is = absurd (apart (same_Some other h (sym ((orderly.home other object.0).made paged is) ∙ at_home header (host_id h) object m past orderly head paged)))
     by false is = (orderly.made other object.0).unknown is
 
 pub elsewhere_first : (header : Header) (h : ℕ) (object : ObjectId) (m : Message) (past : List Event) → IsOrderly header past → first (queue (Up (host_id h) object) past) ≡ Some m → (g : ℕ) → g ≢ h
@@ -112,7 +112,7 @@ pub orderly_none : (header : Header) → IsOrderly header []
 orderly_none header = record {
   letters = tt;
   washed = λ h. refl;
-  home = λ h o. record { made = λ plain gone. never gone; own = λ temporary home. refl };
+  home = λ h o. record { made = λ paged gone. never gone; own = λ temporary home. refl };
   ending = λ h o temporary. record { living = λ control at. tt; last = tt; over = λ gone. never gone };
   made = λ h o. made_none h o;
   known = λ h o control at. absurd (let bad : None ≡ Some control = at in cc);

@@ -29,6 +29,7 @@ pub mod Served
 pub mod Settled
 pub mod Sharing
 pub mod Silent
+pub mod Spoken
 pub mod Starting
 pub mod Taken
 pub mod TakenDown
@@ -36,5 +37,6 @@ pub mod TakenFiled
 pub mod TakenFrom
 pub mod TakenShared
 pub mod TakenUp
+pub mod TakenWild
 pub mod Untouched
 pub mod Washings

@@ -1,11 +1,11 @@
 -- A history stays legal with one message more taken.
-use Rattle.vm_system.proofs.Common.{AllInTurn, AllServed, AreSame, BeforeSteps, Channel, ChannelId, Command, EachEvent, EachIn, EachMoment, Event, FollowsSoFarInTurn, FramesSuffice, HasCause, HasMore, Header, Holds, IsConsequence, IsGroupInTurn, IsPaid, KeepsOpen, CanonicalOpen, Letter, List, MayBeCut, MayCutOpen, MayTakeFrom, Message, None, Numbered, Outside, OwnBytes, Prompt, Some, State, Step, SystemStands, TakesStep, Took, [], ap, append-nil, append_assoc, channel_number, channel_of_first, each_both, each_whole, false, inl, inr, is_some, licensed_both, messages_on, moments_whole, oldest_channel, queue, queue_is, refl, so_far, steps_whole, subst, sym, takings, takings_more, true, undelivered, ℕ, ◌++◌, ◌∙◌, ◌∷◌, ◌≡◌, AllSupplied}
+use Rattle.vm_system.proofs.Common.{AllInTurn, NoneIsTemporary, AllServed, AreSame, BeforeSteps, Channel, ChannelId, Command, EachEvent, EachIn, EachMoment, Event, FollowsSoFarInTurn, FramesSuffice, HasCause, HasMore, Header, Holds, IsConsequence, IsGroupInTurn, IsPaid, KeepsOpen, CanonicalOpen, Letter, List, MayBeCut, MayCutOpen, MayTakeFrom, Message, None, Numbered, Outside, OwnBytes, Prompt, Some, State, Step, SystemStands, TakesStep, Took, [], ap, append-nil, append_assoc, channel_number, channel_of_first, each_both, each_whole, false, inl, inr, is_some, licensed_both, messages_on, moments_whole, oldest_channel, queue, queue_is, refl, so_far, steps_whole, subst, sym, takings, takings_more, true, undelivered, ℕ, ◌++◌, ◌∙◌, ◌∷◌, ◌≡◌}
 use Rattle.vm_model.specs.declared.command.Command.TheVariants as command
 use Rattle.vm_model.specs.declared.event.Event.TheVariants as event
 use Rattle.vm_ports.specs.Ports.{oldest as oldest_on}
 use Rattle.vm_ports.specs.declared.letter.Letter.{Letter as Posted}
 use Rattle.vm_system.proofs.Numbers.{is_same}
-use Rattle.vm_system.proofs.Sharing.{writers as one_writer}
+use Rattle.vm_system.proofs.Sharing.{none_temporary, writers as one_writer}
 use Rattle.vm_shared.proofs.Pages.{legal as pages_legal}
 use Rattle.vm_system.proofs.Legal.{flat_of}
 use Rattle.vm_legal.proofs.Turns.{cut_in_turn, so_far_of as weak_so_far}
@@ -15,7 +15,7 @@ use Rattle.vm_system.proofs.Awake.{awake_of}
 
 -- what holds in front of a taking
 pub record HoldsUpTo (header : Header) (outside : Outside) (past : List Event) : Type 0 where
-  pub supplied : AllSupplied header
+  pub kinds : NoneIsTemporary header
   pub own_bytes : EachEvent (OwnBytes header) past
   pub frames : EachMoment (FramesSuffice header) past
   pub prompts : BeforeSteps (Prompt header) past
@@ -39,7 +39,7 @@ holds_taken given new step caused front =
     let own : EachEvent (OwnBytes header) new = rw is (each_whole (OwnBytes header) stretch past step.own_bytes front.own_bytes) in
     record {
       own_bytes = own;
-      flat_bytes = flat_of header outside new front.supplied caused own;
+      flat_bytes = flat_of header outside new front.kinds caused own;
       frames = rw is (moments_whole (FramesSuffice header) stretch past step.frames front.frames);
       prompt = rw step.is (steps_whole (Prompt header) step.more (event.Taken step.channel step.m ∷ past) step.inner (front.prompt, front.prompts));
       paid = rw step.is (steps_whole (IsPaid header) step.more (event.Taken step.channel step.m ∷ past) step.inner (front.paid, front.payments));
@@ -76,7 +76,7 @@ settled_more header outside count line run old new stretch is follows licensed (
 -- what holds of an open history that has a kernel
 pub up_to_open : (header : Header) (outside : Outside) (run : List Numbered) (s : State) → SystemStands header outside s → CanonicalOpen header outside run s.history.items → HoldsUpTo header outside s.history.items
 up_to_open header outside run s stands legal = record {
-  supplied = stands.built.supplied;
+  kinds = none_temporary header stands.built.ranged;
   own_bytes = legal.holds.own_bytes;
   frames = legal.holds.frames;
   prompts = legal.holds.prompt;

@@ -4,6 +4,7 @@ use Rattle.vm_quiet.proofs.Carried.{carried}
 use Rattle.vm_shared.proofs.Answered.{nobody_waits}
 use Rattle.vm_shared.proofs.Carried.{shared_are_carried}
 use Rattle.vm_system.specs.Resting.{AllAreCarried, LeavesAtRest, WaitsForFrames}
+use Rattle.vm_system.proofs.Sharing.{none_temporary}
 
 all_carried : (header : Header) (outside : Outside) (s : State) → SystemStands header outside s → AllAreCarried header s.history.items
 all_carried header outside s stands =
@@ -16,7 +17,7 @@ all_carried header outside s stands =
 waits_for_frames : (header : Header) (outside : Outside) (s : State) → SystemStands header outside s → Prompt header s.history.items → WaitsForFrames header s.history.items
 waits_for_frames header outside s stands prompt = λ delivered.
     let lawful = stands.agrees.lawful in
-    nobody_waits header outside s.history.items stands.built.supplied lawful.causes lawful.own_bytes lawful.paid stands.paid stands.served prompt delivered
+    nobody_waits header outside s.history.items (none_temporary header stands.built.ranged) lawful.causes lawful.own_bytes lawful.paid stands.paid stands.served prompt delivered
 
 -- behind a step, or behind several
 pub left_at_rest : (header : Header) (outside : Outside) (old : List Event) (new : State) → SystemStands header outside new → (Prompt header old → Prompt header new.history.items) → LeavesAtRest header old new.history.items

@@ -1,5 +1,5 @@
 -- The letters on their way under what a kernel says, and under what a pager answers or asks.
-use Rattle.vm_system.proofs.Common.{Access, AllInner, AllLetters, AllInTurn, Bool, CanSend, CanTell, CanTellAll, Channel, Command, CreatesHere, Down, EachIn, Ending, Event, FileAnswer, FileTable, HasMade, HasPageOf, Header, Held, HostId, IsHostLetter, IsInner, IsOrderly, IsServerWord, IsWord, KernelSays, LicensedInTurn, List, MaySendUp, Message, None, ObjectId, Option, Outside, PageNo, PagerAnswer, Put, Read, RequestAnswer, SlotTable, Some, SomeKernelSays, Up, Write, [], arith, became, device_failed, error, false, has_lost, held_at, home_for, home_of, host_id, inl, inr, is_ended, is_made, last_control, length, live_control, makes, named, nat_tests, never, object_home, queue, refl, sent_to, subst, suc, supply, sym, taking, told_of, true, undelivered, up, ℕ, ◌&&◌, ◌++◌, ◌+◌, ◌==◌, ◌||◌, ◌∙◌, ◌∷◌, ◌≡◌, ◌≤◌, is_shared, is_file, ◌⊎◌, is_store, if◌then◌else◌, zero}
+use Rattle.vm_system.proofs.Common.{Access, AllInner, AllLetters, AllInTurn, Bool, CanSend, CanTell, CanTellAll, Channel, Command, CreatesHere, Down, EachIn, Ending, Event, FileAnswer, FileTable, HasMade, HasPageOf, Header, Held, HostId, IsHostLetter, IsInner, IsOrderly, IsServerWord, IsWord, KernelSays, LicensedInTurn, List, MaySendUp, Message, None, ObjectId, Option, Outside, PageNo, PagerAnswer, Put, Read, RequestAnswer, SlotTable, Some, SomeKernelSays, Up, Write, [], arith, became, device_failed, error, false, has_lost, held_at, home_for, home_of, host_id, inl, inr, is_ended, is_made, last_control, length, live_control, makes, named, nat_tests, never, object_home, queue, refl, sent_to, subst, suc, supply, sym, taking, told_of, true, undelivered, up, ℕ, ◌&&◌, ◌++◌, ◌+◌, ◌==◌, ◌||◌, ◌∙◌, ◌∷◌, ◌≡◌, ◌≤◌, is_paged, is_shared, ◌⊎◌, is_store, if◌then◌else◌, zero}
 use Rattle.std.specs.Prelude.{◌<◌}
 use Rattle.vm_model.specs.declared.event.Event.TheVariants as event
 use Rattle.vm_model.specs.declared.message.Message.TheVariants as message
@@ -10,9 +10,8 @@ use Rattle.vm_system.proofs.Endings.{ends_created, ends_ended, ends_said}
 use Rattle.vm_legal.proofs.Unshared.{temporary_unshared}
 use Rattle.vm_legal.specs.Licences.{ServerSends, desired_access}
 use Rattle.vm_system.proofs.Hearing.{heard_next}
-use Rattle.vm_system.proofs.Homes.{home_declared, home_kept, home_temporary}
+use Rattle.vm_system.proofs.Homes.{home_declared, home_kept, home_temporary, paged_file}
 use Rattle.vm_system.proofs.Letters.{Grew, lettered, letters_end, letters_stay, orderly_silent, queued}
-use Rattle.vm_quiet.specs.Quiet.{AllSupplied}
 use Rattle.vm_system.proofs.Makings.{at_place, made_completed, made_created, made_kept, made_opened, made_requested, made_returned, made_terminated, made_unlocked, of_number, own}
 use Rattle.vm_system.proofs.Washings.{washed_sent}
 use Rattle.vm_legal.proofs.Turns.{cause_of}
@@ -33,7 +32,7 @@ letters_sent header c m past old letter =
 
 -- a message up is sent: what is left to show is of its object
 sent_up : (header : Header) (host : HostId) (object : ObjectId) (m : Message) (past : List Event) → IsOrderly header past → IsHostLetter header (event.Sent (Up host object) m ∷ past) (record { channel = Up host object; message = m })
-    → ((h o : ℕ) → is_shared header o ≡ false → is_made (up h o) (event.Sent (Up host object) m ∷ past) ≡ true → home_for header o past ≡ Some h)
+    → ((h o : ℕ) → is_paged header o ≡ true → is_made (up h o) (event.Sent (Up host object) m ∷ past) ≡ true → home_for header o past ≡ Some h)
     → ((h o : ℕ) → named header ≤ o → Ending (live_control h o (event.Sent (Up host object) m ∷ past)) (is_ended h o past) (queue (up h o) (event.Sent (Up host object) m ∷ past)))
     → ((h o : ℕ) → HasMade h o (event.Sent (Up host object) m ∷ past)) → IsOrderly header (event.Sent (Up host object) m ∷ past)
 sent_up header host object m past old letter home ending made = record {
@@ -67,14 +66,14 @@ all_same false c d e is at this = never is
 opened_down : (host : HostId) (object : ObjectId) (control : ℕ) (past : List Event) → (host.0 == host.0 && (object.0 == object.0 && control == control)) || is_made (Down host object control) past ≡ true
 opened_down host object control past = all_same (host.0 == host.0) (object.0 == object.0) (control == control) (is_made (Down host object control) past) (own host.0) (own object.0) (own control)
 
-opened_home : (header : Header) (host : HostId) (object : ObjectId) (past : List Event) → IsOrderly header past → (is_shared header object.0 ≡ false → home_for header object.0 past ≡ Some host.0) → (h o : ℕ) → is_shared header o ≡ false
+opened_home : (header : Header) (host : HostId) (object : ObjectId) (past : List Event) → IsOrderly header past → (is_paged header object.0 ≡ true → home_for header object.0 past ≡ Some host.0) → (h o : ℕ) → is_paged header o ≡ true
     → (h == host.0 && o == object.0) || is_made (up h o) past ≡ true → home_for header o past ≡ Some h
-opened_home header host object past old here h o plain is = by (h == host.0) (o == object.0) refl refl is
+opened_home header host object past old here h o paged is = by (h == host.0) (o == object.0) refl refl is
   where
     by : (b c : Bool) → h == host.0 ≡ b → o == object.0 ≡ c → (b && c) || is_made (up h o) past ≡ true → home_for header o past ≡ Some h
-    by true true is at made = at_place (λ a n. is_shared header n ≡ false → home_for header n past ≡ Some a) host.0 object.0 h o (flipped host.0 h object.0 o is at) here plain
-    by true false is at made = (old.home h o).made plain made
-    by false c is at made = (old.home h o).made plain made
+    by true true is at made = at_place (λ a n. is_paged header n ≡ true → home_for header n past ≡ Some a) host.0 object.0 h o (flipped host.0 h object.0 o is at) here paged
+    by true false is at made = (old.home h o).made paged made
+    by false c is at made = (old.home h o).made paged made
 
 next_unmade : (header : Header) (host : HostId) (object : ObjectId) (control : ℕ) (past : List Event) → IsOrderly header past → control ≡ last_control host.0 object.0 past + 1 → is_made (Down host object control) past ≡ false
 next_unmade header host object control past old next = (old.made host.0 object.0).unmade control (omega (arith, next))
@@ -82,7 +81,7 @@ next_unmade header host object control past old next = (old.made host.0 object.0
 created : (header : Header) (host : HostId) (object : ObjectId) (control size : ℕ) (past : List Event) → IsOrderly header past → host.0 < length header.frames.items → object_home object.0 past ≡ Some host.0 → named header ≤ object.0
     → control ≡ 1 → last_control host.0 object.0 past ≡ 0 → Sends header (Up host object) (message.Create control size) past
 created header host object control size past old known here temporary one nil = record {
-  orderly = sent_up header host object (message.Create control size) past old (known, opened_down host object control past, λ shared. never (sym (temporary_unshared header object.0 temporary) ∙ shared)) (opened_home header host object past old (λ plain. home_temporary header object.0 past temporary ∙ here))
+  orderly = sent_up header host object (message.Create control size) past old (known, opened_down host object control past, λ shared. never (sym (temporary_unshared header object.0 temporary) ∙ shared)) (opened_home header host object past old (λ paged. home_temporary header object.0 past temporary ∙ here))
       (λ h o above. ends_created (host.0 == h && object.0 == o) (is_ended h o past) (live_control h o past) control (queue (up h o) past) (message.Create control size) (queued header h o past old above) (fresh h o) refl)
       (λ h o. made_created host object control size past h o (old.made h o) next);
   page = tt;
@@ -103,10 +102,10 @@ created header host object control size past old known here temporary one nil = 
     fresh h o is = at_place (λ a n. (queue (up a n) past ≡ []) × (is_ended a n past ≡ false)) host.0 object.0 h o is (its.quiet (its.never nil).0, unended (is_ended host.0 object.0 past) refl)
 
 -- a declared object is mapped: nothing is claimed of its ends
-opened : (header : Header) (host : HostId) (object : ObjectId) (control size : ℕ) (past : List Event) → IsOrderly header past → host.0 < length header.frames.items → (is_shared header object.0 ≡ false → home_of object.0 past ≡ Some host.0) → object.0 < named header
+opened : (header : Header) (host : HostId) (object : ObjectId) (control size : ℕ) (past : List Event) → IsOrderly header past → host.0 < length header.frames.items → (is_paged header object.0 ≡ true → home_of object.0 past ≡ Some host.0) → object.0 < named header
     → control ≡ suc (last_control host.0 object.0 past) → Sends header (Up host object) (message.Init control size) past
 opened header host object control size past old known here declared number = record {
-  orderly = sent_up header host object (message.Init control size) past old (known, opened_down host object control past, λ shared. tt) (opened_home header host object past old (λ plain. home_declared header object.0 past declared ∙ here plain))
+  orderly = sent_up header host object (message.Init control size) past old (known, opened_down host object control past, λ shared. tt) (opened_home header host object past old (λ paged. home_declared header object.0 past declared ∙ here paged))
       (λ h o above. ends_created (host.0 == h && object.0 == o) (is_ended h o past) (live_control h o past) control (queue (up h o) past) (message.Init control size) (queued header h o past old above) (λ is. absurd (other h o above is)) refl)
       (λ h o. made_opened host object control size past h o (old.made h o) next);
   page = tt;
@@ -183,25 +182,17 @@ desired access zero = by (is_store access)
     by false = inl refl
 desired access (suc steps) = inl refl
 
--- a declared object that isn't shared is a file
-else_file : (header : Header) (o : ℕ) → (is_file header o || is_shared header o) ≡ true → is_shared header o ≡ false → is_file header o ≡ true
-else_file header o either plain = by (is_file header o) (is_shared header o) either plain
-  where
-    by : (b c : Bool) → b || c ≡ true → c ≡ false → b ≡ true
-    by true c either plain = refl
-    by false c either plain = absurd (let bad : true ≡ false = sym either ∙ plain in cc)
-
 -- what a kernel says up
-said_up : (header : Header) (doing : Command) (host : HostId) (object : ObjectId) (m : Message) (past : List Event) → AllSupplied header → IsOrderly header past → host.0 < length header.frames.items → MaySendUp header doing host.0 object.0 m past
+said_up : (header : Header) (doing : Command) (host : HostId) (object : ObjectId) (m : Message) (past : List Event) → IsOrderly header past → host.0 < length header.frames.items → MaySendUp header doing host.0 object.0 m past
     → KernelSays host.0 header.size (event.Sent (Up host object) m) → CreatesHere header host.0 (event.Sent (Up host object) m) past → Sends header (Up host object) m past
-said_up header doing host object (message.Init control size) past supplied old known may said creates = opened header host object control size past old known (λ plain. creates (else_file header object.0 (supplied object.0 may.declared) plain)) may.declared may.number
-said_up header doing host object (message.Create control size) past supplied old known may said creates = created header host object control size past old known creates may.temporary may.number may.never
-said_up header doing host object (message.Request control page access) past supplied old known may said creates = requested header host object control access page past old known may.live (subst (λ (n : ℕ). (n ≡ 1) ⊎ (n ≡ 3)) (sym may.number) (desired may.access may.comes.steps))
-said_up header doing host object (message.Return control page dirty keep bytes) past supplied old known may said creates = returned header host object control page dirty keep bytes past old known may.live said.1
-said_up header doing host object (message.Unlock control page access) past supplied old known may said creates = unlocked header host object control access page past old known may.live
-said_up header doing host object (message.Completed control page count) past supplied old known may said creates = completed header host object control count page past old known may.live (λ shared. old.locks _ may.taken shared)
-said_up header doing host object (message.Terminate control) past supplied old known may said creates = terminated header host object control past old known may.live
-said_up header doing host object m past supplied old known may said creates = absurd said
+said_up header doing host object (message.Init control size) past old known may said creates = opened header host object control size past old known (λ paged. creates (paged_file header object.0 may.declared paged)) may.declared may.number
+said_up header doing host object (message.Create control size) past old known may said creates = created header host object control size past old known creates may.temporary may.number may.never
+said_up header doing host object (message.Request control page access) past old known may said creates = requested header host object control access page past old known may.live (subst (λ (n : ℕ). (n ≡ 1) ⊎ (n ≡ 3)) (sym may.number) (desired may.access may.comes.steps))
+said_up header doing host object (message.Return control page dirty keep bytes) past old known may said creates = returned header host object control page dirty keep bytes past old known may.live said.1
+said_up header doing host object (message.Unlock control page access) past old known may said creates = unlocked header host object control access page past old known may.live
+said_up header doing host object (message.Completed control page count) past old known may said creates = completed header host object control count page past old known may.live (λ shared. old.locks _ may.taken shared)
+said_up header doing host object (message.Terminate control) past old known may said creates = terminated header host object control past old known may.live
+said_up header doing host object m past old known may said creates = absurd said
 
 -- the host of what is said
 said_here : (h size : ℕ) (host : HostId) (object : ObjectId) (m : Message) → KernelSays h size (event.Sent (Up host object) m) → host.0 ≡ h
@@ -223,28 +214,28 @@ sends_tells : (header : Header) (c : Channel) (m : Message) (past : List Event) 
 sends_tells header c m past sends = record { orderly = sends.orderly; can = (sends.page, sends.can) }
 
 -- what a kernel says
-said : (header : Header) (outside : Outside) (doing : Command) (e : Event) (past : List Event) → AllSupplied header → IsOrderly header past → LicensedInTurn header outside doing e past → SomeKernelSays header e past → IsInner e → Tells header e past
-said header outside doing (event.Line line) past supplied old licence is inner = absurd inner
-said header outside doing (event.Taken channel m) past supplied old licence is inner = absurd inner
-said header outside doing (event.Sent (Down host object control) m) past supplied old licence is inner = absurd is.says
-said header outside doing (event.Sent (Up host object) m) past supplied old licence is inner =
+said : (header : Header) (outside : Outside) (doing : Command) (e : Event) (past : List Event) → IsOrderly header past → LicensedInTurn header outside doing e past → SomeKernelSays header e past → IsInner e → Tells header e past
+said header outside doing (event.Line line) past old licence is inner = absurd inner
+said header outside doing (event.Taken channel m) past old licence is inner = absurd inner
+said header outside doing (event.Sent (Down host object control) m) past old licence is inner = absurd is.says
+said header outside doing (event.Sent (Up host object) m) past old licence is inner =
     let here : is.host ≡ host.0 = sym (said_here is.host header.size host object m is.says) in
     sends_tells header (Up host object) m past
-    (said_up header doing host object m past supplied old (subst (λ (h : ℕ). h < length header.frames.items) here is.known) (cause_of header outside doing (event.Sent (Up host object) m) past licence.0) (subst (λ (h : ℕ). KernelSays h header.size (event.Sent (Up host object) m)) here is.says)
+    (said_up header doing host object m past old (subst (λ (h : ℕ). h < length header.frames.items) here is.known) (cause_of header outside doing (event.Sent (Up host object) m) past licence.0) (subst (λ (h : ℕ). KernelSays h header.size (event.Sent (Up host object) m)) here is.says)
     (subst (λ (h : ℕ). CreatesHere header h (event.Sent (Up host object) m) past) here is.creates))
-said header outside doing e past supplied old licence is inner = record { orderly = orderly_silent header e past tt old; can = tt }
+said header outside doing e past old licence is inner = record { orderly = orderly_silent header e past tt old; can = tt }
 
-pub orderly_said : (header : Header) (outside : Outside) (doing : Command) (past events : List Event) → AllSupplied header → IsOrderly header past → AllInTurn header outside doing events past → EachIn (SomeKernelSays header) events past → AllInner events
+pub orderly_said : (header : Header) (outside : Outside) (doing : Command) (past events : List Event) → IsOrderly header past → AllInTurn header outside doing events past → EachIn (SomeKernelSays header) events past → AllInner events
     → IsOrderly header (events ++ past)
-orderly_said header outside doing past [] supplied old licences is inner = old
-orderly_said header outside doing past (e ∷ events) supplied old licences is inner =
-    (said header outside doing e (events ++ past) supplied (orderly_said header outside doing past events supplied old licences.1 is.1 inner.1) licences.0 is.0 inner.0).orderly
+orderly_said header outside doing past [] old licences is inner = old
+orderly_said header outside doing past (e ∷ events) old licences is inner =
+    (said header outside doing e (events ++ past) (orderly_said header outside doing past events old licences.1 is.1 inner.1) licences.0 is.0 inner.0).orderly
 
-pub can_say : (header : Header) (outside : Outside) (doing : Command) (past events : List Event) → AllSupplied header → IsOrderly header past → AllInTurn header outside doing events past → EachIn (SomeKernelSays header) events past → AllInner events
+pub can_say : (header : Header) (outside : Outside) (doing : Command) (past events : List Event) → IsOrderly header past → AllInTurn header outside doing events past → EachIn (SomeKernelSays header) events past → AllInner events
     → CanTellAll header.size events past
-can_say header outside doing past [] supplied old licences is inner = tt
-can_say header outside doing past (e ∷ events) supplied old licences is inner =
-    ((said header outside doing e (events ++ past) supplied (orderly_said header outside doing past events supplied old licences.1 is.1 inner.1) licences.0 is.0 inner.0).can, can_say header outside doing past events supplied old licences.1 is.1 inner.1)
+can_say header outside doing past [] old licences is inner = tt
+can_say header outside doing past (e ∷ events) old licences is inner =
+    ((said header outside doing e (events ++ past) (orderly_said header outside doing past events old licences.1 is.1 inner.1) licences.0 is.0 inner.0).can, can_say header outside doing past events old licences.1 is.1 inner.1)
 
 -- events that were told, one after another
 pub record AllTold (header : Header) (events past : List Event) : Type 0 where
@@ -277,7 +268,7 @@ pub record Server (header : Header) (host at : ℕ) (object : ObjectId) (control
   pub plain : is_shared header object.0 ≡ false
 
 -- so it is no matter of the server
-never_shared : {A : Type 0} (header : Header) (o : ℕ) → is_shared header o ≡ false → is_shared header o ≡ true → A
+pub never_shared : {A : Type 0} (header : Header) (o : ℕ) → is_shared header o ≡ false → is_shared header o ≡ true → A
 never_shared header o plain shared = never (sym plain ∙ shared)
 
 pub told_none : (header : Header) (past : List Event) → IsOrderly header past → AllTold header [] past

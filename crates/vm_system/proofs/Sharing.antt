@@ -1,8 +1,8 @@
 -- What the laws of shared memory say of a system's history, and of the server that stands for it.
-use Rattle.vm_system.proofs.Common.{AllSupplied, BeforeSteps, Bool, EachEvent, EachMoment, Event, HasCause, HasOneWriter, Header, IsPaid, List, MeetsProtocol, Message, ObjectId, Outside, OwnBytes, [], arith, false, is_shared, named, nat_lt, nat_tests, never, page_part, queue, refl, subst, sym, true, up, up_word, ℕ, ◌&&◌, ◌∷◌, ◌≡◌, ◌||◌, first, if◌then◌else◌, AllServed, ◌==◌}
-use Rattle.vm_base.specs.declared.ids.ObjectKind.{ObjectKind}
+use Rattle.vm_system.proofs.Common.{BeforeSteps, NoneIsTemporary, Bool, EachEvent, EachMoment, Event, HasCause, HasOneWriter, Header, IsPaid, List, MeetsProtocol, Message, ObjectId, Outside, OwnBytes, [], arith, false, is_shared, named, nat_lt, nat_tests, never, page_part, queue, refl, subst, sym, true, up, up_word, ℕ, ◌&&◌, ◌∷◌, ◌≡◌, first, if◌then◌else◌, AllServed, IsRanged, ap, kind_of, ◌≤◌, ◌==◌, ◌≢◌, ◌∙◌}
 use Rattle.vm_base.specs.declared.ids.ObjectKind.TheVariants as kinds
-use Rattle.vm_legal.specs.Outside.{is_file_kept, is_file_kind, is_shared_kind, kind_in}
+use Rattle.vm_legal.specs.Outside.{kind_in}
+use Rattle.vm_model.proofs.Names.{each_declared}
 use Rattle.vm_model.specs.Named.{declared}
 use Rattle.vm_model.specs.declared.script.Declared.{Declared}
 use Rattle.std.proofs.Common.{Option, Some, None}
@@ -11,23 +11,25 @@ use Rattle.vm_model.specs.Words.{Asking, Doing, OtherUp, Returning, Unlocking, i
 use Rattle.vm_model.specs.declared.message.Message.TheVariants as message
 use Rattle.vm_shared.proofs.Pages.{one_writer}
 use Rattle.vm_shared.proofs.Protocol.{completed_mine, ended_mine, request_alone, unlock_alone}
-use Rattle.vm_shared.specs.Kinds.{NoneIsTemporary}
 
--- a declared object that is a file or a shared one is no temporary one
-pub none_temporary : (header : Header) → AllSupplied header → NoneIsTemporary header
-none_temporary header supplied o below = by (nat_lt o (named header)) (declared header o) (grind (arith, nat_tests)) (supplied o below)
+-- no declared object is temporary
+pub none_temporary : (header : Header) → IsRanged header → NoneIsTemporary header
+none_temporary header ranged o below same =
+    let found = each_declared (λ (object : Declared). object.kind ≢ kinds.Temp) header o ranged.kinds below in
+    let within : nat_lt o (named header) ≡ true = grind (arith, nat_tests) in
+    found.2 (sym (by (nat_lt o (named header)) (declared header o) found.0 within found.1) ∙ same)
   where
-    at : (kind : ObjectKind) → is_file_kind kind || is_shared_kind kind ≡ true → kind ≡ kinds.Temp → ⊥
-    at kinds.Temp is = never is
-    at kinds.File is = λ same. absurd (cc)
-    at kinds.Shared is = λ same. absurd (cc)
-    at kinds.Wild is = never is
+    by : (b : Bool) (row : Option Declared) (object : Declared) → b ≡ true → row ≡ Some object → (if b then kind_in row else kinds.Temp) ≡ object.kind
+    by true row object low is = ap kind_in is
+    by false row object low is = never low
 
-    by : (b : Bool) (row : Option Declared) → b ≡ true → (b && is_file_kept row) || is_shared_kind (if b then kind_in row else kinds.Temp) ≡ true
-        → (if b then kind_in row else kinds.Temp) ≡ kinds.Temp → ⊥
-    by true None low is = never is
-    by true (Some object) low is = at object.kind is
-    by false row low is = never low
+-- so an object that is temporary isn't declared
+pub undeclared : (header : Header) (o : ℕ) → IsRanged header → kind_of header o ≡ kinds.Temp → named header ≤ o
+undeclared header o ranged is = by (nat_lt o (named header)) refl
+  where
+    by : (b : Bool) → nat_lt o (named header) ≡ b → named header ≤ o
+    by true low = absurd (none_temporary header ranged o (grind (arith, nat_tests, low)) is)
+    by false high = grind (arith, nat_tests, high)
 
 -- a shared page has one writer at every moment
 pub writers : (header : Header) (outside : Outside) (history : List Event) → EachEvent (HasCause header outside) history → EachEvent (OwnBytes header) history → EachMoment (HasOneWriter header) history

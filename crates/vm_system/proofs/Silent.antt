@@ -1,5 +1,6 @@
 -- What holds at the end of a step doesn't change with a line, or with the code of a refusal.
 use Rattle.vm_system.proofs.Common.{AReady, Access, AllInner, AllRest, AnAnswer, AnUnlock, Awaits, Bool, Code, Comes, Copies, Elsewhere, Event, HasPlace, Header, HostIsFull, HostTable, IsExhausted, IsPaid, IsSource, List, None, NoneInVain, Nowhere, Prompt, Raises, Waits, WaitsForPager, WaitsUnlocked, WantsFrame, common_all, inl, inr, is_store, owed, page_of, paid_of, refl, ℕ, ◌++◌, ◌∷◌, ◌≡◌, [], Some, false, true, ap, is_some}
+use Rattle.vm_legal.proofs.Exhausted.{exhausted_still}
 use Rattle.vm_model.specs.declared.event.Event.TheVariants as event
 use Rattle.vm_base.specs.declared.ids.HostId.{HostId}
 use Rattle.vm_base.specs.declared.ids.ObjectId.{ObjectId}
@@ -71,10 +72,8 @@ source_line header host object page line h is = record {
 }
 
 exhausted_line : (header : Header) (host : ℕ) (line : ℕ) (h : List Event) → IsExhausted header host h h → IsExhausted header host (event.Line line ∷ h) (event.Line line ∷ h)
-exhausted_line header host line h is = record {
-  held = λ o p here. elim (is.held o p here) [ inl waits ↦ inl (unlocked_line header host o p line h waits) | inr source ↦ inr (source_line header host o p line h source) ];
-  one = λ o p q r here there none nor. is.one o p q r here there (λ waits. none (unlocked_line header host o p line h waits)) (λ waits. nor (unlocked_line header host q r line h waits));
-}
+exhausted_line header host line h =
+    exhausted_still header host h (event.Line line ∷ h) (λ o p here. here) (λ o p. unlocked_line header host o p line h) (λ o p. source_line header host o p line h)
 
 full_line : (header : Header) (host : ℕ) (line : ℕ) (h : List Event) → HostIsFull header host h → HostIsFull header host (event.Line line ∷ h)
 full_line header host line h is = record { none = is.none; why = elim (is.why) [ inl out ↦ inl out | inr exhausted ↦ inr (exhausted_line header host line h exhausted) ] }
@@ -166,10 +165,8 @@ source_code header host object page why h is = record {
 }
 
 exhausted_code : (header : Header) (host : ℕ) (why : Code) (h : List Event) → IsExhausted header host h h → IsExhausted header host (event.Refused why ∷ h) (event.Refused why ∷ h)
-exhausted_code header host why h is = record {
-  held = λ o p here. elim (is.held o p here) [ inl waits ↦ inl (unlocked_code header host o p why h waits) | inr source ↦ inr (source_code header host o p why h source) ];
-  one = λ o p q r here there none nor. is.one o p q r here there (λ waits. none (unlocked_code header host o p why h waits)) (λ waits. nor (unlocked_code header host q r why h waits));
-}
+exhausted_code header host why h =
+    exhausted_still header host h (event.Refused why ∷ h) (λ o p here. here) (λ o p. unlocked_code header host o p why h) (λ o p. source_code header host o p why h)
 
 full_code : (header : Header) (host : ℕ) (why : Code) (h : List Event) → HostIsFull header host h → HostIsFull header host (event.Refused why ∷ h)
 full_code header host why h is = record { none = is.none; why = elim (is.why) [ inl out ↦ inl out | inr exhausted ↦ inr (exhausted_code header host why h exhausted) ] }

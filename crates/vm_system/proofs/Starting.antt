@@ -1,5 +1,5 @@
 -- A new system stands for the empty history.
-use Rattle.vm_system.proofs.Common.{AllFilesServe, AllQueued, AllRest, AllServe, AllTold, AreEmpty, AreNumbered, Content, FileTable, FilesAreKept, FilesAreTold, FilesCarry, Header, IsSupplied, List, None, Outside, PagerStands, PagingIsKept, Posts, SlotTable, SlotsFit, Some, State, SystemStands, Told, [], ap, arith, content_of, empty, inl, inr, length, length-append, name_of, named, none-some, refl, reverse, same_Some, slice_get, start, subst, suc, sym, take, true, zero, ℕ, ◌++◌, ◌+◌, ◌∙◌, ◌∷◌, ◌≡◌, ◌⊎◌}
+use Rattle.vm_system.proofs.Common.{AllFilesServe, AllQueued, AllRest, AllServe, AllTold, AreEmpty, AreNumbered, Content, FileTable, FilesAreKept, FilesAreTold, FilesCarry, Header, IsServable, List, None, Outside, PagerStands, PagingIsKept, Posts, SlotTable, SlotsFit, Some, State, SystemStands, Told, [], ap, arith, content_of, empty, inl, inr, length, length-append, name_of, named, none-some, refl, reverse, same_Some, slice_get, start, subst, suc, sym, take, true, zero, ℕ, ◌++◌, ◌+◌, ◌∙◌, ◌∷◌, ◌≡◌, ◌⊎◌}
 use Rattle.pg_file.proofs.Carrying.{empty as file_empty}
 use Rattle.pg_file.proofs.Standing.{start as file_start}
 use Rattle.pg_file.specs.Stands.{PagerStands as FileStands, new_table}
@@ -14,7 +14,7 @@ use Rattle.sms_server.proofs.Starting.{start_recalled as recalled_start}
 
 -- a system to which nothing has happened
 pub record IsNew (header : Header) (s : State) : Type 0 where
-  pub built : IsSupplied header
+  pub built : IsServable header
   pub size : s.size ≡ header.size
   pub rests : AllRest header s.hosts []
   pub queues : AllQueued header s.hosts []

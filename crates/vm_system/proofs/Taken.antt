@@ -1,5 +1,5 @@
 -- A message is taken: what stands in front of that, and its cause.
-use Rattle.vm_system.proofs.Common.{AllFilesServe, AllInner, AllInTurn, AllQueued, AllRest, AllServe, AllServed, AreSame, Bool, Channel, ChannelId, Command, Device, Down, EachIn, Event, FileTable, FilesCarry, FramesSuffice, Gives, Header, HostTable, IfSome, IsConsequence, IsSupplied, IsOrderly, IsPaid, Lawful, Letter, LicensedInTurn, List, MayTake, MayTakeFrom, Message, MomentsIn, None, Option, Outside, OwnBytes, ServerStands, ServerTable, SlotTable, Some, State, Step, TakesStep, Told, Up, [], all_lined, all_suffice, ap, arith, change_where, channel_number, content_of, devices, each_both, false, first, frames_after, frames_held, frames_used, if◌then◌else◌, is_channel, is_control, length, licensed_both, lined, live_control, local, messages_on, moments_both, nat_tests, owed, queue, queue_is, queued_lined, refl, reverse, same_channel, slice_get, subst, suc, sym, taken_down_change, taken_up_change, true, undelivered, zero, ℕ, ◌++◌, ◌<◌, ◌∙◌, ◌∷◌, ◌≡◌, ◌≤◌}
+use Rattle.vm_system.proofs.Common.{AllFilesServe, AllInner, AllInTurn, AllQueued, AllRest, AllServe, AllServed, AreSame, Bool, Channel, ChannelId, Command, Device, Down, EachIn, Event, FileTable, FilesCarry, FramesSuffice, Gives, Header, HostTable, IfSome, IsConsequence, IsServable, IsOrderly, IsPaid, Lawful, Letter, LicensedInTurn, List, MayTake, MayTakeFrom, Message, MomentsIn, None, Option, Outside, OwnBytes, ServerStands, ServerTable, SlotTable, Some, State, Step, TakesStep, Told, Up, [], all_lined, all_suffice, ap, arith, change_where, channel_number, content_of, devices, each_both, false, first, frames_after, frames_held, frames_used, if◌then◌else◌, is_channel, is_control, length, licensed_both, lined, live_control, local, messages_on, moments_both, nat_tests, owed, queue, queue_is, queued_lined, refl, reverse, same_channel, slice_get, subst, suc, sym, taken_down_change, taken_up_change, true, undelivered, zero, ℕ, ◌++◌, ◌<◌, ◌∙◌, ◌∷◌, ◌≡◌, ◌≤◌}
 use Rattle.vm_legal.proofs.Owing.{behind_none}
 use Rattle.std.proofs.Common.{◌==◌, ◌&&◌}
 use Rattle.vm_model.specs.declared.event.Event.TheVariants as event
@@ -179,7 +179,7 @@ takes_step given channel m more new is head may settled suffice follows licensed
 
 -- what stands in front of a taking
 pub record Front (given : Step) (s : State) : Type 0 where
-  pub built : IsSupplied given.header
+  pub built : IsServable given.header
   pub rests : AllRest given.header s.hosts given.past
   pub queues : AllQueued given.header s.hosts given.past
   pub pagers : AllServe given.header s.pagers.items given.past

@@ -29,7 +29,7 @@ pub can_down : (given : Step) (host : HostId) (object : ObjectId) (control : ℕ
     → HostsPart given.header given.outside given.command (event.Taken (Down host object control) m ∷ given.past) hosts events → CanTellAll given.header.size events (event.Taken (Down host object control) m ∷ given.past)
 can_down given host object control m s hosts events front head passed =
     let stretch = passed.follows.stretch in
-    can_say given.header given.outside given.command (event.Taken (Down host object control) m ∷ given.past) events front.built.supplied
+    can_say given.header given.outside given.command (event.Taken (Down host object control) m ∷ given.past) events
     (orderly_taken given.header (Down host object control) m given.past front.orderly head) stretch.licensed stretch.said stretch.inner
 
 -- what a step took was no message to a pager
@@ -96,7 +96,7 @@ took_down given line number host object control m s new events may head passed f
         built = front.built;
         rests = rw items passed.ended.rests;
         queues = rw items passed.ended.queues;
-        agrees = agrees_said header outside doing past events new (orderly_said header outside doing past events front.built.supplied orderly stretch.licensed stretch.said stretch.inner) serve filed heard
+        agrees = agrees_said header outside doing past events new (orderly_said header outside doing past events orderly stretch.licensed stretch.said stretch.inner) serve filed heard
             (lawful_taken header outside doing channel m given.past licence front.paid front.lawful) (declared ∙ may.stands.agrees.declared) stretch (size ∙ may.stands.agrees.size) items posts;
         paid = owed;
         served = rw items (served_more header events past (others_said header events past stretch.said) (served_other header (event.Taken channel m) given.past tt front.served));

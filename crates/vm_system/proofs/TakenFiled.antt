@@ -17,7 +17,7 @@ use Rattle.vm_system.proofs.Filing.{carry_areas, is_declared, kept_about, may_ba
 use Rattle.vm_legal.proofs.Unshared.{file_unshared}
 use Rattle.sms_server.proofs.Acting.{others_recall as recalled_other, others_serve as served_other, others_stand as server_other}
 use Rattle.vm_system.proofs.Following.{kept_at}
-use Rattle.vm_system.proofs.Homes.{home_declared}
+use Rattle.vm_system.proofs.Homes.{file_paged, home_declared}
 use Rattle.vm_system.proofs.Lawfulness.{lawful_more, lawful_taken, others_about, recalled_more, served_more, server_more}
 use Rattle.vm_system.proofs.Letters.{known_first, letter_first, orderly_taken, washed_out}
 use Rattle.vm_system.proofs.Makings.{is_open}
@@ -51,7 +51,7 @@ pub record Filed (given : Step) (host : HostId) (object : ObjectId) (m : Message
 -- only the host of its region speaks of it
 home_filed : (given : Step) (host : HostId) (object : ObjectId) (m : Message) (s : State) → Front given s → is_file given.header object.0 ≡ true → first (queue (Up host object) given.past) ≡ Some m → home_of object.0 given.past ≡ Some host.0
 home_filed given host object m s front file head =
-    sym (home_declared given.header object.0 given.past (is_declared given.header object.0 file)) ∙ (front.orderly.home host.0 object.0).made (file_unshared given.header object.0 file) (is_open host.0 object.0 m given.past (front.orderly.made host.0 object.0) head)
+    sym (home_declared given.header object.0 given.past (is_declared given.header object.0 file)) ∙ (front.orderly.home host.0 object.0).made (file_paged given.header object.0 file) (is_open host.0 object.0 m given.past (front.orderly.made host.0 object.0) head)
 
 -- the pager stands for the history
 pub stands_filed : (given : Step) (line : Option ℕ) (number : ChannelId) (host : HostId) (object : ObjectId) (s : State) (old : FileTable) → MayTakeFrom given line number (Up host object) s → is_file given.header object.0 ≡ true
@@ -86,7 +86,7 @@ filed_reply given line number host object m areas s old new events may file head
     let home = home_filed given host object m s front file head in
     let word = up_filed given line number host object m s may head in
     let serves : PagerServes header host.0 given.past object.0 m old new events = record {
-      own = λ other apart. known_first header host.0 object m given.past front.orderly (file_unshared header object.0 file) head other apart;
+      own = λ other apart. known_first header host.0 object m given.past front.orderly (file_paged header object.0 file) head other apart;
       whole = subst (λ (z : ℕ). ReturnsWhole z m) (sym is.size_is) word.1;
       stands = is;
       answered = answered;

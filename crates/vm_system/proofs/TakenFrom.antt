@@ -11,6 +11,7 @@ use Rattle.vm_legal.specs.InTurn.{AllRecalled, StepIsInTurn}
 use Rattle.vm_legal.proofs.Serving.{one_served}
 use Rattle.vm_model.specs.Moments.{BeforeSteps}
 use Rattle.std.proofs.Common.{[]}
+use Rattle.vm_system.proofs.Sharing.{none_temporary}
 use Rattle.vm_legal.specs.InTurn.{NoneSleeps}
 use Rattle.vm_system.proofs.Awake.{awake_of}
 use Rattle.vm_system.proofs.Silent.{awake_line}
@@ -61,7 +62,7 @@ up_to_line : (header : Header) (outside : Outside) (line : ℕ) (run : List Numb
 up_to_line header outside line run s stands legal =
     let items = s.history.items in
     record {
-      supplied = stands.built.supplied;
+      kinds = none_temporary header stands.built.ranged;
       own_bytes = (tt, legal.holds.own_bytes);
       frames = (moment_last (FramesSuffice header) items legal.holds.frames, legal.holds.frames);
       prompts = (legal.rests.prompt, legal.holds.prompt);

@@ -1,4 +1,4 @@
--- What holds of the letters on their way, where no object is wild.
+-- What holds of the letters on their way.
 use Rattle.std.specs.Prelude.{ℕ, ◌+◌, ◌<◌, ◌≤◌, ◌==◌, ◌&&◌, ◌||◌, ◌≡◌, ◌⊎◌, Bool, true, false, List, [], ◌∷◌, length, nat_lt, Option, Some, None, if◌then◌else◌}
 use Rattle.vm_model.specs.declared.event.Event.{Event}
 use Rattle.vm_model.specs.declared.message.Channel.{Channel}
@@ -13,7 +13,7 @@ use Rattle.vm_model.specs.Server.{Wanting, line}
 use Rattle.vm_model.specs.Side.{side}
 use Rattle.vm_legal.specs.Frames.{returns_out}
 use Rattle.vm_legal.specs.Homes.{gives_frame}
-use Rattle.vm_legal.specs.Licences.{LockRequest, lock_taken, up}
+use Rattle.vm_legal.specs.Licences.{LockRequest, is_paged, lock_taken, up}
 use Rattle.vm_legal.specs.Outside.{is_shared}
 use Rattle.vm_legal.specs.Pagers.{known_control}
 use Rattle.vm_legal.specs.Steps.{Letter}
@@ -100,9 +100,9 @@ pub record HasMade (h o : ℕ) (past : List Event) : Type 0 where
 abbrev pub home_for : Header → ℕ → List Event → Option ℕ
 home_for header o past = if nat_lt o (named header) then home_of o past else object_home o past
 
--- only the pager of the host of an object's region hears of the object, but of shared ones
+-- Of temporary memory and of files only the pager of the host of the object's region hears.
 pub record IsHome (header : Header) (h o : ℕ) (past : List Event) : Type 0 where
-  pub made : is_shared header o ≡ false → is_made (up h o) past ≡ true → home_for header o past ≡ Some h
+  pub made : is_paged header o ≡ true → is_made (up h o) past ≡ true → home_for header o past ≡ Some h
   pub own : named header ≤ o → (object_home o past ≡ None) ⊎ (object_home o past ≡ Some h) → is_heard_elsewhere h o past ≡ false
 
 -- a host stands in a line

@@ -12,12 +12,12 @@ use Rattle.vm_shared.specs.Carried.{SharedAreCarried}
 abbrev pub AllAreCarried : Header → List Event → Type 0
 AllAreCarried header history = IsCarried header history × SharedAreCarried header history
 
--- once nothing is undelivered whoever waits does so since its host is short of frames
+-- once nothing is undelivered whoever waits does so on a wild object's region, or since its host is short of frames
 abbrev pub WaitsForFrames : Header → List Event → Type 0
 WaitsForFrames header history = undelivered history ≡ [] → NobodyWaitsInVain header history
 
 -- whoever is asked has a message on its way; and where nobody waited in vain in front of the step, nobody does behind it, and once nothing is
--- undelivered whoever waits does so for frames
+-- undelivered whoever waits does so for frames, or for a wild object's pager
 pub record LeavesAtRest (header : Header) (old new : List Event) : Type 0 where
   pub carried : AllAreCarried header new
   pub prompt : Prompt header old → Prompt header new

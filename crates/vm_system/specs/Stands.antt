@@ -8,7 +8,6 @@ use Rattle.vm_legal.specs.Outside.{Outside, is_file}
 use Rattle.vm_legal.specs.InTurn.{AllRecalled}
 use Rattle.vm_legal.specs.Prompt.{AllServed}
 use Rattle.vm_kernel.specs.Matches.{IsRanged}
-use Rattle.vm_quiet.specs.Quiet.{AllSupplied}
 use Rattle.pg_file.specs.Files.{FileTable}
 use Rattle.pg_file.specs.Stands.{PagerStands as FileStands, name_of}
 use Rattle.sms_server.specs.Stands.{ServerStands}
@@ -46,10 +45,9 @@ pub record AllFilesServe (header : Header) (pagers : List FileTable) (past : Lis
 abbrev pub AreNamedApart : Header → Type 0
 AreNamedApart header = (one other : ℕ) → is_file header one ≡ true → is_file header other ≡ true → name_of header one ≡ name_of header other → one ≡ other
 
--- a header that a system can run: its numbers are in their ranges, and each declared object is a shared one, or a file with a name of its own
-pub record IsSupplied (header : Header) : Type 0 where
+-- a header that a system can run: its numbers are in their ranges, and each declared file has a name of its own
+pub record IsServable (header : Header) : Type 0 where
   pub ranged : IsRanged header
-  pub supplied : AllSupplied header
   pub names : AreNamedApart header
 
 -- their areas are told
@@ -69,7 +67,7 @@ pub record Agrees (header : Header) (outside : Outside) (s : State) : Type 0 whe
 
 -- and so are the kernels, at a step's end, which owes nothing, and where the server keeps nobody waiting in vain
 pub record SystemStands (header : Header) (outside : Outside) (s : State) : Type 0 where
-  pub built : IsSupplied header
+  pub built : IsServable header
   pub rests : AllRest header s.hosts s.history.items
   pub queues : AllQueued header s.hosts s.history.items
   pub agrees : Agrees header outside s

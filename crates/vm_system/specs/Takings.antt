@@ -19,7 +19,7 @@ use Rattle.vm_legal.specs.Stretches.{AllInner, EachIn, MomentsIn}
 use Rattle.vm_hosts.specs.Hosts.{AllRest}
 use Rattle.vm_hosts.specs.Steps.{EventsFollow, Going, PagerStep, Step}
 use Rattle.vm_system.specs.Channels.{channel_number}
-use Rattle.vm_system.specs.Stands.{Agrees, IsSupplied, SystemStands}
+use Rattle.vm_system.specs.Stands.{Agrees, IsServable, SystemStands}
 use Rattle.vm_system.specs.Steps.{lined}
 use Rattle.vm_system.specs.declared.state.State.{State}
 
@@ -58,7 +58,7 @@ MayBeCut given old new = (new ≡ old) ⊎ TakesStep given new
 
 -- the pager of a host took a message and answered, and no kernel did anything yet
 pub record PagerHasAnswered (given : Going) (host : HostId) (washed : Bool) (s : State) : Type 0 where
-  pub built : IsSupplied given.header
+  pub built : IsServable given.header
   pub is : s.history.items ≡ given.front ++ given.past
   pub rests : AllRest given.header s.hosts given.past
   pub agrees : Agrees given.header given.outside s

@@ -30,7 +30,7 @@ impl State {
                 count,
                 ..
             } => self.clean_refusal(*object, *page, *count),
-            Command::Say { host, object, .. } => Some(self.say_refusal(*host, *object)),
+            Command::Say { host, object, .. } => self.say_refusal(*host, *object),
             Command::Settle { .. } | Command::FailFiles { .. } | Command::FailPaging { .. } => None,
             _ => self.hosts.refusal(command),
         }
@@ -53,20 +53,22 @@ impl State {
         None
     }
 
-    // Nothing is said for a file or a shared object: their pagers are the system's own.
-    fn say_refusal(&self, host: HostId, object: ObjectId) -> Code
+    // Nothing is said where no control lives, and for wild objects alone: other pagers are the system's own.
+    fn say_refusal(&self, host: HostId, object: ObjectId) -> Option<Code>
         ghost given: { Step }
         requires stands { SystemStands given.header given.outside self.now }
         requires past { given.past ≡ self.now.history.items }
         requires known { host.0 < length given.header.frames.items }
         requires declared { object.0 < named given.header }
-        ensures { (m : Word) → Some result ≡ refusal given.header self.now.history.items (command.Say host object m) }
+        ensures { (m : Word) → result ≡ refusal given.header self.now.history.items (command.Say host object m) }
     {
-        if self.hosts.has_control(host, object) {
-            Code::InvalidArgument
-        } else {
-            Code::NoSuchName
+        if self.hosts.control(host, object).is_none() {
+            return Some(Code::NoSuchName);
         }
+        if self.kind(object) != ObjectKind::Wild {
+            return Some(Code::InvalidArgument);
+        }
+        None
     }
 
     fn take_refusal(&self, channel: Channel) -> Option<Code>

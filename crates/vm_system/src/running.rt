@@ -1,10 +1,11 @@
 // Steps of commands that take no message.
-ghost use Rattle.std.specs.Prelude.{◌≡◌, ◌∷◌, ◌++◌, ℕ, List, None, Some, OnOk, OnErr, true, false, [], IfOk};
+ghost use Rattle.std.specs.Prelude.{◌≡◌, ◌∷◌, ◌++◌, ◌<◌, ℕ, List, None, Some, OnOk, OnErr, true, false, [], IfOk, is_some, length};
 ghost use Rattle.vm_base.specs.declared.code.Code.{Code};
 ghost use Rattle.vm_model.specs.declared.command.Numbered.{Numbered};
 ghost use Rattle.vm_model.specs.declared.event.Event.TheVariants as event;
-ghost use Rattle.vm_model.specs.Ranges.{InRange};
-ghost use Rattle.vm_legal.specs.Follows.{head};
+ghost use Rattle.vm_model.specs.Controls.{live_control};
+ghost use Rattle.vm_model.specs.Ranges.{InRange, IsSaid};
+ghost use Rattle.vm_legal.specs.Follows.{head, say_head};
 ghost use Rattle.vm_legal.specs.Refusal.{refusal};
 ghost use Rattle.vm_hosts.specs.Steps.{Step};
 ghost use Rattle.vm_kernel.specs.Built.{kernel_runs as is_run};
@@ -15,8 +16,8 @@ ghost use Rattle.vm_system.specs.Stands.{SystemStands};
 ghost use Rattle.vm_system.specs.Steps.{Setting, is_idle};
 
 use crate::state::State;
-use vm_base::{Code, NoMemory};
-use vm_model::{Command, Event, Events};
+use vm_base::{Buffers, Code, HostId, NoMemory, ObjectId};
+use vm_model::{Channel, Command, Event, Events, Message};
 
 impl State {
     // A command of a host that isn't refused.
@@ -35,8 +36,8 @@ impl State {
         self.append(line, events)
     }
 
-    // A command that is no host's: a file's pager says what a clean asks of it, and the frame queues are
-    // served.
+    // A command that is no host's: a file's pager says what a clean asks of it, or a wild object's what the
+    // script says, and the frame queues are served.
     pub fn pass(&mut self, line: u32, command: &Command) -> Result<(), NoMemory>
         ghost given: { Step }
         requires given { given ≡ record { header = given.header; outside = given.outside; command = command.now; past = event.Line line ∷ self.old.history.items } }
@@ -53,7 +54,7 @@ impl State {
         self.append(line, events)
     }
 
-    // What a file's pager says for a clean.
+    // What a file's pager says for a clean, and what is said for a wild object.
     fn asked(&self, command: &Command) -> Result<Events, NoMemory>
         ghost given: { Step }
         requires stands { SystemStands given.header given.outside self.now }
@@ -70,8 +71,39 @@ impl State {
                 count,
                 flush,
             } => self.files[object.0 as usize].clean(*page, *count, *flush),
+            Command::Say {
+                host,
+                object,
+                message,
+            } => self.say(*host, *object, message),
             _ => Ok(Events::new(self.alloc)),
         }
+    }
+
+    // A message is sent to the control that lives.
+    fn say(&self, host: HostId, object: ObjectId, message: &Message) -> Result<Events, NoMemory>
+        ghost given: { Step }
+        requires stands { SystemStands given.header given.outside self.now }
+        requires past { given.past ≡ self.now.history.items }
+        requires known { host.0 < length given.header.frames.items }
+        requires said { IsSaid self.now.size message.now }
+        requires lives { is_some (live_control host.0 object.0 self.now.history.items) ≡ true }
+        ensures { IfOk result (λ events. say_head host object message.now (live_control host.0 object.0 self.now.history.items) ≡ Some events.items) }
+    {
+        let Some(control) = self.hosts.control(host, object) else {
+            unreachable!()
+        };
+        let channel = Channel::Down {
+            host,
+            object,
+            control,
+        };
+        let mut buffers = Buffers::new(self.alloc, self.size);
+        buffers.reserve(1)?;
+        let message = message.copy(&mut buffers);
+        let mut events = Events::new(self.alloc);
+        events.push(Event::Sent { channel, message })?;
+        Ok(events)
     }
 
     // A line, and the events behind it.

@@ -69,7 +69,7 @@ impl State {
                 Ok(())
             }
             Command::Clean { .. } => self.pass(line, command),
-            Command::Say { .. } => unreachable!(),
+            Command::Say { .. } => self.pass(line, command),
             _ => self.begin(line, command),
         }
     }

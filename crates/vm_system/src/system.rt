@@ -19,7 +19,7 @@ ghost use Rattle.vm_kernel.specs.Matches.{IsRanged};
 ghost use Rattle.vm_model.specs.Named.{named};
 ghost use Rattle.vm_hosts.specs.Steps.{Step};
 ghost use Rattle.vm_system.specs.Resting.{LeavesAtRest};
-ghost use Rattle.vm_system.specs.Stands.{AllFilesServe, AllTold, AreEmpty, AreNumbered, FilesAreKept, IsSupplied, PagingIsKept, SystemStands};
+ghost use Rattle.vm_system.specs.Stands.{AllFilesServe, AllTold, AreEmpty, AreNumbered, FilesAreKept, IsServable, PagingIsKept, SystemStands};
 ghost use Rattle.vm_system.specs.Steps.{DevicesHaveCause, GrowsWithinLimit, HasMore, IsMemoryStop, KeepsCanonical, KeepsOpen, LeavesBacking, MayCut, MayCutOpen, Setting, arms, takes_any, took_up};
 
 use crate::channels::Channels;
@@ -56,7 +56,7 @@ impl Model for System {
 impl System {
     /// Nothing has happened yet; the hosts' frames are taken.
     pub fn new(alloc: Global, header: &Header) -> Result<System, NoMemory>
-        requires built { IsSupplied header.now }
+        requires built { IsServable header.now }
         requires few { header.now.slots ≤ most_slots }
         ensures stands { (outside : Outside) → IfOk result (λ system. SystemStands header.now outside system) }
         ensures kept { (outside : Outside) → (areas : List ℕ → Told) → IfOk result (λ system. (outside.paging ≡ true → AllTold areas system.pagers.items) → PagingIsKept header.now outside areas system) }

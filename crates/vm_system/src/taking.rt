@@ -11,7 +11,7 @@ ghost use Rattle.vm_model.specs.Named.{named};
 ghost use Rattle.vm_system.specs.Making.{Spares, SparesFiles, SparesPaging};
 ghost use Rattle.vm_system.specs.Stands.{FilesAreKept, PagingIsKept};
 ghost use Rattle.vm_legal.specs.Homes.{gives_frame};
-ghost use Rattle.vm_legal.specs.Outside.{is_file, is_shared, kind_of};
+ghost use Rattle.vm_legal.specs.Outside.{is_file, is_shared, is_wild, kind_of};
 ghost use Rattle.vm_hosts.specs.Steps.{Going, Step};
 ghost use Rattle.vm_system.specs.Steps.{DevicesHaveCause, takes_any, takes_up};
 ghost use Rattle.vm_system.specs.Takings.{Followed, MayBeCut, MayTakeFrom, PagerHasAnswered, Took};
@@ -129,12 +129,12 @@ impl State {
             ObjectKind::Temp => self.take_paged(line, number, host, object, paging),
             ObjectKind::File => self.take_filed(line, number, host, object, files),
             ObjectKind::Shared => self.take_shared(line, number, host, object),
-            ObjectKind::Wild => unreachable!(),
+            ObjectKind::Wild => self.take_wild(line, number, host, object),
         }
     }
 
     // The kind of an object: temporary, where none with its number is declared.
-    fn kind(&self, object: ObjectId) -> ObjectKind
+    pub fn kind(&self, object: ObjectId) -> ObjectKind
         ghost given: { Step }
         requires { self.now.declared.items ≡ reverse given.header.objects.items }
         ensures { result ≡ kind_of given.header object.0 }
@@ -210,6 +210,30 @@ impl State {
         self.take_first(line, number);
         self.commit(replies);
         self.follow(host, fresh, washed)
+    }
+
+    // What is sent to a wild object's pager is taken, and nobody answers.
+    fn take_wild(
+        &mut self,
+        line: Option<u32>,
+        number: ChannelId,
+        host: HostId,
+        object: ObjectId,
+    ) -> Result<(), NoMemory>
+        ghost given: { Step }
+        requires may { MayTakeFrom given line number (channels.Up host object) self.old }
+        requires wild { is_wild given.header object.0 ≡ true }
+        ensures took { OnOk result (Took given self.new) }
+        ensures cut { OnErr result (MayBeCut given self.old.history.items self.new.history.items) }
+        ensures spares { Spares given.header given.outside self.old self.new }
+    {
+        self.reserve(2)?;
+        let Some(message) = self.ports.head(number) else {
+            unreachable!()
+        };
+        let washed = gives_frame(message);
+        self.take_first(line, number);
+        self.follow(host, 1, washed)
     }
 
     // The server of shared memory takes a message.

@@ -28,7 +28,7 @@ use Rattle.vm_text.specs.declared.meaning.HeaderWord.TheVariants as heads
 use Rattle.vm_text.specs.declared.meaning.CommandWord.{CommandWord}
 use Rattle.vm_text.specs.Words.{is_comment, word_in, words_of, lines_of, one_word, two_words}
 use Rattle.vm_text.specs.Forms.{Heading, size_of, declared_at, new_name, header_words, command_words, stands_already, object_line, header_form}
-use Rattle.vm_text.specs.Script.{Reading, Whole, nothing_read, header_line, command_line, line_read, lines_read, script_of, whole_script, IsRead}
+use Rattle.vm_text.specs.Script.{Reading, Whole, nothing_read, header_line, command_line, line_read, lines_read, script_of, whole_script, DeclaresNoTemporary, IsRead}
 use Rattle.vm_text.proofs.Ranges.{Reads, read, stopped, ◌andthen◌, any, tested, untested, either, between, upto, page_sized, hosted, InReach, command_kept}
 
 record HeadingKept (heading : Heading) : Type 0 where
@@ -38,6 +38,7 @@ record HeadingKept (heading : Heading) : Type 0 where
   frames : All (IsBetween 2 4096) heading.frames
   objects : length heading.objects ≤ 8192
   pages : All (λ object. IsBetween 1 4096 object.pages) heading.objects
+  kinds : All (λ object. object.kind ≢ kinds.Temp) heading.objects
   names : AreNamedOnce heading.objects
 
 record ReadingKept (number : ℕ) (reading : Reading) : Type 0 where
@@ -73,22 +74,22 @@ new_kept heading word = tested (is_name word) _ _ λ _. untested (is_some (decla
     let parts = or_parts (is_some (declared_at word heading.objects)) (nat_le 8192 (length heading.objects)) isnt in
     read (few (length heading.objects) parts.1, undeclared word heading.objects parts.0)
 
-object_kept : (kind : ObjectKind) (heading : Heading) (line : List (List ℕ)) → HeadingKept heading → Reads HeadingKept (object_line kind heading line)
-object_kept kind heading line kept = any (two_words line) andthen λ w _. new_kept heading w.0 andthen λ name room. between 1 4096 w.1 andthen λ pages is.
-    read (record { size = kept.size; slots = kept.slots; hosts = kept.hosts; frames = kept.frames; objects = room.0; pages = All-cons (λ object. IsBetween 1 4096 object.pages) _ _ is kept.pages; names = AllPairs-cons (λ newer older. newer.name ≢ older.name) _ heading.objects room.1 kept.names })
+object_kept : (kind : ObjectKind) (heading : Heading) (line : List (List ℕ)) → kind ≢ kinds.Temp → HeadingKept heading → Reads HeadingKept (object_line kind heading line)
+object_kept kind heading line made kept = any (two_words line) andthen λ w _. new_kept heading w.0 andthen λ name room. between 1 4096 w.1 andthen λ pages is.
+    read (record { size = kept.size; slots = kept.slots; hosts = kept.hosts; frames = kept.frames; objects = room.0; pages = All-cons (λ object. IsBetween 1 4096 object.pages) _ _ is kept.pages; kinds = All-cons (λ object. object.kind ≢ kinds.Temp) _ _ made kept.kinds; names = AllPairs-cons (λ newer older. newer.name ≢ older.name) _ heading.objects room.1 kept.names })
 
 header_kept : (heading : Heading) (word : HeaderWord) (line : List (List ℕ)) → HeadingKept heading → Reads HeadingKept (header_form heading word line)
 header_kept heading heads.Hosts line kept = any (two_words line) andthen λ w _. between 1 8 w.0 andthen λ hosts one. between 2 4096 w.1 andthen λ frames two.
-    read (record { size = kept.size; slots = kept.slots; hosts = rw length-replicate one.1; frames = All-replicate (IsBetween 2 4096) hosts frames two; objects = kept.objects; pages = kept.pages; names = kept.names })
+    read (record { size = kept.size; slots = kept.slots; hosts = rw length-replicate one.1; frames = All-replicate (IsBetween 2 4096) hosts frames two; objects = kept.objects; pages = kept.pages; kinds = kept.kinds; names = kept.names })
 header_kept heading heads.Frames line kept = tested (nat_lt 0 (length heading.frames)) _ _ λ _. any (two_words line) andthen λ w _. hosted heading w.0 andthen λ host one. between 2 4096 w.1 andthen λ frames two.
-    read (record { size = kept.size; slots = kept.slots; hosts = rw length-set kept.hosts; frames = All-set (IsBetween 2 4096) heading.frames host.0 frames kept.frames two; objects = kept.objects; pages = kept.pages; names = kept.names })
+    read (record { size = kept.size; slots = kept.slots; hosts = rw length-set kept.hosts; frames = All-set (IsBetween 2 4096) heading.frames host.0 frames kept.frames two; objects = kept.objects; pages = kept.pages; kinds = kept.kinds; names = kept.names })
 header_kept heading heads.Page line kept = any (one_word line) andthen λ w _. page_sized w andthen λ size is.
-    read (record { size = is; slots = kept.slots; hosts = kept.hosts; frames = kept.frames; objects = kept.objects; pages = kept.pages; names = kept.names })
+    read (record { size = is; slots = kept.slots; hosts = kept.hosts; frames = kept.frames; objects = kept.objects; pages = kept.pages; kinds = kept.kinds; names = kept.names })
 header_kept heading heads.Slots line kept = any (one_word line) andthen λ w _. upto 65536 w andthen λ slots is.
-    read (record { size = kept.size; slots = is; hosts = kept.hosts; frames = kept.frames; objects = kept.objects; pages = kept.pages; names = kept.names })
-header_kept heading heads.File line kept = object_kept kinds.File heading line kept
-header_kept heading heads.Shared line kept = object_kept kinds.Shared heading line kept
-header_kept heading heads.Wild line kept = object_kept kinds.Wild heading line kept
+    read (record { size = kept.size; slots = is; hosts = kept.hosts; frames = kept.frames; objects = kept.objects; pages = kept.pages; kinds = kept.kinds; names = kept.names })
+header_kept heading heads.File line kept = object_kept kinds.File heading line (λ is. absurd (cc)) kept
+header_kept heading heads.Shared line kept = object_kept kinds.Shared heading line (λ is. absurd (cc)) kept
+header_kept heading heads.Wild line kept = object_kept kinds.Wild heading line (λ is. absurd (cc)) kept
 
 -- ---- lines
 
@@ -138,6 +139,7 @@ record WholeKept (whole : Whole) : Type 0 where
   frames : All (IsBetween 2 4096) whole.frames
   objects : length whole.objects ≤ 8192
   pages : All (λ object. IsBetween 1 4096 object.pages) whole.objects
+  kinds : All (λ object. object.kind ≢ kinds.Temp) whole.objects
   names : AreNamedOnce whole.objects
   commands : All (λ numbered. IsCommand (length whole.frames) (length whole.objects) whole.size numbered.command) whole.commands
   rising : RiseBelow (whole.lines + 1) whole.commands
@@ -160,6 +162,7 @@ lines_kept [] number reading some few kept = tested (nat_lt 0 (length reading.he
       frames = kept.heading.frames;
       objects = kept.heading.objects;
       pages = kept.heading.pages;
+      kinds = kept.heading.kinds;
       names = kept.heading.names;
       commands = kept.commands;
       rising = subst (λ z. RiseBelow z reading.commands) (sym same) kept.rising;
@@ -178,6 +181,7 @@ none_kept = record {
     frames = All-nil (IsBetween 2 4096);
     objects = omega arith;
     pages = All-nil (λ object. IsBetween 1 4096 object.pages);
+    kinds = All-nil (λ object. object.kind ≢ kinds.Temp);
     names = λ i j d before within. absurd (omega (arith, within));
   };
   commands = All-nil (λ numbered. InReach nothing_read.heading numbered.command);
@@ -194,6 +198,14 @@ All-reverse P xs all = λ k d less.
 
 value_of : {A E : Type 0} {P : A → Type 0} {x : A} → Reads {E = E} P (Ok x) → P x
 value_of (read is) = is
+
+-- each declared object has a pager of its own
+pub script_declares : (read : Result Script ScriptError) (bytes : List ℕ) → IsRead read (script_of bytes) → IfOk read (λ script. DeclaresNoTemporary script.header)
+script_declares (Ok script) bytes is =
+    let kept : WholeKept (whole_script script) = value_of (subst (λ r. Reads WholeKept r) is (whole_kept bytes)) in
+    kept.kinds
+script_declares (Err errors.NoMemory) bytes is = tt
+script_declares (Err (errors.Bad line kind)) bytes is = tt
 
 pub script_kept : (read : Result Script ScriptError) (bytes : List ℕ) → IsRead read (script_of bytes) → IfOk read KeepsRanges
 script_kept (Ok script) bytes is =

@@ -1,6 +1,5 @@
 mod Behind
 mod Counts
-mod Headers
 mod Hexadecimal
 mod Kept
 mod Named

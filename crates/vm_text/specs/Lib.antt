@@ -3,5 +3,4 @@ pub mod Forms
 pub mod Kinds
 pub mod Script
 pub mod Stops
-pub mod Unbuilt
 pub mod Words

@@ -1,10 +1,13 @@
 -- A whole script: its lines one after the other, and the first fault with its line.
-use Rattle.std.specs.Prelude.{ℕ, ◌+◌, ◌-◌, ◌≡◌, ◌||◌, nat_lt, List, [], ◌∷◌, length, reverse, Some, None, Result, Ok, Err, if◌then◌else◌}
+use Rattle.std.specs.Prelude.{ℕ, ◌+◌, ◌-◌, ◌≡◌, ◌≢◌, ◌||◌, nat_lt, List, [], ◌∷◌, length, reverse, Some, None, Result, Ok, Err, if◌then◌else◌}
+use Rattle.std.specs.List.{All}
+use Rattle.vm_base.specs.declared.ids.ObjectKind.TheVariants.{Temp}
 use Rattle.vm_model.specs.Limits.{most_script_bytes, most_script_lines}
 use Rattle.vm_model.specs.declared.command.Numbered.{Numbered}
 use Rattle.vm_model.specs.declared.fault.ScriptFault.{ScriptFault}
 use Rattle.vm_model.specs.declared.fault.ScriptFault.TheVariants.{TooLong, UnknownWord, HeaderLate, NoHosts}
 use Rattle.vm_model.specs.declared.script.Declared.{Declared}
+use Rattle.vm_model.specs.declared.script.Header.{Header}
 use Rattle.vm_model.specs.declared.script.Script.{Script}
 use Rattle.vm_text.specs.declared.error.ScriptError.{ScriptError}
 use Rattle.vm_text.specs.declared.error.ScriptError.TheVariants as errors
@@ -92,6 +95,10 @@ whole_script script = record {
   commands = script.commands.items;
   lines = script.lines;
 }
+
+-- each declared object is a file, or a shared or a wild one
+abbrev pub DeclaresNoTemporary : Header → Type 0
+DeclaresNoTemporary header = All (λ (object : Declared). object.kind ≢ Temp) header.objects.items
 
 -- what reading returned, beside what the bytes spell, unless memory ran out
 abbrev pub IsRead : Result Script ScriptError → Result Whole (ℕ × ScriptFault) → Type 0

@@ -16,7 +16,6 @@ mod numbers;
 mod reader;
 mod say;
 mod terms;
-mod unbuilt;
 mod words;
 
 pub use error::ScriptError;
@@ -24,4 +23,3 @@ pub use events::{put_event, write_event};
 pub use fields::Line;
 pub use numbers::{count_in, number_of};
 pub use reader::read_script;
-pub use unbuilt::unbuilt_header;

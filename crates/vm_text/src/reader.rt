@@ -1,7 +1,7 @@
 // The lines of a script, one after the other.
 ghost use Rattle.std.specs.Prelude.{◌≡◌, ◌<◌, [], IfOk};
 ghost use Rattle.vm_model.specs.Ranges.{KeepsRanges};
-ghost use Rattle.vm_text.specs.Script.{nothing_read, header_line, command_line, line_read, lines_read, script_of, IsErrorOfLine, IsRead};
+ghost use Rattle.vm_text.specs.Script.{nothing_read, header_line, command_line, line_read, lines_read, script_of, DeclaresNoTemporary, IsErrorOfLine, IsRead};
 ghost use Rattle.vm_text.specs.Stops.{LeavesValue};
 ghost use Rattle.vm_text.specs.Words.{words_of, is_comment};
 
@@ -139,11 +139,12 @@ fn error_at(line: u32, stop: LineStop) -> ScriptError
 /// Reads a whole script, or answers the first line that has a fault and the first fault of that line.
 ///
 /// The bytes are passed over once and none of them are kept: what is kept are the commands, and the
-/// declared objects. Each number of a script that was read is in its range, and no two objects have
-/// one name.
+/// declared objects. Each number of a script that was read is in its range, no two objects have one
+/// name, and each is a file, a shared or a wild one.
 pub fn read_script(alloc: Global, bytes: &[u8]) -> Result<Script, ScriptError>
     ensures exact { IsRead result (script_of bytes.now) }
     ensures ranges { IfOk result KeepsRanges }
+    ensures declares { IfOk result (λ script. DeclaresNoTemporary script.header) }
 {
     if bytes.len() > MOST_SCRIPT_BYTES {
         return Err(ScriptError::Bad {

@@ -19,8 +19,7 @@ use Rattle.vm_base.specs.declared.ids.ObjectKind.TheVariants as kinds
 use Rattle.pg_file.specs.Stands.{name_kept}
 use Rattle.std.specs.List.{All}
 use Rattle.vm_model.specs.Ranges.{IsBetween, KeepsRanges}
-use Rattle.vm_text.specs.Script.{Whole, script_of, whole_script}
-use Rattle.vm_text.specs.Unbuilt.{IsBuilt, IsSuppliedKind, unbuilt_of}
+use Rattle.vm_text.specs.Script.{DeclaresNoTemporary, Whole, script_of, whole_script}
 use Rattle.vm_top.specs.declared.top.Status.{Status}
 use Rattle.vm_top.specs.declared.top.Status.TheVariants as status
 use Rattle.vm_top.specs.declared.words.Report.{Report}
@@ -30,8 +29,7 @@ use Rattle.vm_top.specs.Reading.{ReadWhole}
 use Rattle.vm_top.specs.Run.{CutIn, IsOutOfEvents, IsRunnable, IsWholeRun, report_text}
 use Rattle.vm_legal.specs.Legal.{CanonicalSoFar}
 use Rattle.vm_legal.specs.Outside.{Outside, is_file_kind, is_shared_kind}
-use Rattle.vm_quiet.specs.Quiet.{AllSupplied}
-use Rattle.vm_top.specs.Top.{IsBad, IsReadFrom, IsBadFrom, IsUnbuiltFrom, IsHeaderBuilt, NothingRun, IsRunDone, IsEventLimit, IsStopped, IsNotBuilt, IsOutputFault, IsNoMemory, WroteFailed, WroteStopped, bad_text, not_built_text}
+use Rattle.vm_top.specs.Top.{IsBad, IsReadFrom, IsBadFrom, NothingRun, IsRunDone, IsEventLimit, IsOutputFault, IsNoMemory, WroteFailed, bad_text}
 use Rattle.vm_top.specs.Writing.{WroteStart}
 use Rattle.vm_top.proofs.Keeping.{file_below}
 use Rattle.vm_top.proofs.Closing.{full_so_far, whole_so_far}
@@ -74,46 +72,29 @@ read_from told after bytes script read spells = λ whole is. read_same told afte
 pub bad_from : (told after : Option (List ℕ)) (bytes : List ℕ) (line : ℕ) (kind : ScriptFault) → ReadWhole told after bytes → script_of bytes ≡ Err (line, kind) → IsBadFrom told line kind
 bad_from told after bytes line kind read spells = λ whole is. read_same told after bytes whole read is ∙ spells
 
-pub unbuilt_from : (told after : Option (List ℕ)) (bytes : List ℕ) (script : Whole) (line : Option ℕ) → ReadWhole told after bytes → script_of bytes ≡ Ok script → unbuilt_of bytes ≡ line → IsUnbuiltFrom told line
-unbuilt_from told after bytes script line read spells unbuilt = λ whole is. ap unbuilt_of (sym (script_read told after bytes whole script read spells is)) ∙ unbuilt
-
--- a script was read, and nothing in its header isn't built
-pub record IsReady (told : Option (List ℕ)) (run : Script) : Type 0 where
-  pub read : IsReadFrom told run
-  pub header : IsHeaderBuilt told run
-
-pub ready_of : (told after : Option (List ℕ)) (bytes first second : List ℕ) (script : Script) → ReadWhole told after bytes → first ≡ bytes → script_of first ≡ Ok (whole_script script) → second ≡ bytes → None ≡ unbuilt_of second
-    → (script_of second ≡ Ok (whole_script script) → IsBuilt script.header) → IsReady told script
-ready_of told after bytes first second script read one spells two none built =
-    let same = ap script_of (sym one) ∙ spells in
-    record {
-      read = read_from told after bytes script read same;
-      header = record { lines = unbuilt_from told after bytes (whole_script script) None read same (ap unbuilt_of (sym two) ∙ sym none); built = built (ap script_of (two ∙ sym one) ∙ spells) };
-    }
-
 pub done_of : (told before after : Option (List ℕ)) (outside : Header → Outside) (report : Report) (run : Script) (script : Option Script) (h : List Event) (s : Status)
-    → IsReady told run → RunHasEnded report run (outside run.header) script h before after s → s ≡ status.Done → IsRunDone told outside report script h before after
-done_of told before after outside report run script h s ready has is =
+    → IsReadFrom told run → RunHasEnded report run (outside run.header) script h before after s → s ≡ status.Done → IsRunDone told outside report script h before after
+done_of told before after outside report run script h s read has is =
     let ends = subst (EndsAs report run (outside run.header) h before after) is has.ends in
-    record { run = run; held = record { held = has.held; read = ready.read }; header = ready.header; whole = ends.0; written = ends.1 }
+    record { run = run; held = record { held = has.held; read = read }; whole = ends.0; written = ends.1 }
 
 pub full_of : (told before after : Option (List ℕ)) (outside : Header → Outside) (report : Report) (run : Script) (script : Option Script) (h : List Event) (s : Status)
-    → IsReady told run → RunHasEnded report run (outside run.header) script h before after s → s ≡ status.EventLimit → IsEventLimit told outside report script h before after
-full_of told before after outside report run script h s ready has is =
+    → IsReadFrom told run → RunHasEnded report run (outside run.header) script h before after s → s ≡ status.EventLimit → IsEventLimit told outside report script h before after
+full_of told before after outside report run script h s read has is =
     let ends = subst (EndsAs report run (outside run.header) h before after) is has.ends in
-    record { run = run; held = record { held = has.held; read = ready.read }; header = ready.header; full = ends.0; written = ends.1 }
+    record { run = run; held = record { held = has.held; read = read }; full = ends.0; written = ends.1 }
 
 pub output_of : (told before after : Option (List ℕ)) (outside : Header → Outside) (report : Report) (run : Script) (script : Option Script) (h : List Event) (s : Status)
-    → IsReady told run → RunHasEnded report run (outside run.header) script h before after s → s ≡ status.OutputFault → IsOutputFault told outside report script h before after
-output_of told before after outside report run script h s ready has is =
+    → IsReadFrom told run → RunHasEnded report run (outside run.header) script h before after s → s ≡ status.OutputFault → IsOutputFault told outside report script h before after
+output_of told before after outside report run script h s read has is =
     let ends = subst (EndsAs report run (outside run.header) h before after) is has.ends in
-    inl (record { run = run; held = record { held = has.held; read = ready.read }; header = ready.header; failed = ends })
+    inl (record { run = run; held = record { held = has.held; read = read }; failed = ends })
 
 pub memory_of : (told before after : Option (List ℕ)) (outside : Header → Outside) (report : Report) (run : Script) (script : Option Script) (h : List Event) (s : Status)
-    → IsReady told run → RunHasEnded report run (outside run.header) script h before after s → s ≡ status.NoMemory → IsNoMemory told outside report script h before after
-memory_of told before after outside report run script h s ready has is =
+    → IsReadFrom told run → RunHasEnded report run (outside run.header) script h before after s → s ≡ status.NoMemory → IsNoMemory told outside report script h before after
+memory_of told before after outside report run script h s read has is =
     let ends = subst (EndsAs report run (outside run.header) h before after) is has.ends in
-    inr (inl (record { run = run; held = record { held = has.held; read = ready.read }; header = ready.header; cut = ends.0 }, ends.1))
+    inr (inl (record { run = run; held = record { held = has.held; read = read }; cut = ends.0 }, ends.1))
 
 -- the first fault was told
 pub bad_of : (told before after : Option (List ℕ)) (line named : ℕ) (kind other : ScriptFault) (script : Option Script) (h : List Event) (s : Status) → NothingRun script h → IsBadFrom told line kind
@@ -139,62 +120,25 @@ never_read report run outside script h before after s has is = subst (EndsAs rep
 pub never_bad : (report : Report) (run : Script) (outside : Outside) (script : Option Script) (h : List Event) (before after : Option (List ℕ)) (s : Status) (line : ℕ) (kind : ScriptFault) → RunHasEnded report run outside script h before after s → s ≡ status.BadScript line kind → ⊥
 never_bad report run outside script h before after s line kind has is = subst (EndsAs report run outside h before after) is has.ends
 
-pub never_unbuilt : (report : Report) (run : Script) (outside : Outside) (script : Option Script) (h : List Event) (before after : Option (List ℕ)) (s : Status) (line : ℕ) → RunHasEnded report run outside script h before after s → s ≡ status.NotBuilt line → ⊥
-never_unbuilt report run outside script h before after s line has is = subst (EndsAs report run outside h before after) is has.ends
-
--- a script was read whose header has a line that isn't built
-pub header_stops : (told : Option (List ℕ)) (run : Script) (script : Option Script) (h : List Event) (line : ℕ) → IsReadFrom told run → IsUnbuiltFrom told (Some line) → script ≡ Some run → h ≡ [] → IsStopped told line script h
-header_stops told run script h line read unbuilt held empty = record { run = run; held = record { held = held; read = read }; unbuilt = unbuilt; empty = empty }
-
 -- whatever telling a text ends with, a first part of it was written
 pub tells_start : (told status : Status) (text : List ℕ) (before after : Option (List ℕ)) → Tells told text before after status → WroteStart before after text
 tells_start told status text before after (inl wrote) = start_all before after text wrote.1
 tells_start told status text before after (inr wrote) = wrote.1
 
--- the line that isn't built was told
-pub header_not_built : (told : Option (List ℕ)) (script : Option Script) (h : List Event) (line named : ℕ) (before after : Option (List ℕ)) (s : Status)
-    → IsStopped told line script h → Tells (status.NotBuilt line) (not_built_text line) before after s → s ≡ status.NotBuilt named → IsNotBuilt told named script h before after
-header_not_built told script h line named before after s stopped (inl wrote) is =
-    let same : line ≡ named = cc in
-    subst (λ z. IsNotBuilt told z script h before after) same (record { stopped = stopped; written = wrote.1 })
-header_not_built told script h line named before after s stopped (inr (inl failed, wrote)) is = absurd (cc)
-header_not_built told script h line named before after s stopped (inr (inr none, wrote)) is = absurd (cc)
-
-pub header_wrote : (told : Option (List ℕ)) (script : Option Script) (h : List Event) (line : ℕ) (before after : Option (List ℕ)) (s : Status)
-    → IsStopped told line script h → Tells (status.NotBuilt line) (not_built_text line) before after s → WroteStopped told script h before after
-header_wrote told script h line before after s stopped tells = (line, stopped, tells_start (status.NotBuilt line) s (not_built_text line) before after tells)
-
--- a script that keeps its ranges and has one host, and whose objects are files, can be run
--- an object of such a kind is a file or a shared one, and no temporary one
-supplied_kind : (kind : ObjectKind) → IsSuppliedKind kind → is_file_kind kind || is_shared_kind kind ≡ true
-supplied_kind kind (inl file) = rw file refl
-supplied_kind kind (inr shared) = rw shared refl
-
-made_kind : (kind : ObjectKind) → IsSuppliedKind kind → kind ≢ kinds.Temp
-made_kind kind (inl file) is = let bad : kinds.File ≡ kinds.Temp = sym file ∙ is in cc
-made_kind kind (inr shared) is = let bad : kinds.Shared ≡ kinds.Temp = sym shared ∙ is in cc
-
-supplied_at : (header : Header) → All (λ (object : Declared). IsSuppliedKind object.kind) header.objects.items → AllSupplied header
-supplied_at header each o below =
-    let found = each_declared (λ (object : Declared). IsSuppliedKind object.kind) header o each below in
-    let kind = supplied_kind found.0.kind found.2 in
-    let within : nat_lt o (named header) ≡ true = grind (arith, nat_tests) in
-    rw (within, found.1) kind
-
 few_frames : (frames : List ℕ) → All (IsBetween 2 4096) frames → All (λ f. f < 2 ^ 32) frames
 few_frames frames within i d below = let most = (within i d below).1 in omega arith
 
-pub runnable : (script : Script) → KeepsRanges script → IsBuilt script.header → IsRunnable script
-runnable script keeps built = record {
-  built = record {
+-- a script that keeps its ranges, and declares no temporary object, can be run
+pub runnable : (script : Script) → KeepsRanges script → DeclaresNoTemporary script.header → IsRunnable script
+runnable script keeps declares = record {
+  served = record {
     ranged = record {
       size = keeps.size;
       hosts = keeps.hosts;
       few = few_frames script.header.frames.items keeps.frames;
       objects = keeps.objects;
-      kinds = λ i d below. made_kind (get_or script.header.objects.items i d).kind (built.supplied i d below);
+      kinds = declares;
     };
-    supplied = supplied_at script.header built.supplied;
     names = λ one other first second same. named_once script.header name_kept (λ object. refl) keeps.names one other (file_below script.header one first) (file_below script.header other second) same;
   };
   slots = keeps.slots;

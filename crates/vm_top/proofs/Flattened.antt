@@ -18,8 +18,7 @@ use Rattle.vm_top.specs.declared.words.Report.{Report}
 use Rattle.vm_top.specs.Ending.{EndsAs}
 use Rattle.vm_top.specs.Flat.{FilesFlatAt}
 use Rattle.vm_top.specs.Run.{IsRunnable, outside_of}
-use Rattle.vm_top.proofs.Closing.{none_legal}
-use Rattle.vm_top.proofs.Keeping.{carried_none, files_told}
+use Rattle.vm_top.proofs.Keeping.{files_told}
 use Rattle.vm_top.proofs.Resting.{ends_legal}
 use Rattle.vm_legal.proofs.Turns.{cut_in_turn, cut_of as weak_cut}
 
@@ -38,21 +37,11 @@ ends_cut report run outside h before after status.OutputFault ends = cut_so_far 
 ends_cut report run outside h before after status.Usage ends = absurd ends
 ends_cut report run outside h before after status.ReadFault ends = absurd ends
 ends_cut report run outside h before after (status.BadScript line kind) ends = absurd ends
-ends_cut report run outside h before after (status.NotBuilt line) ends = absurd ends
 
 pub files_flat : (report : Report) (run : Script) (files paging now : List ℕ → Told) (h : List Event) (before after : Option (List ℕ)) (s : Status) → IsRunnable run → EndsAs report run (outside_of files paging run.header) h before after s
     → FilesCarry run.header files now h → FilesFlatAt (outside_of files paging) files now (Some run) h
 files_flat report run files paging now h before after s runs ends carry =
     let legal = ends_cut report run (outside_of files paging run.header) h before after s ends in
     let causes = cut run.header (outside_of files paging run.header) legal.0 h (weak_cut run.header (outside_of files paging run.header) legal.0 h legal.1.follows) in
-    flat_files run.header (outside_of files paging run.header) files now legal.0 h legal.1 (copies_current run.header (outside_of files paging run.header) h (none_temporary run.header runs.built.supplied) causes legal.1.holds.own_bytes)
+    flat_files run.header (outside_of files paging run.header) files now legal.0 h legal.1 (copies_current run.header (outside_of files paging run.header) h (none_temporary run.header runs.served.ranged) causes legal.1.holds.own_bytes)
     (files_told run.header files paging) carry
-
--- nothing has happened
-none_flat : (run : Script) (files paging : List ℕ → Told) → FilesFlatAt (outside_of files paging) files files (Some run) []
-none_flat run files paging =
-    let legal = none_legal run (outside_of files paging run.header) in
-    flat_files run.header (outside_of files paging run.header) files files [] [] (record { follows = refl; holds = legal.holds; ended = tt; recalled = tt }) tt (files_told run.header files paging) (carried_none run.header files)
-
-pub files_none_flat : (run : Script) (files paging : List ℕ → Told) (h : List Event) → h ≡ [] → FilesFlatAt (outside_of files paging) files files (Some run) h
-files_none_flat run files paging h none = subst (FilesFlatAt (outside_of files paging) files files (Some run)) (sym none) (none_flat run files paging)

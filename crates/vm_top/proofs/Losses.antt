@@ -45,7 +45,3 @@ loses_unslotted report run outside h before after s ends files paging =
     let legal = ends_cut report run outside h before after s ends in
     let none = no_device h files paging in
     (none, fails_unslotted run.header outside h (cut run.header outside legal.0 h (weak_cut run.header outside legal.0 h legal.1.follows)) none)
-
--- nothing has happened
-pub loses_nothing : (run : Script) (h : List Event) → h ≡ [] → LosesUnslotted (Some run) h
-loses_nothing run h empty = rw empty (refl, tt)

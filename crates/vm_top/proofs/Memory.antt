@@ -16,7 +16,3 @@ pub one_memory : (report : Report) (run : Script) (outside : Outside) (h : List 
 one_memory report run outside h before after s ends =
     let legal = ends_cut report run outside h before after s ends in
     memory_is_one run.header outside h (cut run.header outside legal.0 h (weak_cut run.header outside legal.0 h legal.1.follows)) legal.1.holds.own_bytes legal.1.holds.flat_bytes
-
--- nothing has happened
-pub none_ordered : (run : Script) (outside : Outside) (h : List Event) → h ≡ [] → IsOneMemory run.header outside h
-none_ordered run outside h empty = rw empty (record { reads = tt; tasks = tt })

@@ -76,7 +76,6 @@ whole_leaves after bytes whole script status.Done read other = leaves_none after
 whole_leaves after bytes whole script status.EventLimit read other = leaves_none after bytes whole read
 whole_leaves after bytes whole script status.OutputFault read other = leaves_none after bytes whole read
 whole_leaves after bytes whole script status.Usage read other = leaves_none after bytes whole read
-whole_leaves after bytes whole script (status.NotBuilt line) read other = leaves_none after bytes whole read
 whole_leaves after bytes whole script (status.BadScript line kind) read other = leaves_none after bytes whole read
 
 pub read_leaves : (told after : Option (List ℕ)) (bytes : List ℕ) (script : Option Script) (s : Status) → ReadWhole told after bytes → s ≢ status.ReadFault → OfBytes told (λ whole. LeavesBytes s script whole after)

@@ -21,7 +21,8 @@ use Rattle.vm_top.specs.Ending.{EndsAs}
 use Rattle.vm_top.specs.Resting.{CarriesAll, WaitsForFramesAlone}
 use Rattle.vm_top.specs.Run.{IsRunnable}
 use Rattle.vm_top.specs.Top.{WroteFailed}
-use Rattle.vm_top.proofs.Closing.{full_so_far, none_legal, whole_so_far}
+use Rattle.vm_system.proofs.Sharing.{none_temporary}
+use Rattle.vm_top.proofs.Closing.{full_so_far, whole_so_far}
 use Rattle.vm_legal.proofs.Turns.{so_far_of as weak_so_far}
 
 -- also where a write failed
@@ -48,7 +49,6 @@ ends_legal report run outside h before after status.NoMemory ends uncut = absurd
 ends_legal report run outside h before after status.Usage ends uncut = absurd ends
 ends_legal report run outside h before after status.ReadFault ends uncut = absurd ends
 ends_legal report run outside h before after (status.BadScript line kind) ends uncut = absurd ends
-ends_legal report run outside h before after (status.NotBuilt line) ends uncut = absurd ends
 
 causes_of : (run : Script) (outside : Outside) (h : List Event) → CanonicalSoFar run outside h → EachEvent (HasCause run.header outside) h
 causes_of run outside h legal = so_far run.header outside legal.run h (weak_so_far run.header outside legal.run h legal.follows)
@@ -58,7 +58,7 @@ pub waits_for_frames : (report : Report) (run : Script) (outside : Outside) (h :
 waits_for_frames report run outside h before after s runs ends uncut delivered =
     let legal = ends_legal report run outside h before after s ends uncut in
     let causes = causes_of run outside h legal in
-    nobody_waits run.header outside h runs.built.supplied causes legal.holds.own_bytes legal.holds.paid legal.rests.paid legal.rests.served legal.rests.prompt delivered
+    nobody_waits run.header outside h (none_temporary run.header runs.served.ranged) causes legal.holds.own_bytes legal.holds.paid legal.rests.paid legal.rests.served legal.rests.prompt delivered
 
 pub carries_all : (report : Report) (run : Script) (outside : Outside) (h : List Event) (before after : Option (List ℕ)) (s : Status) → IsRunnable run → EndsAs report run outside h before after s → s ≢ status.NoMemory
     → CarriesAll (Some run) h
@@ -68,21 +68,3 @@ carries_all report run outside h before after s runs ends uncut =
       carried run.header outside h causes legal.rests.paid legal.holds.paid,
       shared_are_carried run.header outside h causes legal.holds.own_bytes legal.holds.paid legal.rests.paid legal.rests.served,
     )
-
--- nothing has happened: nobody waits, and nothing is asked
-none_waits : (header : Header) → NobodyWaitsInVain header []
-none_waits header = record { short = λ host task access below waits on. let bad : None ≡ Some access = waits in absurd (cc) }
-
-pub none_wait_for_frames : (run : Script) (h : List Event) → h ≡ [] → WaitsForFramesAlone (Some run) h
-none_wait_for_frames run h empty = rw empty (λ delivered. none_waits run.header)
-
-none_carried : (run : Script) → CarriesAll (Some run) []
-none_carried run =
-    let outside : Outside = record { files = Untold; paging = false } in
-    let legal = none_legal run outside in (
-      carried run.header outside [] tt legal.rests.paid tt,
-      shared_are_carried run.header outside [] tt tt tt legal.rests.paid legal.rests.served,
-    )
-
-pub none_carry : (run : Script) (h : List Event) → h ≡ [] → CarriesAll (Some run) h
-none_carry run h empty = rw empty (none_carried run)

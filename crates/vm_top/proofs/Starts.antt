@@ -16,7 +16,8 @@ use Rattle.vm_shared.proofs.Pages.{legal}
 use Rattle.vm_legal.proofs.Serving.{one_served}
 use Rattle.vm_top.specs.Run.{IsRunnable}
 use Rattle.vm_top.specs.Writing.{oldest_items}
-use Rattle.vm_top.proofs.Closing.{recalled_start}
+use Rattle.vm_legal.specs.InTurn.{AllRecalled}
+use Rattle.vm_model.specs.Server.{Wanting}
 
 some_frames : (frames : Option ℕ) → IfSome frames (λ count. 0 ≤ count)
 some_frames None = tt
@@ -28,6 +29,10 @@ start_leads header host task access waits on = let bad : None ≡ Some access = 
 
 start_waits : (header : Header) (host : ℕ) → NoneInVain header host []
 start_waits header host task access waits on = let bad : None ≡ Some access = waits.waits in cc
+
+-- nobody is to be recalled
+start_recalled : (header : Header) → AllRecalled header []
+start_recalled header object page host w shared is in_way = absurd (let bad : ◌≡◌ {A = Option Wanting} None (Some w) = is in cc)
 
 start_paid : (header : Header) → IsPaid header []
 start_paid header = record {
@@ -63,9 +68,9 @@ legal_start header outside = record {
     served = λ object page shared some. absurd (some refl);
   };
   ended = tt;
-  last = record { ended = λ host object page is. absurd (nothing is); served = one_served header 0 [] [] tt tt tt tt };
+  last = record { ended = λ host object page is. absurd (nothing is); served = one_served header 0 [] [] tt tt tt tt; awake = λ host below task comes. absurd (nothing comes.waits.waits) };
   recalled = tt;
-  recalls = recalled_start header;
+  recalls = start_recalled header;
 }
   where
     nothing : {A : Type 0} {x : A} → None ≡ Some x → ⊥

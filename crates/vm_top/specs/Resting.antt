@@ -4,7 +4,7 @@ use Rattle.vm_model.specs.declared.event.Event.{Event}
 use Rattle.vm_model.specs.declared.script.Script.{Script}
 use Rattle.vm_system.specs.Resting.{AllAreCarried, WaitsForFrames}
 
--- once nothing is undelivered no access of the run waits while frames are reclaimable: whoever waits does so since
+-- once nothing is undelivered no access of the run waits while frames are reclaimable: whoever waits does so on a wild object's region, or since
 -- its host is short of frames
 abbrev pub WaitsForFramesAlone : Option Script → List Event → Type 0
 WaitsForFramesAlone script history = IfSome script (λ run. WaitsForFrames run.header history)

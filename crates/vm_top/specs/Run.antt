@@ -22,7 +22,7 @@ use Rattle.vm_legal.specs.Undelivered.{undelivered}
 use Rattle.vm_outside.specs.Areas.{Told, read_at}
 use Rattle.pg_file.specs.Stands.{name_of}
 use Rattle.pg_slots.specs.Contents.{area_name}
-use Rattle.vm_system.specs.Stands.{IsSupplied}
+use Rattle.vm_system.specs.Stands.{IsServable}
 use Rattle.vm_system.specs.Steps.{HasMore, CanonicalCut, CanonicalOpen}
 use Rattle.vm_top.specs.Writing.{WroteStart, WroteBeyond}
 use Rattle.vm_top.specs.declared.run.RunEnd.{RunEnd}
@@ -60,9 +60,9 @@ areas_told areas (suc host) = areas_told areas host && is_some (areas (area_name
 abbrev pub outside_of : (List ℕ → Told) → (List ℕ → Told) → Header → Outside
 outside_of files paging header = record { files = files_of files header; paging = areas_told paging (length header.frames.items) }
 
--- a script whose declared objects are files or shared ones, all whose numbers are in their ranges
+-- a script whose header a system can run, and all of whose numbers are in their ranges
 pub record IsRunnable (script : Script) : Type 0 where
-  pub built : IsSupplied script.header
+  pub served : IsServable script.header
   pub slots : script.header.slots ≤ most_slots
   pub ranges : All (λ numbered. InRange script.header numbered.command) script.commands.items
 

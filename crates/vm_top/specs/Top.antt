@@ -13,7 +13,6 @@ use Rattle.vm_legal.specs.Legal.{CanonicalSoFar}
 use Rattle.vm_legal.specs.Outside.{Outside}
 use Rattle.vm_model.specs.Text.{field}
 use Rattle.vm_text.specs.Script.{script_of, whole_script}
-use Rattle.vm_text.specs.Unbuilt.{IsBuilt, unbuilt_of}
 use Rattle.vm_outside.specs.Areas.{SameAreas, Told}
 use Rattle.vm_outside.specs.Arming.{Arming}
 use Rattle.vm_system.specs.Keeping.{FilesCarry, PagingKeepsPages}
@@ -25,9 +24,6 @@ use Rattle.vm_top.specs.declared.words.Report.TheVariants.{History, Summary}
 
 abbrev pub usage_text : List ℕ
 usage_text = codes "usage: pagers run | summary | generate NUMBER LINES\n"
-
-abbrev pub not_built_text : ℕ → List ℕ
-not_built_text line = codes "notbuilt" ++ field line ++ codes "\n"
 
 abbrev pub fault_name : ScriptFault → List ℕ
 fault_name fault.TooLong = codes "TooLong"
@@ -53,10 +49,6 @@ IsReadFrom told script = OfBytes told (λ bytes. script_of bytes ≡ Ok (whole_s
 abbrev pub IsBadFrom : Option (List ℕ) → ℕ → ScriptFault → Type 0
 IsBadFrom told line kind = OfBytes told (λ bytes. script_of bytes ≡ Err (line, kind))
 
--- this is the first line of their header that isn't built, if one isn't
-abbrev pub IsUnbuiltFrom : Option (List ℕ) → Option ℕ → Type 0
-IsUnbuiltFrom told line = OfBytes told (λ bytes. unbuilt_of bytes ≡ line)
-
 -- no script was run
 pub record NothingRun (script : Option Script) (history : List Event) : Type 0 where
   pub none : script ≡ None
@@ -72,16 +64,10 @@ pub record IsHeld (told : Option (List ℕ)) (run : Script) (script : Option Scr
   pub held : script ≡ Some run
   pub read : IsReadFrom told run
 
--- nothing in its header isn't built: none of its objects is wild
-pub record IsHeaderBuilt (told : Option (List ℕ)) (run : Script) : Type 0 where
-  pub lines : IsUnbuiltFrom told None
-  pub built : IsBuilt run.header
-
 -- the whole script was run: its history is legal, and its report was written and nothing else
 pub record IsRunDone (told : Option (List ℕ)) (outside : Header → Outside) (report : Report) (script : Option Script) (history : List Event) (before after : Option (List ℕ)) : Type 0 where
   pub run : Script
   pub held : IsHeld told run script
-  pub header : IsHeaderBuilt told run
   pub whole : IsWholeRun run (outside run.header) history
   pub written : Appends before after (report_text report history)
 
@@ -89,21 +75,8 @@ pub record IsRunDone (told : Option (List ℕ)) (outside : Header → Outside) (
 pub record IsEventLimit (told : Option (List ℕ)) (outside : Header → Outside) (report : Report) (script : Option Script) (history : List Event) (before after : Option (List ℕ)) : Type 0 where
   pub run : Script
   pub held : IsHeld told run script
-  pub header : IsHeaderBuilt told run
   pub full : IsOutOfEvents run (outside run.header) history
   pub written : Appends before after (report_text report history)
-
--- a script was read whose header isn't built from this line on, and nothing was run
-pub record IsStopped (told : Option (List ℕ)) (line : ℕ) (script : Option Script) (history : List Event) : Type 0 where
-  pub run : Script
-  pub held : IsHeld told run script
-  pub unbuilt : IsUnbuiltFrom told (Some line)
-  pub empty : history ≡ []
-
--- so it is, and that was written
-pub record IsNotBuilt (told : Option (List ℕ)) (line : ℕ) (script : Option Script) (history : List Event) (before after : Option (List ℕ)) : Type 0 where
-  pub stopped : IsStopped told line script history
-  pub written : Appends before after (not_built_text line)
 
 -- the script has a fault: nothing was run, and its first fault was written
 pub record IsBad (told : Option (List ℕ)) (line : ℕ) (kind : ScriptFault) (script : Option Script) (history : List Event) (before after : Option (List ℕ)) : Type 0 where
@@ -121,20 +94,13 @@ WroteFailed Summary run outside history before after =
 pub record IsFailed (told : Option (List ℕ)) (outside : Header → Outside) (report : Report) (script : Option Script) (history : List Event) (before after : Option (List ℕ)) : Type 0 where
   pub run : Script
   pub held : IsHeld told run script
-  pub header : IsHeaderBuilt told run
   pub failed : WroteFailed report run (outside run.header) history before after
 
 -- a script was run until memory ended: its history is legal as far as it goes, and its last step may be cut
 pub record IsCut (told : Option (List ℕ)) (outside : Header → Outside) (script : Option Script) (history : List Event) : Type 0 where
   pub run : Script
   pub held : IsHeld told run script
-  pub header : IsHeaderBuilt told run
   pub cut : CutIn run (outside run.header) history
-
--- a first part of what tells the line that isn't built
-abbrev pub WroteStopped : Option (List ℕ) → Option Script → List Event → Option (List ℕ) → Option (List ℕ) → Type 0
-WroteStopped told script history before after =
-    (line : ℕ) × IsStopped told line script history × WroteStart before after (not_built_text line)
 
 -- a first part of what tells the first fault
 abbrev pub WroteBad : Option (List ℕ) → Option Script → List Event → Option (List ℕ) → Option (List ℕ) → Type 0
@@ -142,20 +108,18 @@ WroteBad told script history before after =
     NothingRun script history × (line : ℕ) × (kind : ScriptFault) × IsBadFrom told line kind
     × WroteStart before after (bad_text line kind)
 
--- a write failed: of the run's report, or of the line that isn't built, or of the script's fault
+-- a write failed: of the run's report, or of the script's fault
 abbrev pub IsOutputFault : Option (List ℕ) → (Header → Outside) → Report → Option Script → List Event → Option (List ℕ)
     → Option (List ℕ) → Type 0
 IsOutputFault told outside report script history before after =
-    IsFailed told outside report script history before after
-    ⊎ (WroteStopped told script history before after ⊎ WroteBad told script history before after)
+    IsFailed told outside report script history before after ⊎ WroteBad told script history before after
 
 -- memory ended: nothing was read, or a first part of one of these was written
 abbrev pub IsNoMemory : Option (List ℕ) → (Header → Outside) → Report → Option Script → List Event → Option (List ℕ)
     → Option (List ℕ) → Type 0
 IsNoMemory told outside report script history before after =
     NothingDone script history before after
-    ⊎ ((IsCut told outside script history × WroteStart before after (report_text report history))
-    ⊎ (WroteStopped told script history before after ⊎ WroteBad told script history before after))
+    ⊎ ((IsCut told outside script history × WroteStart before after (report_text report history)) ⊎ WroteBad told script history before after)
 
 -- each host's paging area goes on telling, and each page that was returned and not lost stands at its slot
 abbrev pub KeptAt : (Header → Outside) → (List ℕ → Told) → (List ℕ → Told) → Option Script → List Event → Type 0

@@ -5,7 +5,7 @@ ghost use Rattle.std.specs.declared.option.Option.{Option};
 ghost use Rattle.vm_model.specs.Text.{text, field};
 ghost use Rattle.vm_outside.specs.Causes.{CountRises};
 ghost use Rattle.vm_top.specs.Run.{report_text, text_so_far};
-ghost use Rattle.vm_top.specs.Top.{bad_text, fault_name, not_built_text};
+ghost use Rattle.vm_top.specs.Top.{bad_text, fault_name};
 ghost use Rattle.vm_top.specs.Writing.{oldest_items, WroteBeyond, WroteStart};
 
 use crate::summary::summary_text;
@@ -67,17 +67,6 @@ fn number_into(bytes: &mut Vec<u8>, number: u32) -> Result<(), NoMemory>
     bytes.push(b' ')?;
     bytes.extend_from_slice(buffer.format(number).as_bytes())?;
     Ok(())
-}
-
-/// The line that tells what isn't built.
-pub fn not_built_text(alloc: Global, line: u32) -> Result<Vec<u8>, NoMemory>
-    ensures { IfOk result (λ bytes. bytes.items ≡ not_built_text line) }
-{
-    let mut bytes = Vec::new(alloc);
-    bytes.extend_from_slice(b"notbuilt")?;
-    number_into(&mut bytes, line)?;
-    bytes.push(b'\n')?;
-    Ok(bytes)
 }
 
 fn fault_name(kind: ScriptFault) -> &'static [u8]

@@ -9,7 +9,7 @@ ghost use Rattle.vm_model.specs.Ranges.{IsBetween, KeepsRanges};
 ghost use Rattle.vm_outside.specs.Causes.{CountRises};
 ghost use Rattle.vm_top.specs.Ending.{EndsAs, RunHasEnded, Tells, status_after};
 ghost use Rattle.vm_top.specs.Flat.{FilesFlatAt};
-ghost use Rattle.vm_top.specs.Top.{IsBad, IsRunDone, IsEventLimit, NothingRun, IsOutputFault, IsNoMemory, IsNotBuilt, NothingDone, OfBytes, KeptAt, FilesKeptAt, BackingEnds, bad_text, commands_run, not_built_text, usage_text};
+ghost use Rattle.vm_top.specs.Top.{IsBad, IsRunDone, IsEventLimit, NothingRun, IsOutputFault, IsNoMemory, NothingDone, OfBytes, KeptAt, FilesKeptAt, BackingEnds, bad_text, commands_run, usage_text};
 ghost use Rattle.vm_legal.specs.Outside.{Outside};
 ghost use Rattle.vm_system.specs.Steps.{IsBelowLimit};
 ghost use Rattle.vm_top.specs.Arming.{FailuresBounded, FailuresCounted};
@@ -25,7 +25,7 @@ ghost use Rattle.vm_top.specs.declared.words.Job.TheVariants as jobs;
 ghost use Rattle.vm_top.specs.declared.words.Report.{Report};
 
 use crate::reading::{ReadStop, read_all};
-use crate::render::{bad_text, not_built_text, write_report};
+use crate::render::{bad_text, write_report};
 use crate::run::{Ran, RunEnd, run_script};
 use crate::words::{Job, Report, asked};
 use std::alloc::Global;
@@ -33,7 +33,7 @@ use vm_base::WriteStop;
 use vm_gen::make_script;
 use vm_model::{History, Script, ScriptFault};
 use vm_outside::{Armed, Backing, Sink, Source};
-use vm_text::{ScriptError, read_script, unbuilt_header};
+use vm_text::{ScriptError, read_script};
 
 const USAGE: &[u8] = b"usage: pagers run | summary | generate NUMBER LINES\n";
 
@@ -54,8 +54,6 @@ pub enum Status {
     EventLimit,
     /// No memory was there.
     NoMemory,
-    /// `line` is the first that isn't built: a header line for a wild object.
-    NotBuilt { line: u32 },
 }
 
 impl Status {
@@ -71,7 +69,6 @@ impl Status {
             Status::OutputFault => 4,
             Status::EventLimit => 5,
             Status::NoMemory => 6,
-            Status::NotBuilt { .. } => 7,
         }
     }
 }
@@ -115,18 +112,6 @@ fn tell<K: Sink>(text: &[u8], status: Status, out: &mut K) -> Status
     ensures later { K.faults out.old ≤ K.faults out.new }
 {
     status_after(out.write(text), status)
-}
-
-// Writes the line that tells what isn't built.
-fn tell_not_built<K: Sink>(alloc: Global, line: u32, out: &mut K) -> Status
-    ensures told { Tells (Status.NotBuilt line) (not_built_text line) (K.written out.old) (K.written out.new) result }
-    ensures cause { result ≡ Status.OutputFault → CountRises (K.faults out.old) (K.faults out.new) }
-    ensures later { K.faults out.old ≤ K.faults out.new }
-{
-    match not_built_text(alloc, line) {
-        Ok(text) => tell(&text, Status::NotBuilt { line }, out),
-        Err(_) => Status::NoMemory,
-    }
 }
 
 // Writes the line that tells the script's fault.
@@ -228,7 +213,6 @@ fn run<S: Source, K: Sink, F: Backing, P: Backing>(
     ensures carried { result.status ≢ Status.NoMemory → CarriesAll result.script result.history.items }
     ensures ranges { IfSome result.script KeepsRanges }
     ensures limit { IsBelowLimit result.history.items }
-    ensures not_built { (line : ℕ) → result.status ≡ Status.NotBuilt line → IsNotBuilt (S.left source.old) line result.script result.history.items (K.written out.old) (K.written out.new) }
     ensures source { OfBytes (S.left source.old) (λ bytes. LeavesBytes result.status result.script bytes (S.left source.new)) }
     ensures read_cause { result.status ≡ Status.ReadFault → CountRises (S.faults source.old) (S.faults source.new) }
     ensures output_cause { result.status ≡ Status.OutputFault → CountRises (K.faults out.old) (K.faults out.new) }
@@ -261,17 +245,7 @@ fn run<S: Source, K: Sink, F: Backing, P: Backing>(
         }
         Err(ScriptError::NoMemory) => return ended(alloc, Status::NoMemory),
     };
-    match unbuilt_header(&bytes) {
-        None => run_read(alloc, report, script, out, files, paging),
-        Some(line) => {
-            let status = tell_not_built(alloc, line, out);
-            Outcome {
-                status,
-                script: Some(script),
-                history: History::new(alloc),
-            }
-        }
-    }
+    run_read(alloc, report, script, out, files, paging)
 }
 
 // Makes a script, and runs it for its summary.
@@ -373,11 +347,6 @@ pub fn pagers_main<S: Source, K: Sink, F: Backing, P: Backing>(
         → IsEventLimit (S.left script.old) (outside_of (F.area files.old.inner) (P.area paging.old.inner)) report result.script result.history.items (K.written out.old) (K.written out.new) }
     ensures limit { IsBelowLimit result.history.items }
 
-    // This line of the header isn't built: nothing was run of the script, and that was written.
-    ensures not_built { (line : ℕ) → result.status ≡ Status.NotBuilt line → (report : Report)
-        → asked_by words.now ≡ Some (jobs.Run report)
-        → IsNotBuilt (S.left script.old) line result.script result.history.items (K.written out.old) (K.written out.new) }
-
     // Words that ask for no run leave the source as it was; a run reads it to its end, or beyond what a script may have.
     ensures source { LeavesSource S.left (asked_by words.now) result.status result.script script.old script.new }
 
@@ -385,7 +354,7 @@ pub fn pagers_main<S: Source, K: Sink, F: Backing, P: Backing>(
     ensures ranges { IfSome result.script KeepsRanges }
 
     // Wherever a script is held and memory did not end, the history ends with a whole step. Once nothing is undelivered there no access
-    // waits while frames are reclaimable; and whoever is asked has a message on its way.
+    // waits while frames are reclaimable, but on a wild object; and whoever is asked has a message on its way.
     ensures quiet { result.status ≢ Status.NoMemory → WaitsForFramesAlone result.script result.history.items }
     ensures carried { result.status ≢ Status.NoMemory → CarriesAll result.script result.history.items }
 

@@ -1,7 +1,8 @@
-use Rattle.vm_system.proofs.Common.{Command, None, refusal, subst, ◌≡◌}
+use Rattle.vm_system.proofs.Common.{Command, None, ap, is_some, refl, refusal, subst, ◌≡◌}
 use Rattle.vm_model.specs.Ranges.{InRange}
 use Rattle.vm_system.proofs.Beginning.{if_ok, there_at}
 use Rattle.vm_system.proofs.Cleaning.{asked_is, cleaned_file}
+use Rattle.vm_system.proofs.Spoken.{heeded}
 use Rattle.vm_system.proofs.state.State.asked.Goals as goal
 
 pub returns-in-Clean : goal.returns-in-Clean
@@ -14,3 +15,16 @@ returns-in-Clean g c =
     let file = cleaned_file g.given.header s.history.items clean.object clean.page clean.count clean.flush accepted in
     let there = there_at s.files.items clean.object.0 c.index.result.now _ stands.agrees.files.count range.0 c.index.ensures in
     if_ok c.clean.result (λ events says. rw (c.requires.1.0.1, clean.is) (asked_is g.given.header g.given.outside s clean.object clean.page clean.count clean.flush c.requires.1.0.0 c.index.result.now events.items stands file there says)) c.clean.ensures
+
+pub say-requires : goal.say-requires
+say-requires g c =
+    let s = c.args.self.now in
+    let said = c.in-Say in
+    let stands = c.requires.0 in
+    let range = subst (λ (z : Command). InRange g.given.header z) said.is c.requires.1.1.0 in
+    let accepted = subst (λ (z : Command). refusal g.given.header s.history.items z ≡ None) said.is c.requires.1.1.1.1 in
+    let heed = heeded g.given.header s.history.items said.host said.object said.message accepted in
+    (stands, (refl, (range.0, (rw stands.agrees.size range.2, ap is_some heed.lives))))
+
+pub returns-in-Say : goal.returns-in-Say
+returns-in-Say g c = let said = c.in-Say in if_ok c.say.result (λ events says. rw (c.requires.1.0.1, said.is) says) c.say.ensures

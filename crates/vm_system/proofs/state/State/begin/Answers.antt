@@ -2,6 +2,7 @@ use Rattle.vm_system.proofs.Common.{AllRest, Began, IsLined, None, Step, all_lin
 use Rattle.vm_system.proofs.Beginning.{can_tell, makes_told, on_both, on_either, spares_same, spares_told, told_said}
 use Rattle.vm_system.proofs.Legal.{legal_began, refusal_line}
 use Rattle.vm_system.proofs.state.State.begin.Goals as goal
+use Rattle.vm_system.proofs.Sharing.{none_temporary}
 
 pub begin-requires : goal.begin-requires
 begin-requires g c =
@@ -40,7 +41,7 @@ returns-clause-made g c =
     let events = c.in_ok-events.events.items in
     let stands = c.requires.1.0 in
     let began = subst (λ (z : Step). Began z.header z.outside c.args.command.now z.past hosts events) c.requires.0 c.in_ok-events.ensures.began in
-    let legal = legal_began given.header given.outside (record { line = c.args.line; command = c.args.command.now }) s.history.items events hosts stands.built.supplied c.requires.1.1.1.1 began in
+    let legal = legal_began given.header given.outside (record { line = c.args.line; command = c.args.command.now }) s.history.items events hosts (none_temporary given.header stands.built.ranged) c.requires.1.1.1.1 began in
     let told = told_said given.header given.outside c.args.command.now c.args.line events hosts s stands began.heads.stretch began.ended.rests began.ended.queues in
     on_both c.append.result (λ posts grown. makes_told given.header given.outside (record { line = c.args.line; command = c.args.command.now }) events hosts s c.append.new.self stands told legal (λ prompt. began.ended.prompt) c.append.ensures.hosts posts grown)
     c.append.ensures.posts c.append.ensures.history

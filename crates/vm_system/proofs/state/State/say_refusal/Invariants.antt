@@ -1,4 +1,7 @@
 use Rattle.vm_system.proofs.state.State.say_refusal.Given as goal
 
-abbrev pub ghost-has_control : goal.ghost-has_control
-ghost-has_control g a = g.given
+abbrev pub ghost-control : goal.ghost-control
+ghost-control g a = g.given
+
+abbrev pub ghost-kind : goal.ghost-kind
+ghost-kind g a = g.given

@@ -105,6 +105,31 @@ returns-in-Clean g c =
       files_devices = causes_same _ _ _ _ c.pass-in-Clean.ensures.spares.files.devices;
     }
 
+pub returns-in-Say : goal.returns-in-Say
+returns-in-Say g c =
+    let unarmed_files : arms device.Files c.args.command.now ≡ None = ap (arms device.Files) c.in-Say.is in
+    let unarmed_paging : arms device.Paging c.args.command.now ≡ None = ap (arms device.Paging) c.in-Say.is in
+    record {
+      made = c.pass-in-Say.ensures.made;
+      grew = on_either c.pass-in-Say.result (λ made. made.grew) (λ same. grew_none _ _ same) c.pass-in-Say.ensures.made c.pass-in-Say.ensures.err;
+      memory = on_err_weaker c.pass-in-Say.result (λ same. inl same) c.pass-in-Say.ensures.err;
+      kept = c.pass-in-Say.ensures.spares.paging.kept (g.P.Backing.area c.args.paging.now.inner) c.requires.1.1.1.0;
+      files_kept = c.pass-in-Say.ensures.spares.files.kept (g.F.Backing.area c.args.files.now.inner) c.requires.1.1.1.1.0;
+      carried = λ start carry. c.pass-in-Say.ensures.spares.files.carried start (g.F.Backing.area c.args.files.now.inner) carry;
+      alone = on_ok_weaker c.pass-in-Say.result (λ made count same. absurd (let bad : command.Say c.in-Say.host c.in-Say.object c.in-Say.message ≡ command.Settle count = sym c.in-Say.is ∙ same in cc)) c.pass-in-Say.ensures.made;
+      files = on_ok_weaker c.pass-in-Say.result (λ made. leaves_same g.given.header device.Files c.args.command.now c.args.files.now unarmed_files) c.pass-in-Say.ensures.made;
+      paging = on_ok_weaker c.pass-in-Say.result (λ made. leaves_same g.given.header device.Paging c.args.command.now c.args.paging.now unarmed_paging) c.pass-in-Say.ensures.made;
+      files_unasked = on_ok_weaker c.pass-in-Say.result (λ made unarmed none. refl) c.pass-in-Say.ensures.made;
+      unasked = on_ok_weaker c.pass-in-Say.result (λ made unarmed none. refl) c.pass-in-Say.ensures.made;
+      files_later = λ unarmed. (g.met.F.Backing.later_same c.args.files.now.inner, armed_later_same c.args.files.now.left c.args.files.now.reached);
+      later = λ unarmed. (g.met.P.Backing.later_same c.args.paging.now.inner, armed_later_same c.args.paging.now.left c.args.paging.now.reached);
+      calm = on_err_weaker c.pass-in-Say.result (λ same up. (same, refl, refl)) c.pass-in-Say.ensures.err;
+      files_stops = on_err_weaker c.pass-in-Say.result (λ same. inl (same, refl)) c.pass-in-Say.ensures.err;
+      stops = on_err_weaker c.pass-in-Say.result (λ same. inl (same, refl)) c.pass-in-Say.ensures.err;
+      devices = causes_same _ _ _ _ c.pass-in-Say.ensures.spares.paging.devices;
+      files_devices = causes_same _ _ _ _ c.pass-in-Say.ensures.spares.files.devices;
+    }
+
 pub returns-in_default-command : goal.returns-in_default-command
 returns-in_default-command g c =
     let unarmed_files : arms device.Files c.args.command.now ≡ None = arms_none device.Files c.args.command.now c.in_default-command.not-FailFiles c.in_default-command.not-FailPaging in

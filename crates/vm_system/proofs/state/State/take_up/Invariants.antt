@@ -11,3 +11,6 @@ ghost-take_shared g a = g.given
 
 abbrev pub ghost-kind : goal.ghost-kind
 ghost-kind g a = g.given
+
+abbrev pub ghost-take_wild : goal.ghost-take_wild
+ghost-take_wild g a = g.given
