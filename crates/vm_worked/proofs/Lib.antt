@@ -1,4 +1,5 @@
-pub mod SlowCopy
+pub mod Sleeping
+mod SlowCopy
 pub mod Steps
 pub mod Swapped
 pub mod Turns

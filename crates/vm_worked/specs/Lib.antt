@@ -1,2 +1,3 @@
+pub mod Sleeping
 pub mod Swapped
 pub mod Worked

@@ -4,10 +4,16 @@
 //! to hold of something, and to refuse something.
 #![tactic(auto)]
 
-ghost use Rattle.std.specs.Prelude.{List};
+ghost use Rattle.std.specs.Prelude.{◌≡◌, List};
 ghost use Rattle.vm_model.specs.declared.command.Numbered.{Numbered};
 ghost use Rattle.vm_legal.specs.Legal.{CanonicalFor, LegalFor};
+ghost use Rattle.vm_legal.specs.Frames.{frames_free};
+ghost use Rattle.vm_legal.specs.InTurn.{ComesToPage};
+ghost use Rattle.vm_legal.specs.Outside.{Outside};
+ghost use Rattle.vm_legal.specs.Prompt.{WaitsForPager};
+ghost use Rattle.vm_model.specs.Waiting.{Loading};
 ghost use Rattle.vm_quiet.specs.Unended as unended;
+ghost use Rattle.vm_worked.specs.Sleeping as sleeping;
 ghost use Rattle.vm_worked.specs.Swapped as swapped;
 ghost use Rattle.vm_worked.specs.Worked as worked;
 
@@ -31,4 +37,13 @@ pub fn a_copy_that_never_ends_is_not_legal()
 pub fn legal_and_not_canonical()
     ensures legal { LegalFor swapped.header swapped.outside swapped.commands swapped.history }
     ensures not_canonical { (commands : List Numbered) → CanonicalFor swapped.header swapped.outside commands swapped.history → ⊥ }
+{}
+
+/// A history in which an access sleeps beside its page is canonical for no commands. The page for which it waited is here, six frames are
+/// free, and it counts as one that waits for its pager for one reason alone: another task has asked for the page below its own.
+pub fn an_access_beside_its_page_may_not_sleep()
+    ensures awaits { WaitsForPager sleeping.header 0 1 (Loading 0 1) sleeping.history }
+    ensures comes { ComesToPage sleeping.header 0 1 sleeping.history }
+    ensures free { frames_free sleeping.header 0 sleeping.history ≡ 6 }
+    ensures not_canonical { (outside : Outside) (commands : List Numbered) → CanonicalFor sleeping.header outside commands sleeping.history → ⊥ }
 {}
