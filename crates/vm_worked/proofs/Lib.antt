@@ -1,3 +1,4 @@
+mod Beside
 pub mod Sleeping
 mod SlowCopy
 pub mod Steps

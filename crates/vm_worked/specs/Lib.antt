@@ -1,3 +1,4 @@
+pub mod Beside
 pub mod Sleeping
 pub mod Swapped
 pub mod Worked

@@ -5,14 +5,18 @@
 #![tactic(auto)]
 
 ghost use Rattle.std.specs.Prelude.{◌≡◌, List};
+ghost use Rattle.vm_model.specs.declared.command.Command.{Command};
 ghost use Rattle.vm_model.specs.declared.command.Numbered.{Numbered};
+ghost use Rattle.vm_model.specs.declared.event.Event.TheVariants as event;
 ghost use Rattle.vm_legal.specs.Legal.{CanonicalFor, LegalFor};
+ghost use Rattle.vm_legal.specs.Licences.{Caused};
 ghost use Rattle.vm_legal.specs.Frames.{frames_free};
 ghost use Rattle.vm_legal.specs.InTurn.{ComesToPage};
 ghost use Rattle.vm_legal.specs.Outside.{Outside};
 ghost use Rattle.vm_legal.specs.Prompt.{WaitsForPager};
 ghost use Rattle.vm_model.specs.Waiting.{Loading};
 ghost use Rattle.vm_quiet.specs.Unended as unended;
+ghost use Rattle.vm_worked.specs.Beside as beside;
 ghost use Rattle.vm_worked.specs.Sleeping as sleeping;
 ghost use Rattle.vm_worked.specs.Swapped as swapped;
 ghost use Rattle.vm_worked.specs.Worked as worked;
@@ -46,4 +50,10 @@ pub fn an_access_beside_its_page_may_not_sleep()
     ensures comes { ComesToPage sleeping.header 0 1 sleeping.history }
     ensures free { frames_free sleeping.header 0 sleeping.history ≡ 6 }
     ensures not_canonical { (outside : Outside) (commands : List Numbered) → CanonicalFor sleeping.header outside commands sleeping.history → ⊥ }
+{}
+
+/// Behind the last page of a slow copy lies memory that nobody has touched. The copy has no page left, so it is no access to that
+/// memory, and under no command have zeros a cause to come there.
+pub fn zeros_for_nobody_have_no_cause()
+    ensures { (outside : Outside) (doing : Command) → Caused beside.header outside doing (event.Zeroed beside.host (beside.object 1) beside.page) beside.history → ⊥ }
 {}
