@@ -8,4 +8,6 @@ mod summary;
 mod top;
 mod words;
 
+pub use reading::{ReadStop, read_all};
+pub use render::bad_text;
 pub use top::{Outcome, Status, pagers_main};

@@ -1,0 +1,5 @@
+pub mod Follows
+pub mod Law
+pub mod Orders
+pub mod Played
+pub mod Stands

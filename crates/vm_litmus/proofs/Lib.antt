@@ -1,0 +1,4 @@
+pub mod Commands
+pub mod InOrder
+pub mod Listed
+pub mod Outcomes
