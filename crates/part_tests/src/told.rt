@@ -1,5 +1,5 @@
 // A file of three pages, and its pager.
-ghost use Rattle.std.specs.Prelude.{◌≡◌, IfOk, Some, true, false};
+ghost use Rattle.std.specs.Prelude.{◌≡◌, ◌<◌, IfOk, Some, true, false};
 ghost use Rattle.vm_objects.specs.Objects.{object_at};
 
 use std::alloc::Global;
@@ -8,9 +8,9 @@ use vm_objects::{Objects, PagerState};
 
 pub const FILE: ObjectId = ObjectId(7);
 
-/// No pager was told of it.
+/// No pager was told of it, and there is room for a mark.
 pub fn with_file(alloc: Global) -> Result<Objects, NoMemory>
-    ensures { IfOk result (λ objects. object_at objects 7 ≡ Some record {
+    ensures file { IfOk result (λ objects. object_at objects 7 ≡ Some record {
       kind = ObjectKind.File;
       pages = 3;
       state = PagerState.Without;
@@ -18,9 +18,10 @@ pub fn with_file(alloc: Global) -> Result<Objects, NoMemory>
       live = false;
       references = 0;
     }) }
+    ensures room { IfOk result (λ objects. 0 < objects.marks) }
 {
     let mut objects = Objects::new(alloc);
-    objects.reserve(1, 3)?;
+    objects.reserve(1, 1)?;
     objects.make(FILE, ObjectKind::File, 3)?;
     Ok(objects)
 }

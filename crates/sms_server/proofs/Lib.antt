@@ -11,3 +11,4 @@ pub mod Naming
 pub mod Starting
 pub mod Words
 pub mod Answering
+mod Most

@@ -1,6 +1,6 @@
 -- What the shared memory server answers to each message, and what it leaves.
 use Rattle.std.specs.Prelude.{ℕ, suc, ◌≡◌, ◌≢◌, ◌≤◌, ◌⊎◌, ◌==◌, Bool, true, false, List, [], ◌∷◌, ◌++◌, length, slice_index, slice_set, if◌then◌else◌}
-use Rattle.sms_pages.specs.Directory.{Directory, IsSame, IsServedDirectory, Outcome, ended, finished, requested, saved, served, unlock_heard}
+use Rattle.sms_pages.specs.Directory.{Directory, IsSame, IsServedDirectory, Outcome, ended, finished, most_replies, requested, saved, served, unlock_heard}
 use Rattle.sms_pages.specs.Stands.{lock_number}
 use Rattle.sms_pages.specs.declared.reply.Reply.{Reply}
 use Rattle.sms_pages.specs.declared.reply.Reply.TheVariants.{Supply, Flush, CleanLock, Unlock}
@@ -14,7 +14,7 @@ use Rattle.vm_model.specs.declared.message.Channel.TheVariants.{Down}
 use Rattle.vm_model.specs.declared.message.Message.{Message}
 use Rattle.vm_model.specs.declared.message.Message.TheVariants as message
 use Rattle.sms_server.specs.declared.page_row.PageRow.{PageRow}
-use Rattle.sms_server.specs.Table.{ServerTable, IsSamePage, directory_at, heard_at}
+use Rattle.sms_server.specs.Table.{ServerTable, IsSamePage, directory_at, heard_at, most_events}
 
 -- What the server is told.
 
@@ -201,3 +201,14 @@ SendsWord size object e = ⊥
 abbrev pub AreServerWords : ℕ → ObjectId → List Event → Type 0
 AreServerWords size object [] = Unit {0}
 AreServerWords size object (e ∷ events) = SendsWord size object e × AreServerWords size object events
+
+-- the most events of the answer to a message about an object: the most replies of the page that it speaks of, those of all pages where a control ends,
+-- and one to an init
+abbrev pub most_told : ℕ → Message → ServerTable → ℕ
+most_told object (message.Init control size) table = 1
+most_told object (message.Request control page access) table = most_replies (directory_at table object page.0)
+most_told object (message.Unlock control page access) table = most_replies (directory_at table object page.0)
+most_told object (message.Return control page dirty keep bytes) table = most_replies (directory_at table object page.0)
+most_told object (message.Completed control page count) table = most_replies (directory_at table object page.0)
+most_told object (message.Terminate control) table = most_events object table
+most_told object m table = 0

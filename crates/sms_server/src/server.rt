@@ -1,7 +1,7 @@
 // The shared memory server.
 ghost use Rattle.std.specs.Prelude.{◌≡◌, ◌≤◌, ◌<◌, ◌^◌, [], ◌∷◌, true, false, IsOk, IsSome, None, OnOk, OnErr, IfOk, length};
 ghost use Rattle.vm_base.specs.Limits.{most_hosts};
-ghost use Rattle.sms_server.specs.Answers.{AreServerWords, IsAbout, IsEnd, IsOfOnePage, IsToServer, ReturnsWhole, ServerAnswer, sent_to};
+ghost use Rattle.sms_server.specs.Answers.{AreServerWords, IsAbout, IsEnd, IsOfOnePage, IsToServer, ReturnsWhole, ServerAnswer, most_told, sent_to};
 ghost use Rattle.sms_server.specs.Kept.{HasMemory, IsPreparedAt};
 ghost use Rattle.sms_server.specs.Table.{ArePrepared, IsPrepared, IsSameTable, most_events, row_among};
 
@@ -76,6 +76,24 @@ impl Server {
         self.prepare_object(object)
     }
 
+    /// The most events of the answer to a message about an object. Of the table nothing changes but the
+    /// memory at hand. It fails for want of memory alone.
+    pub fn most(&mut self, object: ObjectId, message: &Message) -> Result<u32, NoMemory>
+        requires { IsToServer message.now }
+        ensures same { IsSameTable self.old self.new }
+        ensures most { IfOk result (λ most. most ≡ most_told object.0 message.now self.new) }
+    {
+        match message {
+            Message::Init { .. } => Ok(1),
+            Message::Request { page, .. }
+            | Message::Unlock { page, .. }
+            | Message::Return { page, .. }
+            | Message::Completed { page, .. } => self.most_at(object, *page, message),
+            Message::Terminate { .. } => self.reserve(object),
+            _ => Ok(0),
+        }
+    }
+
     /// Takes a message of a host's kernel about an object, and gives the events of the answer. It
     /// fails for want of memory alone.
     ///
@@ -95,6 +113,7 @@ impl Server {
         ensures answered { IfOk result (λ events. ServerAnswer host.0 object message.now self.old self.new events.items) }
         ensures words { IfOk result (λ events. AreServerWords self.old.size object events.items) }
         ensures few { IfOk result (λ events. length events.items ≤ most_events object.0 self.old) }
+        ensures few_told { IfOk result (λ events. length events.items ≤ most_told object.0 message.now self.old) }
         ensures err { OnErr result (IsSameTable self.old self.new) }
         ensures succeeds { IsPrepared object.0 self.old → IsOk result }
     {
@@ -123,6 +142,22 @@ impl Server {
         Ok(events)
     }
 
+    // The most events of the answer to a message about one page.
+    fn most_at(
+        &mut self,
+        object: ObjectId,
+        page: PageNo,
+        message: &Message,
+    ) -> Result<u32, NoMemory>
+        requires about { IsAbout page.0 message.now }
+        requires one { IsOfOnePage message.now }
+        ensures same { IsSameTable self.old self.new }
+        ensures most { IfOk result (λ most. most ≡ most_told object.0 message.now self.new) }
+    {
+        let i = self.prepare_page(PageKey { object, page })?;
+        self.rows[i].reserve()
+    }
+
     // Answers a message about one page.
     fn answer_at(
         &mut self,
@@ -138,6 +173,7 @@ impl Server {
         ensures answered { IfOk result (λ events. ServerAnswer host.0 object message.now self.old self.new events.items) }
         ensures words { IfOk result (λ events. AreServerWords self.old.size object events.items) }
         ensures few { IfOk result (λ events. length events.items ≤ most_events object.0 self.old) }
+        ensures few_told { IfOk result (λ events. length events.items ≤ most_told object.0 message.now self.old) }
         ensures err { OnErr result (IsSameTable self.old self.new) }
         ensures succeeds { IsPrepared object.0 self.old → IsOk result }
     {
@@ -159,6 +195,7 @@ impl Server {
         ensures answered { IfOk result (λ events. ServerAnswer host.0 object message.now self.old self.new events.items) }
         ensures words { IfOk result (λ events. AreServerWords self.old.size object events.items) }
         ensures few { IfOk result (λ events. length events.items ≤ most_events object.0 self.old) }
+        ensures few_told { IfOk result (λ events. length events.items ≤ most_told object.0 message.now self.old) }
         ensures err { OnErr result (IsSameTable self.old self.new) }
         ensures succeeds { IsPrepared object.0 self.old → IsOk result }
     {

@@ -6,3 +6,4 @@ mod Places
 mod Runs
 mod Shadows
 mod Standing
+mod Taking

@@ -1,5 +1,5 @@
 -- From one page of a slow copy to the next.
-use Rattle.std.proofs.Common.{◌≡◌, ℕ, ◌+◌, ◌-◌, ◌^◌, ◌<◌, ◌≤◌, ◌==◌, ◌&&◌, Bool, true, false, List, Some, None, refl, ap, sym, ◌∙◌, subst, arith}
+use Rattle.std.proofs.Common.{◌≡◌, ℕ, ◌+◌, ◌-◌, ◌^◌, ◌<◌, ◌≤◌, ◌==◌, ◌&&◌, Bool, true, false, List, Some, None, length, refl, ap, sym, ◌∙◌, subst, arith}
 use Rattle.std.proofs.lemmas.Bool.{false≢true}
 use Rattle.std.proofs.lemmas.Bool.Decides.{nat_tests}
 use Rattle.std.proofs.lemmas.Option.{same_Some}
@@ -12,9 +12,10 @@ use Rattle.vm_base.specs.declared.ids.ObjectId.{ObjectId}
 use Rattle.vm_base.specs.declared.ids.PageKey.{PageKey}
 use Rattle.vm_base.specs.declared.ids.TaskId.{TaskId}
 use Rattle.vm_fault.specs.Faults.{AfterZeros, AtOnce, CanFault, Copied, CopiesPage, CopiesTo, Ended, FaultState, Faulted, GoesOn, Raised, Runs, goes_on, want_after}
-use Rattle.vm_fault.specs.Rooms.{HasRoom, LeavesRoom}
+use Rattle.vm_fault.specs.Rooms.{HasRoom, TakesRoom}
 use Rattle.vm_fault.specs.declared.step.FaultStep.{FaultStep}
 use Rattle.vm_fault.specs.declared.step.FaultStep.TheVariants as step
+use Rattle.vm_frames.specs.Frames.{FrameTable, free}
 use Rattle.vm_maps.specs.Maps.{Mapped}
 use Rattle.vm_model.specs.declared.event.Event.{Event}
 use Rattle.vm_objects.specs.Objects.{ObjectTable, absent_at, object_at}
@@ -35,6 +36,7 @@ record MakesPage (target : ObjectId) (next : ℕ) (old new : HostParts) : Type 0
   pub buffers : new.buffers ≡ old.buffers
   pub row : PageRow
   pub rows : PutsRow target.0 next (Some row) old.resident new.resident
+  pub claimed : free new.frames + 1 ≡ free old.frames
 
 made_page : (task : TaskId) (key : PageKey) (row : PageRow) (target : ObjectId) (next : ℕ) (old new : HostParts) (before after : List Event) → CopiesPage task key row target next old new before after → MakesPage target next old new
 made_page task key row target next old new before after c =
@@ -43,6 +45,7 @@ made_page task key row target next old new before after c =
       buffers = ap (λ (z : HostParts). z.buffers) c.source.is ∙ (ap (λ (z : HostParts). z.buffers) c.marks.is ∙ c.plan.buffers);
       row = record (clean_row c.frame unlocked false) { dirty = true };
       rows = subst (λ (z : ResidentTable). PutsRow target.0 next (Some (record (clean_row c.frame unlocked false) { dirty = true })) old.resident z) (sym (ap (λ (z : HostParts). z.resident) c.source.is ∙ ap (λ (z : HostParts). z.resident) c.marks.is)) c.page.row;
+      claimed = subst (λ (z : FrameTable). free z + 1 ≡ free old.frames) (sym (ap (λ (z : HostParts). z.frames) c.source.is ∙ ap (λ (z : HostParts). z.frames) c.marks.is)) (omega (arith, c.page.left));
     }
 
 -- of a slow copy, its target and its next page
@@ -65,11 +68,20 @@ ended_page host task address pages next target top at value old new chains befor
     let page = made_page task key row t n old new before after made in
     subst (λ (z : ObjectId). MakesPage z next old new) (sym (ap (λ (z : Want). target_in z target) is)) (subst (λ (z : ℕ). MakesPage t z old new) (sym (ap next_in is)) page)
 
+-- it has told one event
+ended_told : (host : HostId) (task : TaskId) (address pages next : ℕ) (target : ObjectId) (top : PageKey) (at value : ℕ) (old new : HostParts) (chains : ChainTable) (before after : List Event)
+    → Ended host task (want.CopyTo address pages target next) top at value old new chains before after → length after ≡ length before + 1
+ended_told host task address pages next target top at value old new chains before after (AtOnce steps key row finds alone out e hits told) = absurd hits
+ended_told host task address pages next target top at value old new chains before after (Raised steps key row finds stores out frame copied hit raises plan e hits source told) = absurd (false≢true stores)
+ended_told host task address pages next target top at value old new chains before after (AfterZeros sinks frame brought brings plan e hits told) = absurd hits
+ended_told host task address pages next target top at value old new chains before after (Copied a p n t is steps key row finds out zero made) = ap (λ (es : List Event). length es) made.told ∙ omega arith
+
 -- and of the rest
 record MakesNext (target : ObjectId) (next : ℕ) (old new : FaultState) : Type 0 where
   pub chains : new.chains ≡ old.chains
   pub ids : new.ids ≡ old.ids
   pub page : MakesPage target next old.parts new.parts
+  pub told : length new.events ≡ length old.events + 1
 
 made_next : (maps : Mapped) (host : HostId) (task : TaskId) (may_claim : Bool) (value address pages next : ℕ) (target : ObjectId) (old new : FaultState)
     → Faulted maps host task (want.CopyTo address pages target next) may_claim (step.Done value) old new → MakesNext target next old new
@@ -78,6 +90,7 @@ made_next maps host task may_claim value address pages next target old new f =
       chains = f.chains ∙ ap (λ (z : FaultState). z.chains) f.prepares;
       ids = f.ids ∙ ap (λ (z : FaultState). z.ids) f.prepares;
       page = subst (λ (z : FaultState). MakesPage target next z.parts new.parts) f.prepares (ended_page host task address pages next target f.top _ value f.mid.parts new.parts f.mid.chains f.mid.events new.events f.comes);
+      told = ended_told host task address pages next target f.top _ value f.mid.parts new.parts f.mid.chains f.mid.events new.events f.comes ∙ ap (λ (z : FaultState). length z.events + 1) f.prepares;
     }
 
 else_where : {A : Type 0} (b c : Bool) (x y : A) → c ≡ false → (if b && c then x else y) ≡ y
@@ -170,29 +183,26 @@ runs_then maps host task may_claim answer what old mid f more final last new res
     (subst (λ (a : FaultStep). Runs maps host task may_claim final (want_after a what) last mid new) is.done rest)
 
 next_room : (maps : Mapped) (host : HostId) (task : TaskId) (may_claim : Bool) (value address pages next : ℕ) (target : ObjectId) (old new : FaultState) (room rest : ℕ)
-    → CanFault maps old task.0 (want.CopyTo address pages target next) → Faulted maps host task (want.CopyTo address pages target next) may_claim (step.Done value) old new → next + 1 < pages
-    → old.parts.resident.spare ≤ new.parts.resident.spare + 1 → room ≤ rest + 1
-    → HasRoom maps task.0 (want.CopyTo address pages target next) old.parts old.chains room → HasRoom maps task.0 (want.CopyTo address pages target (next + 1)) new.parts new.chains rest
-next_room maps host task may_claim value address pages next target old new room rest can f less spare events has =
+    → Faulted maps host task (want.CopyTo address pages target next) may_claim (step.Done value) old new → next + 1 < pages → TakesRoom old new room rest
+    → HasRoom (want.CopyTo address pages target next) old.parts old.chains old.ids room → HasRoom (want.CopyTo address pages target (next + 1)) new.parts new.chains new.ids rest
+next_room maps host task may_claim value address pages next target old new room rest f less takes has =
     let made = made_next maps host task may_claim value address pages next target old new f in
-    let objects = made.page.objects in
+    let one : length new.events ≡ length old.events + 1 = made.told in
+    let marks : new.ids.marks ≡ old.ids.marks = ap (λ (z : Ids). z.marks) made.ids in
+    let shadows : new.chains.spare ≡ old.chains.spare = ap (λ (z : ChainTable). z.spare) made.chains in
+    let objects : new.parts.objects.rows ≡ old.parts.objects.rows = ap (λ (z : ObjectTable). z.rows) made.page.objects in
     record {
-      log = omega (arith, has.log, less, events);
-      shadows = subst (λ (z : ChainTable). 1 ≤ z.spare) (sym made.chains) has.shadows;
-      objects = subst (λ (z : ObjectTable). 1 ≤ z.rows) (sym objects) has.objects;
-      pages = λ entry row found region.
-          (let same : can.entry ≡ entry = same_Some can.entry entry (sym ((can.inside (next + 1) less).0) ∙ found) in
-          let was : region_at old.chains entry.region.0 ≡ Some row = sym (ap (λ (z : ChainTable). region_at z entry.region.0) made.chains) ∙ region in
-          subst (λ (z : ObjectTable). row.pages ≤ z.pages) (sym objects) (has.pages can.entry row can.found (subst (λ (z : Entry). region_at old.chains z.region.0 ≡ Some row) (sym same) was)));
-      rows = omega (arith, has.rows, less, spare);
+      log = omega (arith, has.log, less, takes.log, one, made.page.claimed);
+      rows = omega (arith, has.rows, less, takes.rows, one, made.page.claimed);
+      shadows = omega (arith, has.shadows, marks, shadows);
+      objects = omega (arith, has.objects, marks, objects);
     }
 
 pub room_then : (maps : Mapped) (host : HostId) (task : TaskId) (may_claim : Bool) (answer : FaultStep) (what : Want) (old new : FaultState) (room rest : ℕ)
-    → CanFault maps old task.0 what → Faulted maps host task what may_claim answer old new → goes_on answer what ≡ true → LeavesRoom answer what old.parts.resident.spare new.parts.resident.spare room rest
-    → HasRoom maps task.0 what old.parts old.chains room → HasRoom maps task.0 (want_after answer what) new.parts new.chains rest
-room_then maps host task may_claim answer what old new room rest can f more leaves has =
+    → Faulted maps host task what may_claim answer old new → goes_on answer what ≡ true → TakesRoom old new room rest
+    → HasRoom what old.parts old.chains old.ids room → HasRoom (want_after answer what) new.parts new.chains new.ids rest
+room_then maps host task may_claim answer what old new room rest f more takes has =
     let is = copied answer what more in
-    let left = leaves more in
-    from_copied (λ a w. HasRoom maps task.0 (want_after a w) new.parts new.chains rest) answer what is
-    (next_room maps host task may_claim is.value is.address is.pages is.next is.target old new room rest (as_copied (λ a w. CanFault maps old task.0 w) answer what is can) (as_copied (λ a w. Faulted maps host task w may_claim a old new) answer what is f) is.less
-    left.0 left.1 (as_copied (λ a w. HasRoom maps task.0 w old.parts old.chains room) answer what is has))
+    from_copied (λ a w. HasRoom (want_after a w) new.parts new.chains new.ids rest) answer what is
+    (next_room maps host task may_claim is.value is.address is.pages is.next is.target old new room rest (as_copied (λ a w. Faulted maps host task w may_claim a old new) answer what is f) is.less
+    takes (as_copied (λ a w. HasRoom w old.parts old.chains old.ids room) answer what is has))

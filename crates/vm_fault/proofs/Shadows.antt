@@ -29,7 +29,7 @@ pub put_twice : (os roomier mid new : ObjectTable) (id : ℕ) (made row : Object
 put_twice os roomier mid new id made row same first second =
     record { at = λ o. let as_it_was : object_at roomier o ≡ object_at os o = ap (object_among o) same in grind (arith, nat_tests, second.at o, first.at o, as_it_was) }
 
-pub marks_twice : (os roomier mid new : ObjectTable) → roomier.entries ≡ os.entries → SameMarks roomier mid → SameMarks mid new → SameMarks os new
+pub marks_twice : (os roomier mid new : ObjectTable) → roomier.absent ≡ os.absent → SameMarks roomier mid → SameMarks mid new → SameMarks os new
 marks_twice os roomier mid new same first second = record { at = λ o p. second.at o p ∙ (first.at o p ∙ ap (absent_among o p) same) }
 
 -- another object has its pages still

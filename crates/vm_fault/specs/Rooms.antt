@@ -1,14 +1,11 @@
 -- Room for an access that is run.
-use Rattle.std.specs.Prelude.{ℕ, ◌+◌, ◌-◌, ◌≤◌, ◌≡◌, true, Some}
-use Rattle.vm_base.specs.declared.entry.Entry.{Entry}
-use Rattle.vm_base.specs.Entries.{entry_at}
-use Rattle.vm_fault.specs.Faults.{goes_on}
-use Rattle.vm_fault.specs.declared.step.FaultStep.{FaultStep}
-use Rattle.vm_maps.specs.Maps.{Mapped, rows_in}
+use Rattle.std.specs.Prelude.{ℕ, ◌+◌, ◌-◌, ◌≤◌, List, length, min}
+use Rattle.vm_fault.specs.Faults.{FaultState}
+use Rattle.vm_frames.specs.Frames.{free}
+use Rattle.vm_model.specs.declared.event.Event.{Event}
 use Rattle.vm_parts.specs.declared.parts.HostParts.{HostParts}
-use Rattle.vm_shadow.specs.Chains.{ChainTable, region_at}
-use Rattle.vm_shadow.specs.declared.region_row.RegionRow.{RegionRow}
-use Rattle.vm_waits.specs.Wants.{address_in}
+use Rattle.vm_shadow.specs.Chains.{ChainTable}
+use Rattle.vm_shadow.specs.declared.ids.Ids.{Ids}
 use Rattle.vm_waits.specs.declared.waiting.Want.{Want}
 use Rattle.vm_waits.specs.declared.waiting.Want.TheVariants as want
 
@@ -18,15 +15,23 @@ pages_left (want.Load address size) = 0
 pages_left (want.Store address size value) = 0
 pages_left (want.CopyTo address pages target next) = pages - next
 
--- where a slow copy goes on behind a page, that has taken a row and an event at most
-abbrev pub LeavesRoom : FaultStep → Want → ℕ → ℕ → ℕ → ℕ → Type 0
-LeavesRoom answer what spare left room rest = goes_on answer what ≡ true → (spare ≤ left + 1) × (room ≤ rest + 1)
+-- what running an access has taken of the room: for each event at most one place in the log and one row of a page, and for each mark that goes at most one shadow and
+-- one object
+pub record TakesRoom (old new : FaultState) (before after : ℕ) : Type 0 where
+  pub log : before + length old.events ≤ after + length new.events
+  pub rows : old.parts.resident.spare + length old.events ≤ new.parts.resident.spare + length new.events
+  pub shadows : old.chains.spare + new.ids.marks ≤ new.chains.spare + old.ids.marks
+  pub objects : old.parts.objects.rows + new.ids.marks ≤ new.parts.objects.rows + old.ids.marks
 
--- there is room for four events, a shadow, an object with the pages of the access's region, and the row of a page; for an event and a row more for each page that a
--- slow copy has left
-pub record HasRoom (maps : Mapped) (task : ℕ) (what : Want) (parts : HostParts) (chains : ChainTable) (events : ℕ) : Type 0 where
-  pub log : 4 + pages_left what ≤ events
-  pub shadows : 1 ≤ chains.spare
-  pub objects : 1 ≤ parts.objects.rows
-  pub pages : (entry : Entry) (row : RegionRow) → entry_at (address_in maps.size what) (rows_in task maps) ≡ Some entry → region_at chains entry.region.0 ≡ Some row → row.pages ≤ parts.objects.pages
-  pub rows : 1 + pages_left what ≤ parts.resident.spare
+-- where no object is made: for each event at most one place in the log and one row of a page
+pub record TakesPlaces (old new : HostParts) (before after : List Event) (room rest : ℕ) : Type 0 where
+  pub log : room + length before ≤ rest + length after
+  pub rows : old.resident.spare + length before ≤ new.resident.spare + length after
+
+-- there is room for three events and one row of a page; for an event and a row more for each page that a slow copy has left, as far as frames are free; and for a shadow
+-- and an object for each mark
+pub record HasRoom (what : Want) (parts : HostParts) (chains : ChainTable) (ids : Ids) (events : ℕ) : Type 0 where
+  pub log : 3 + min (pages_left what) (free parts.frames) ≤ events
+  pub rows : 1 + min (pages_left what) (free parts.frames) ≤ parts.resident.spare
+  pub shadows : ids.marks ≤ chains.spare
+  pub objects : ids.marks ≤ parts.objects.rows

@@ -35,6 +35,8 @@ pub fn hit(
     ensures plan { KeepsPlan parts.old parts.new }
     ensures listed { KeepsPages parts.old.queues parts.new.queues }
     ensures free { free parts.new.frames ≡ free parts.old.frames }
+    ensures spare { parts.new.resident.spare ≡ parts.old.resident.spare }
+    ensures room { log.old.room ≤ log.new.room + 1 }
 {
     match run.want {
         Want::Load { size, .. } => load(run, key, frame, size, parts, log),
@@ -63,6 +65,7 @@ fn load(
     ensures value { result ≡ little_endian (slice_range (page_in parts.old.frames frame.0) run.at (run.at + size)) }
     ensures marks { References frame parts.old parts.new }
     ensures told { log.new.items ≡ event.Loaded run.task key.object key.page result ∷ log.old.items }
+    ensures room { log.old.room ≤ log.new.room + 1 }
 {
     let value = parts.frames.bytes(frame).get(run.at, size);
     parts.queues.touch(frame);
@@ -93,6 +96,8 @@ fn store(
     requires room { 0 < log.old.room }
     ensures writes { (mid : Parts) × WritesPage key frame run.at size value parts.old mid × References frame mid parts.new }
     ensures told { log.new.items ≡ event.Stored run.task key.object key.page run.at size value ∷ log.old.items }
+    ensures spare { parts.new.resident.spare ≡ parts.old.resident.spare }
+    ensures room { log.old.room ≤ log.new.room + 1 }
 {
     parts.write(key, run.at, size, value);
     parts.queues.touch(frame);

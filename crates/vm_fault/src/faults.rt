@@ -3,7 +3,7 @@ ghost use Rattle.std.specs.Prelude.{◌≡◌, Some, false, IfOk, IsOk, OnOk};
 ghost use Rattle.vm_base.specs.Entries.{entry_at};
 ghost use Rattle.vm_base.specs.declared.entry.Entry.{Entry as Row};
 ghost use Rattle.vm_fault.specs.Faults.{CanFault, FaultState, Faulted, Runs};
-ghost use Rattle.vm_fault.specs.Rooms.{HasRoom, LeavesRoom};
+ghost use Rattle.vm_fault.specs.Rooms.{HasRoom, TakesRoom};
 ghost use Rattle.vm_frames.specs.Frames.{free};
 ghost use Rattle.vm_maps.specs.Judge.{IsAllowed, place_at};
 ghost use Rattle.vm_maps.specs.Maps.{rows_in};
@@ -29,7 +29,8 @@ use vm_waits::Want;
 /// the copy mark gives it an object of its own, and a store whose page is further down the chain writes
 /// a copy of it. In this profile messages are about one page, and whoever asks for a page holds a
 /// frame for it from then on. The log gets at most three events, and one for each page that a slow copy
-/// copies. It fails for want of memory alone.
+/// copies. For each event it takes the room of one row of a page at most, and that of an object and a
+/// shadow for a mark that goes. It fails for want of memory alone.
 pub fn fault(
     host: HostId,
     task: TaskId,
@@ -46,7 +47,10 @@ pub fn fault(
         (record { parts = parts.old; chains = chains.old; ids = ids.old; events = log.old.items })
         (record { parts = parts.new; chains = chains.new; ids = ids.new; events = log.new.items })) }
     ensures still { OnOk result (may_claim ≡ false → free parts.new.frames ≡ free parts.old.frames) }
-    ensures succeeds { HasRoom maps.now task.0 want.old parts.old chains.old log.old.room → IsOk result }
+    ensures takes { OnOk result (TakesRoom
+        (record { parts = parts.old; chains = chains.old; ids = ids.old; events = log.old.items })
+        (record { parts = parts.new; chains = chains.new; ids = ids.new; events = log.new.items }) log.old.room log.new.room) }
+    ensures succeeds { HasRoom want.old parts.old chains.old ids.old log.old.room → IsOk result }
 {
     'pages: loop {
         let step = once(host, task, *want, may_claim, parts, chains, maps, ids, log)?;
@@ -75,8 +79,10 @@ fn once(
         (record { parts = parts.old; chains = chains.old; ids = ids.old; events = log.old.items })
         (record { parts = parts.new; chains = chains.new; ids = ids.new; events = log.new.items })) }
     ensures still { OnOk result (may_claim ≡ false → free parts.new.frames ≡ free parts.old.frames) }
-    ensures room { IfOk result (λ answer. LeavesRoom answer want parts.old.resident.spare parts.new.resident.spare log.old.room log.new.room) }
-    ensures succeeds { HasRoom maps.now task.0 want parts.old chains.old log.old.room → IsOk result }
+    ensures takes { OnOk result (TakesRoom
+        (record { parts = parts.old; chains = chains.old; ids = ids.old; events = log.old.items })
+        (record { parts = parts.new; chains = chains.new; ids = ids.new; events = log.new.items }) log.old.room log.new.room) }
+    ensures succeeds { HasRoom want parts.old chains.old ids.old log.old.room → IsOk result }
 {
     log.reserve(3)?;
     let address = address_of(want, parts.buffers.size());

@@ -1,7 +1,7 @@
 // What an access comes to where its walk has stopped.
 ghost use Rattle.std.specs.Prelude.{ℕ, ◌≡◌, ◌≢◌, ◌<◌, ◌≤◌, true, false, IfOk, IsOk, OnOk};
-ghost use Rattle.vm_fault.specs.Faults.{KeepsPlan, goes_on};
-ghost use Rattle.vm_fault.specs.Rooms.{LeavesRoom};
+ghost use Rattle.vm_fault.specs.Faults.{KeepsPlan};
+ghost use Rattle.vm_fault.specs.Rooms.{TakesPlaces};
 ghost use Rattle.vm_fault.specs.Stops.{CanGo, Goes, Stands};
 ghost use Rattle.vm_fault.specs.Walks.{ChainsFit, Finds, MayCome, Sinks, is_copying, is_storing, keeps_out, wanted_number, writes_at};
 ghost use Rattle.vm_frames.specs.Frames.{free};
@@ -54,7 +54,7 @@ pub fn go(
     ensures goes { IfOk result (λ step. Goes run step chains.now parts.old parts.new log.old.items log.new.items) }
     ensures plan { OnOk result (KeepsPlan parts.old parts.new) }
     ensures still { OnOk result (run.may_claim ≡ false → free parts.new.frames ≡ free parts.old.frames) }
-    ensures room { IfOk result (λ step. LeavesRoom step run.want parts.old.resident.spare parts.new.resident.spare log.old.room log.new.room) }
+    ensures takes { OnOk result (TakesPlaces parts.old parts.new log.old.items log.new.items log.old.room log.new.room) }
     ensures succeeds { 1 ≤ parts.old.resident.spare → IsOk result }
 {
     match walk(top, parts, chains) {
@@ -79,7 +79,7 @@ fn found(
     ensures goes { (chains : ChainTable) → Finds parts.old chains steps run.top key row → IfOk result (λ step. Goes run step chains parts.old parts.new log.old.items log.new.items) }
     ensures plan { OnOk result (KeepsPlan parts.old parts.new) }
     ensures still { OnOk result (run.may_claim ≡ false → free parts.new.frames ≡ free parts.old.frames) }
-    ensures room { IfOk result (λ step. LeavesRoom step run.want parts.old.resident.spare parts.new.resident.spare log.old.room log.new.room) }
+    ensures takes { OnOk result (TakesPlaces parts.old parts.new log.old.items log.new.items log.old.room log.new.room) }
     ensures succeeds { 1 ≤ parts.old.resident.spare → IsOk result }
 {
     if is_kept_out(row.lock, is_store(run.want) && steps == 0) {
@@ -109,7 +109,7 @@ fn unlock(
     requires locked { keeps_out row.lock (writes_at run.want steps) ≡ true }
     ensures goes { (chains : ChainTable) → Finds parts.old chains steps run.top key row → Goes run result chains parts.old parts.new log.old.items log.new.items }
     ensures plan { KeepsPlan parts.old parts.new }
-    ensures waits { goes_on result run.want ≡ false }
+    ensures takes { TakesPlaces parts.old parts.new log.old.items log.new.items log.old.room log.new.room }
     ensures free { free parts.new.frames ≡ free parts.old.frames }
 {
     if row.unlock_sent {
@@ -150,6 +150,7 @@ fn raise(
     ensures goes { (chains : ChainTable) → Finds parts.old chains steps run.top key row → IfOk result (λ step. Goes run step chains parts.old parts.new log.old.items log.new.items) }
     ensures plan { OnOk result (KeepsPlan parts.old parts.new) }
     ensures still { OnOk result (run.may_claim ≡ false → free parts.new.frames ≡ free parts.old.frames) }
+    ensures takes { OnOk result (TakesPlaces parts.old parts.new log.old.items log.new.items log.old.room log.new.room) }
     ensures succeeds { 1 ≤ parts.old.resident.spare → IsOk result }
 {
     if !has_frame(run.may_claim, parts) {
@@ -184,7 +185,7 @@ fn copy(
     ensures goes { (chains : ChainTable) → (steps : ℕ) → Finds parts.old chains steps run.top key row → IfOk result (λ step. Goes run step chains parts.old parts.new log.old.items log.new.items) }
     ensures plan { OnOk result (KeepsPlan parts.old parts.new) }
     ensures still { OnOk result (run.may_claim ≡ false → free parts.new.frames ≡ free parts.old.frames) }
-    ensures room { IfOk result (λ step. LeavesRoom step run.want parts.old.resident.spare parts.new.resident.spare log.old.room log.new.room) }
+    ensures takes { OnOk result (TakesPlaces parts.old parts.new log.old.items log.new.items log.old.room log.new.room) }
     ensures succeeds { 1 ≤ parts.old.resident.spare → IsOk result }
 {
     let Want::CopyTo { target, next, .. } = run.want else {
@@ -227,7 +228,7 @@ fn may_come(
     ensures goes { (chains : ChainTable) → MayCome parts.old chains steps run.top key object → IfOk result (λ step. Goes run step chains parts.old parts.new log.old.items log.new.items) }
     ensures plan { OnOk result (KeepsPlan parts.old parts.new) }
     ensures still { OnOk result (run.may_claim ≡ false → free parts.new.frames ≡ free parts.old.frames) }
-    ensures room { IfOk result (λ step. LeavesRoom step run.want parts.old.resident.spare parts.new.resident.spare log.old.room log.new.room) }
+    ensures takes { OnOk result (TakesPlaces parts.old parts.new log.old.items log.new.items log.old.room log.new.room) }
     ensures succeeds { 1 ≤ parts.old.resident.spare → IsOk result }
 {
     if object.state == PagerState::Sent {
@@ -260,6 +261,7 @@ fn nowhere(run: Running, parts: &mut HostParts, log: &mut Events) -> Result<Faul
     ensures goes { (chains : ChainTable) → Sinks parts.old chains run.top → IfOk result (λ step. Goes run step chains parts.old parts.new log.old.items log.new.items) }
     ensures plan { OnOk result (KeepsPlan parts.old parts.new) }
     ensures still { OnOk result (run.may_claim ≡ false → free parts.new.frames ≡ free parts.old.frames) }
+    ensures takes { OnOk result (TakesPlaces parts.old parts.new log.old.items log.new.items log.old.room log.new.room) }
     ensures succeeds { 1 ≤ parts.old.resident.spare → IsOk result }
 {
     if !has_frame(run.may_claim, parts) {

@@ -1,6 +1,7 @@
 // A marked region gets an object of its own.
 ghost use Rattle.std.specs.Prelude.{◌≡◌, ◌-◌, ◌<◌, ◌≤◌, ◌^◌, ◌&&◌, ℕ, Some, None, true, false, IfSome, IsOk, IsSome, OnOk};
 ghost use Rattle.vm_fault.specs.Faults.{MakesShadow, Prepares};
+ghost use Rattle.vm_fault.specs.Rooms.{TakesRoom};
 ghost use Rattle.vm_fault.specs.Walks.{ChainsFit, is_storing};
 ghost use Rattle.vm_objects.specs.Objects.{object_at};
 ghost use Rattle.vm_parts.specs.Fits.{Fit};
@@ -34,8 +35,10 @@ pub fn prepare(
         (record { parts = parts.old; chains = chains.old; ids = ids.old; events = log.old.items })
         (record { parts = parts.new; chains = chains.new; ids = ids.new; events = log.new.items }))) }
     ensures room { 2 ≤ log.new.room }
-    ensures kept { is_storing want ≡ false → log.new.room ≡ log.old.room }
-    ensures succeeds { 1 ≤ chains.old.spare → 1 ≤ parts.old.objects.rows → IfSome (region_at chains.old region.0) (λ row. row.pages ≤ parts.old.objects.pages) → IsOk result }
+    ensures takes { OnOk result (TakesRoom
+        (record { parts = parts.old; chains = chains.old; ids = ids.old; events = log.old.items })
+        (record { parts = parts.new; chains = chains.new; ids = ids.new; events = log.new.items }) log.old.room log.new.room) }
+    ensures succeeds { ids.old.marks ≤ chains.old.spare → ids.old.marks ≤ parts.old.objects.rows → IsOk result }
 {
     let Some(row) = chains.region(region) else {
         unreachable!()
@@ -68,9 +71,12 @@ fn shadow(
         (record { parts = parts.old; chains = chains.old; ids = ids.old; events = log.old.items })
         (record { parts = parts.new; chains = chains.new; ids = ids.new; events = log.new.items })) }
     ensures room { 2 ≤ log.new.room }
-    ensures succeeds { 1 ≤ chains.old.spare → 1 ≤ parts.old.objects.rows → row.pages ≤ parts.old.objects.pages → IsOk result }
+    ensures takes { OnOk result (TakesRoom
+        (record { parts = parts.old; chains = chains.old; ids = ids.old; events = log.old.items })
+        (record { parts = parts.new; chains = chains.new; ids = ids.new; events = log.new.items }) log.old.room log.new.room) }
+    ensures succeeds { ids.old.marks ≤ chains.old.spare → ids.old.marks ≤ parts.old.objects.rows → IsOk result }
 {
-    parts.objects.reserve(1, row.pages)?;
+    parts.objects.reserve(1, 0)?;
     let object = chains.shadow_over(region, ids)?;
     parts.objects.make(object, ObjectKind::Temp, row.pages)?;
     parts.objects.refer(object);

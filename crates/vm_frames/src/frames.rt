@@ -130,6 +130,13 @@ impl Frames {
         true
     }
 
+    /// The number of frames.
+    pub fn count(&self) -> u32
+        ensures { result ≡ frame_count self.now }
+    {
+        self.claims.len() as u32
+    }
+
     /// The number of frames that are neither claimed nor wired.
     pub fn free(&self) -> u32
         ensures value { result ≡ free self.now }

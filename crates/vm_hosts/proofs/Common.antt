@@ -24,6 +24,8 @@ pub use Rattle.vm_kernel.specs.Abroad.{IsCommon, IsNobodys}
 pub use Rattle.vm_kernel.specs.Begun.{CreatesHere, IsLaundered, IsLined, IsMine, KernelSays, LegalEvents, Passed, Ran, Served, SomeKernelSays, Starts, acts_on}
 pub use Rattle.vm_kernel.specs.Built.{kernel_runs}
 pub use Rattle.vm_kernel.specs.Matches.{IsRanged, Rests, first_ids, host_id}
+pub use Rattle.vm_kernel.proofs.Roomier.{rests_roomier}
+pub use Rattle.vm_kernel.specs.Rooms.{IsReady as IsReadyOn, ServeRoom, dues_of, front, full_dues, most, rooms_of, to_run, with_rooms, with_rooms_of}
 pub use Rattle.vm_kernel.specs.Serving.{HasQueue}
 pub use Rattle.vm_kernel.specs.Taking.{IsAbsencePaid, IsErrorPaid, IsLockPaid}
 pub use Rattle.vm_legal.specs.InTurn.{EndsAll}
@@ -61,7 +63,11 @@ pub use Rattle.vm_objects.specs.Objects.{object_at}
 pub use Rattle.vm_objects.specs.declared.row.ObjectRow.{ObjectRow}
 pub use Rattle.vm_shadow.specs.declared.ids.Ids.{Ids}
 pub use native.Mathlib.Decide.{ℕ_discrete}
-pub use Rattle.vm_hosts.specs.Hosts.{AllQueued, AllRest, AreNew, HostTable, knows_file}
+pub use Rattle.vm_frames.specs.Frames.{free}
+pub use Rattle.vm_waits.specs.Waits.{is_again, is_frame, one}
+pub use Rattle.vm_waits.specs.declared.waiting.On.{On}
+pub use Rattle.vm_waits.specs.declared.waiting.Waiting.{Waiting}
+pub use Rattle.vm_hosts.specs.Hosts.{AllQueued, AllRest, AreNew, CanServe, CanServeOn, HostTable, IsReady, knows_file, most_of, own_dues, sum_of_dues}
 pub use Rattle.vm_hosts.specs.Steps.{ActsOn, Began, EventsFollow, Heads, PagerStep, PartInTurn, Stretch, Went}
 pub use Rattle.vm_legal.specs.Serving.{EndsInTurn, ServeInTurn}
 pub use Rattle.vm_legal.specs.Serving.ServeInTurn.{NextServes, NoneServed}

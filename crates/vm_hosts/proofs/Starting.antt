@@ -1,5 +1,5 @@
 -- A command's step.
-use Rattle.vm_hosts.proofs.Common.{ActsOn, AllRest, Began, Command, Event, Header, Heads, HostTable, Ids, InRange, IsDoneInTurn, IsLined, List, None, Outside, Parts, Ran, Starts, Went, [], acts_on, ap, done_more, kernel_runs, length, paid_of, refl, refusal, subst, sym, true, ℕ, ◌++◌, ◌<◌, ◌∙◌, ◌≡◌}
+use Rattle.vm_hosts.proofs.Common.{ActsOn, AllRest, Began, Command, Event, Header, Heads, HostTable, Ids, InRange, IsDoneInTurn, IsLined, List, None, Outside, Parts, Ran, Starts, Went, [], acts_on, ap, done_more, kernel_runs, length, paid_of, refusal, subst, sym, true, ℕ, ◌++◌, ◌<◌, ◌∙◌, ◌≡◌}
 use Rattle.vm_hosts.proofs.Acting.{Acts, acting_rests, acting_stretch, makes_all, only_of}
 use Rattle.vm_hosts.proofs.Serving.{turns_went}
 use Rattle.vm_hosts.proofs.Stretches.{heads_more}
@@ -25,16 +25,16 @@ module _ (header : Header) (outside : Outside) (doing : Command) (past events : 
       }
 
 -- a kernel may run the command
-pub starts_of : (header : Header) (doing : Command) (past : List Event) (hosts : HostTable) (h : ℕ) (k : Parts) → Found header hosts past h k → acts_on h doing past ≡ true → InRange header doing → refusal header past doing ≡ None
-    → IsLined past → Starts header k.host.0 doing past k hosts.ids []
-starts_of header doing past hosts h k found acts range accepted begins =
+pub starts_of : (header : Header) (doing : Command) (past events : List Event) (hosts : HostTable) (h : ℕ) (k : Parts) → Found header hosts past h k → acts_on h doing past ≡ true → InRange header doing → refusal header past doing ≡ None
+    → IsLined past → events ≡ [] → Starts header k.host.0 doing past k hosts.ids events
+starts_of header doing past events hosts h k found acts range accepted begins nothing =
     record {
       rests = found.rests;
       acts = ap (λ (z : ℕ). acts_on z doing past) found.number ∙ acts;
       range = range;
       accepted = accepted;
       begins = begins;
-      nothing = refl;
+      nothing = nothing;
     }
 
 -- the same where the kernel goes by its own number

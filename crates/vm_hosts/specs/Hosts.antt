@@ -1,5 +1,5 @@
 -- The kernels of all hosts stand for a history.
-use Rattle.std.specs.Prelude.{ℕ, ◌≡◌, ◌<◌, Bool, false, List, [], length, Option, Some, None, slice_get}
+use Rattle.std.specs.Prelude.{ℕ, ◌+◌, ◌≡◌, ◌<◌, ◌≤◌, Bool, false, List, [], ◌∷◌, length, Option, Some, None, slice_get}
 use Rattle.vm_model.specs.declared.event.Event.{Event}
 use Rattle.vm_model.specs.declared.script.Header.{Header}
 use Rattle.vm_model.specs.Tasks.{host_of}
@@ -9,6 +9,7 @@ use Rattle.vm_abroad.specs.Home.{home_of}
 use Rattle.vm_abroad.specs.Sound.{Sound}
 use Rattle.vm_shadow.specs.declared.ids.Ids.{Ids}
 use Rattle.vm_kernel.specs.Matches.{IsRanged, Rests, first_ids}
+use Rattle.vm_kernel.specs.Rooms.{IsReady as IsReadyOn, IsSkipRoom, dues, dues_of, most, to_run}
 use Rattle.vm_kernel.specs.Serving.{HasQueue}
 use Rattle.vm_kernel.specs.declared.parts.Parts.{Parts}
 
@@ -40,3 +41,35 @@ pub record AreNew (header : Header) (number : ℕ) (kernels : List Parts) : Type
   pub count : length kernels ≡ number
   pub rests : (h : ℕ) (k : Parts) → slice_get kernels h ≡ Some k → Rests header h k (first_ids header) []
   pub queues : (h : ℕ) (k : Parts) → slice_get kernels h ≡ Some k → HasQueue header h k []
+
+-- how many events these kernels add to a step at most
+abbrev pub most_of : List Parts → Ids → ℕ
+most_of [] ids = 0
+most_of (k ∷ ks) ids = most k ids + most_of ks ids
+
+-- there is room for a step of so many events at most: in the tables of each host, and in a log with so much room
+pub record IsReady (events : ℕ) (hosts : HostTable) (space : ℕ) : Type 0 where
+  pub each : (h : ℕ) (k : Parts) → slice_get hosts.kernels h ≡ Some k → IsReadyOn k hosts.ids
+  pub enough : most_of hosts.kernels hosts.ids ≤ events
+  pub room : events ≤ space
+
+-- what is still to be told on a host, but for the shadows of marked regions, and a page that is returned at last
+abbrev pub own_dues : Parts → ℕ
+own_dues k = dues (to_run k.waits.rows) k.memory 0 + 2
+
+abbrev pub sum_of_dues : List Parts → ℕ
+sum_of_dues [] = 0
+sum_of_dues (k ∷ ks) = own_dues k + sum_of_dues ks
+
+-- there is room in a host's tables to serve its queue
+pub record CanServeOn (k : Parts) (ids : Ids) : Type 0 where
+  pub rows : dues_of k ids ≤ k.memory.resident.spare
+  pub shadows : ids.marks ≤ k.chains.spare
+  pub objects : ids.marks ≤ k.memory.objects.rows
+  pub buffers : 0 < k.memory.buffers.count
+  pub skip : IsSkipRoom k
+
+-- there is room for all hosts to serve theirs: in the tables of each, and in a log with so much room
+pub record CanServe (hosts : HostTable) (space : ℕ) : Type 0 where
+  pub each : (h : ℕ) (k : Parts) → slice_get hosts.kernels h ≡ Some k → CanServeOn k hosts.ids
+  pub room : hosts.ids.marks + sum_of_dues hosts.kernels ≤ space

@@ -1,5 +1,5 @@
 // The kernels of all hosts.
-ghost use Rattle.std.specs.Prelude.{◌≡◌, ◌<◌, ◌∷◌, ◌++◌, [], length, true, false, None, Some, IfOk, OnOk, MatchOption, is_some, option_map};
+ghost use Rattle.std.specs.Prelude.{ℕ, ◌≡◌, ◌+◌, ◌<◌, ◌≤◌, ◌∷◌, ◌++◌, List, [], length, true, false, None, Some, IfOk, OnErr, OnOk, MatchOption, is_some, option_map};
 ghost use Rattle.vm_base.specs.declared.code.Code.TheVariants as code;
 ghost use Rattle.vm_base.specs.declared.ids.HostId.{HostId};
 ghost use Rattle.vm_model.specs.declared.event.Event.TheVariants as event;
@@ -16,7 +16,9 @@ ghost use Rattle.vm_kernel.specs.Matches.{IsRanged};
 ghost use Rattle.vm_kernel.specs.Taking.{IsAbsencePaid, IsErrorPaid, IsLockPaid, IsWord};
 ghost use Rattle.vm_legal.specs.InTurn.{EndsAll};
 ghost use Rattle.vm_kernel.specs.Refusing.{maps_elsewhere, takes_name};
-ghost use Rattle.vm_hosts.specs.Hosts.{AllQueued, AllRest, AreNew, knows_file};
+ghost use Rattle.vm_hosts.specs.Hosts.{AllQueued, AllRest, AreNew, CanServe, IsReady, knows_file, sum_of_dues};
+ghost use Rattle.vm_model.specs.declared.event.Event.{Event};
+ghost use Rattle.vm_model.specs.declared.script.Header.{Header};
 ghost use Rattle.vm_objects.specs.Objects.{object_at};
 ghost use Rattle.vm_hosts.specs.Steps.{ActsOn, Began, Going, HostsPart, PagerStep, Step, Went};
 
@@ -30,7 +32,7 @@ use vm_shadow::Ids;
 /// The kernels of the hosts of a script, and the next numbers of regions and objects, which they have in
 /// common.
 ///
-/// Contracts see the kernels' parts, which stand for the history. After `NoMemory` it is used no more.
+/// Contracts see the kernels' parts, which stand for the history.
 #[derive(Drop)]
 pub struct Hosts {
     alloc: Global,
@@ -67,8 +69,46 @@ impl Hosts {
         })
     }
 
-    /// Runs a command that isn't refused, up to the end of its step, and gives what happened behind its line.
-    pub fn begin(&mut self, command: &Command) -> Result<Events, NoMemory>
+    /// Makes room for one step on all hosts, and for its events in the log, with so many more; gives how many
+    /// events the step adds at most. Nothing but room changes. It fails for want of memory alone.
+    pub fn reserve(&mut self, more: u32, log: &mut Events) -> Result<u32, NoMemory>
+        ensures rests { (header : Header) (past : List Event) → AllRest header self.old past → AllRest header self.new past }
+        ensures queues { (header : Header) (past : List Event) → AllRest header self.old past → AllQueued header self.old past → AllQueued header self.new past }
+        ensures items { log.new.items ≡ log.old.items }
+        ensures ready { IfOk result (λ events. IsReady events self.new log.new.room × (events + more ≤ log.new.room)) }
+    {
+        let most = self.reserve_tables()?;
+        let Ok(events) = u32::try_from(most) else {
+            return Err(NoMemory);
+        };
+        let Some(room) = events.checked_add(more) else {
+            return Err(NoMemory);
+        };
+        log.reserve(room)?;
+        Ok(events)
+    }
+
+    // Makes room for one step in the tables of each host, and gives how many events the step adds at most.
+    fn reserve_tables(&mut self) -> Result<u64, NoMemory>
+        ensures rests { (header : Header) (past : List Event) → AllRest header self.old past → AllRest header self.new past }
+        ensures queues { (header : Header) (past : List Event) → AllRest header self.old past → AllQueued header self.old past → AllQueued header self.new past }
+        ensures ready { IfOk result (λ most. (space : ℕ) → most ≤ space → IsReady most self.new space) }
+    {
+        let mut most: u64 = 0;
+        'rooms: for host in 0..self.kernels.len() {
+            let kernel = &mut self.kernels[host];
+            kernel.reserve(&self.ids)?;
+            let Some(sum) = most.checked_add(kernel.most(&self.ids)) else {
+                return Err(NoMemory);
+            };
+            most = sum;
+        }
+        Ok(most)
+    }
+
+    /// Runs a command that isn't refused, up to the end of its step, and adds what happened behind its line to
+    /// the log. It fails for want of memory alone, and then nothing but room has changed.
+    pub fn begin(&mut self, command: &Command, log: &mut Events) -> Result<(), NoMemory>
         ghost given: { Step }
         requires rests { AllRest given.header self.old given.past }
         requires command { given.command ≡ command.now }
@@ -76,52 +116,62 @@ impl Hosts {
         requires built { kernel_runs command.now ≡ true }
         requires accepted { refusal given.header given.past command.now ≡ None }
         requires begins { IsLined given.past }
-        ensures began { IfOk result (λ events. Began given.header given.outside command.now given.past self.new events.items) }
+        requires empty { log.old.items ≡ [] }
+        requires ready { (events : ℕ) × IsReady events self.old log.old.room }
+        ensures began { OnOk result (Began given.header given.outside command.now given.past self.new log.new.items) }
+        ensures few { OnOk result ((events : ℕ) → IsReady events self.old log.old.room → length log.new.items ≤ events) }
+        ensures err { OnErr result (AllRest given.header self.new given.past × ((AllQueued given.header self.old given.past → AllQueued given.header self.new given.past) × (log.new.items ≡ []))) }
     {
         let Some(host) = self.host_for(command) else {
             unreachable!()
         };
-        let mut log = self.kernels[host.0 as usize].begin(command, &mut self.ids)?;
-        self.serve(&mut log)?;
-        Ok(log)
+        self.kernels[host.0 as usize].begin(command, &mut self.ids, log)?;
+        self.serve_all(log);
+        Ok(())
     }
 
-    /// A host takes what a pager says to a control of an object; gives what happened behind the taking, up
-    /// to the end of its step.
+    /// A host takes what a pager says to a control of an object; what happened behind the taking, up to the end
+    /// of its step, is added to the log. It fails for want of memory alone, and then nothing but room has changed.
     pub fn take(
         &mut self,
         host: HostId,
         object: ObjectId,
         control: u32,
         message: &Message,
-    ) -> Result<Events, NoMemory>
+        log: &mut Events,
+    ) -> Result<(), NoMemory>
         ghost given: { Step }
         requires rests { AllRest given.header self.old given.past }
         requires queues { AllQueued given.header self.old given.past }
         requires host { host.0 < length given.header.frames.items }
         requires word { IsWord given.header.size message.now }
         requires licensed { LicensedInTurn given.header given.outside given.command (event.Taken (channels.Down host object control) message.now) given.past }
-        ensures passed { IfOk result (λ events. HostsPart given.header given.outside given.command (event.Taken (channels.Down host object control) message.now ∷ given.past) self.new events.items) }
-        ensures failed { IfOk result (λ events. IsErrorPaid given.header (events.items ++ event.Taken (channels.Down host object control) message.now ∷ given.past)) }
-        ensures zeroed { IfOk result (λ events. IsAbsencePaid given.header (events.items ++ event.Taken (channels.Down host object control) message.now ∷ given.past)) }
-        ensures locked { IfOk result (λ events. IsLockPaid given.header (events.items ++ event.Taken (channels.Down host object control) message.now ∷ given.past)) }
-        ensures ended { IfOk result (λ events. EndsAll given.header (events.items ++ event.Taken (channels.Down host object control) message.now ∷ given.past)) }
+        requires empty { log.old.items ≡ [] }
+        requires ready { (events : ℕ) × IsReady events self.old log.old.room }
+        ensures passed { OnOk result (HostsPart given.header given.outside given.command (event.Taken (channels.Down host object control) message.now ∷ given.past) self.new log.new.items) }
+        ensures failed { OnOk result (IsErrorPaid given.header (log.new.items ++ event.Taken (channels.Down host object control) message.now ∷ given.past)) }
+        ensures zeroed { OnOk result (IsAbsencePaid given.header (log.new.items ++ event.Taken (channels.Down host object control) message.now ∷ given.past)) }
+        ensures locked { OnOk result (IsLockPaid given.header (log.new.items ++ event.Taken (channels.Down host object control) message.now ∷ given.past)) }
+        ensures ended { OnOk result (EndsAll given.header (log.new.items ++ event.Taken (channels.Down host object control) message.now ∷ given.past)) }
+        ensures few { OnOk result ((events : ℕ) → IsReady events self.old log.old.room → length log.new.items ≤ events) }
+        ensures err { OnErr result (AllRest given.header self.new given.past × (AllQueued given.header self.new given.past × (log.new.items ≡ []))) }
     {
-        let log = self.hear(host, object, control, message)?;
-        Ok(log)
+        self.hear(host, object, control, message, log)
     }
 
     /// The pager of a host took a message and answered; where that returned a page that the host didn't keep
-    /// (`washed`), its frame is free. Gives what happened behind that, up to the end of the step.
-    pub fn follow(&mut self, host: HostId, washed: bool) -> Result<Events, NoMemory>
+    /// (`washed`), its frame is free. What happened behind that, up to the end of the step, is added to the log.
+    pub fn follow(&mut self, host: HostId, washed: bool, log: &mut Events)
         ghost given: { Going }
         requires rests { AllRest given.header self.old given.past }
         requires answers { PagerStep given.header given.outside given.command host washed given.past given.front }
-        ensures passed { IfOk result (λ events. HostsPart given.header given.outside given.command (given.front ++ given.past) self.new events.items) }
+        requires empty { log.old.items ≡ [] }
+        requires ready { (events : ℕ) × IsReady events self.old log.old.room }
+        ensures passed { HostsPart given.header given.outside given.command (given.front ++ given.past) self.new log.new.items }
+        ensures few { (events : ℕ) → IsReady events self.old log.old.room → length log.new.items ≤ events }
     {
-        let mut log = self.behind(host, washed)?;
-        self.serve(&mut log)?;
-        Ok(log)
+        self.behind(host, washed);
+        self.serve_all(log);
     }
 
     // A host takes what a pager says, which stands in front.
@@ -131,7 +181,8 @@ impl Hosts {
         object: ObjectId,
         control: u32,
         message: &Message,
-    ) -> Result<Events, NoMemory>
+        log: &mut Events,
+    ) -> Result<(), NoMemory>
         ghost given: { Going }
         requires rests { AllRest given.header self.old given.past }
         requires queues { AllQueued given.header self.old given.past }
@@ -139,43 +190,56 @@ impl Hosts {
         requires front { given.front ≡ event.Taken (channels.Down host object control) message.now ∷ [] }
         requires word { IsWord given.header.size message.now }
         requires licensed { LicensedInTurn given.header given.outside given.command (event.Taken (channels.Down host object control) message.now) given.past }
-        ensures passed { IfOk result (λ events. HostsPart given.header given.outside given.command (given.front ++ given.past) self.new events.items) }
-        ensures failed { IfOk result (λ events. IsErrorPaid given.header (events.items ++ (given.front ++ given.past))) }
-        ensures zeroed { IfOk result (λ events. IsAbsencePaid given.header (events.items ++ (given.front ++ given.past))) }
-        ensures locked { IfOk result (λ events. IsLockPaid given.header (events.items ++ (given.front ++ given.past))) }
-        ensures ended { IfOk result (λ events. EndsAll given.header (events.items ++ (given.front ++ given.past))) }
+        requires empty { log.old.items ≡ [] }
+        requires ready { (events : ℕ) × IsReady events self.old log.old.room }
+        ensures passed { OnOk result (HostsPart given.header given.outside given.command (given.front ++ given.past) self.new log.new.items) }
+        ensures failed { OnOk result (IsErrorPaid given.header (log.new.items ++ (given.front ++ given.past))) }
+        ensures zeroed { OnOk result (IsAbsencePaid given.header (log.new.items ++ (given.front ++ given.past))) }
+        ensures locked { OnOk result (IsLockPaid given.header (log.new.items ++ (given.front ++ given.past))) }
+        ensures ended { OnOk result (EndsAll given.header (log.new.items ++ (given.front ++ given.past))) }
+        ensures few { OnOk result ((events : ℕ) → IsReady events self.old log.old.room → length log.new.items ≤ events) }
+        ensures err { OnErr result (AllRest given.header self.new given.past × (AllQueued given.header self.new given.past × (log.new.items ≡ []))) }
     {
-        let mut log = self.kernels[host.0 as usize].take(object, control, message, &mut self.ids)?;
-        self.serve(&mut log)?;
-        Ok(log)
+        self.kernels[host.0 as usize].take(object, control, message, &mut self.ids, log)?;
+        self.serve_all(log);
+        Ok(())
     }
 
     // Gives the frame of a return that was taken back.
-    fn behind(&mut self, host: HostId, washed: bool) -> Result<Events, NoMemory>
+    fn behind(&mut self, host: HostId, washed: bool)
         ghost given: { Going }
         requires rests { AllRest given.header self.old given.past }
         requires answers { PagerStep given.header given.outside given.command host washed given.past given.front }
-        ensures rests { OnOk result (AllRest given.header self.new (given.front ++ given.past)) }
-        ensures nothing { IfOk result (λ events. events.items ≡ []) }
+        ensures rests { AllRest given.header self.new (given.front ++ given.past) }
+        ensures ready { (events room : ℕ) → IsReady events self.old room → IsReady events self.new room }
     {
         if washed {
-            let events = self.kernels[host.0 as usize].laundered(&mut self.ids)?;
-            Ok(events)
-        } else {
-            Ok(Events::new(self.alloc))
+            self.kernels[host.0 as usize].laundered(&self.ids);
         }
     }
 
     /// A step ends: every host serves its frame queue, and what happened is added to the step's events.
-    pub fn serve(&mut self, log: &mut Events) -> Result<(), NoMemory>
+    pub fn serve(&mut self, log: &mut Events)
         ghost given: { Step }
         requires rests { AllRest given.header self.old (log.old.items ++ given.past) }
-        ensures went { OnOk result (Went given.header given.outside given.command given.past log.old.items self.new log.new.items) }
+        requires ready { (events : ℕ) × IsReady events self.old log.old.room }
+        ensures went { Went given.header given.outside given.command given.past log.old.items self.new log.new.items }
+        ensures few { (events : ℕ) → IsReady events self.old log.old.room → length log.new.items ≤ length log.old.items + events }
+    {
+        self.serve_all(log);
+    }
+
+    // Every host serves its frame queue, by rising number.
+    fn serve_all(&mut self, log: &mut Events)
+        ghost given: { Step }
+        requires rests { AllRest given.header self.old (log.old.items ++ given.past) }
+        requires room { CanServe self.old log.old.room }
+        ensures went { Went given.header given.outside given.command given.past log.old.items self.new log.new.items }
+        ensures few { length log.new.items ≤ length log.old.items + (self.old.ids.marks + sum_of_dues self.old.kernels) }
     {
         'hosts: for host in 0..self.kernels.len() {
-            self.kernels[host].serve(&mut self.ids, log)?;
+            self.kernels[host].serve(&mut self.ids, log);
         }
-        Ok(())
     }
 
     /// Why a command is refused now, if it is: its names are judged here, and all else by the kernel of the

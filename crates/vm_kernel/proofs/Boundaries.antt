@@ -1,6 +1,8 @@
 -- Entries with addresses on both sides of a boundary.
-use Rattle.vm_kernel.proofs.Common.{Bool, ChainTable, Entry, InOrder, List, None, Option, PutsEntries, Raised, Some, [], ap, arith, count_on, cut_at, entry_at, false, if◌then◌else◌, length, nat_le, nat_lt, nat_tests, refl, region_entries, subst, sym, true, ℕ, ◌&&◌, ◌+◌, ◌<◌, ◌^◌, ◌∙◌, ◌∷◌, ◌≡◌, ◌≤◌}
-use Rattle.vm_kernel.proofs.Recounts.{raised_none, raised_one}
+use Rattle.vm_kernel.proofs.Common.{Bool, AllRows, ChainTable, Entry, IfSome, InOrder, List, None, Option, PutsEntries, Raised, RegionId, Some, [], ap, arith, count_on, cut_at, entry_at, false, has_region, if◌then◌else◌, length, nat_le, nat_lt, nat_tests, refl, region_entries, some_is, subst, sym, true, ℕ, ◌&&◌, ◌+◌, ◌<◌, ◌^◌, ◌∙◌, ◌∷◌, ◌≡◌, ◌≤◌}
+use Rattle.vm_base.specs.declared.ids.Inherit.TheVariants.{Never}
+use Rattle.vm_kernel.proofs.Recounts.{Recounts, has_same, raised_none, raised_one}
+use Rattle.vm_kernel.specs.Sweeping.{IsCutOn, first_region}
 
 -- it is the entry that holds the boundary, if this begins in front of it
 
@@ -39,25 +41,66 @@ cut_few boundary rows order = let same = ap length (cut_found boundary 0 (2 ^ 32
     found_few None = omega arith
     found_few (Some row) = by_start row (nat_lt row.address boundary)
 
--- its region counts it once more
+-- its region
 
-pub raised_nowhere : (boundary : ℕ) (rows : List Entry) (chains : ChainTable) → InOrder 0 (2 ^ 32) rows → entry_at boundary rows ≡ None → Raised (cut_at boundary rows) chains chains
-raised_nowhere boundary rows chains order found =
+pub cut_nowhere : (boundary : ℕ) (rows : List Entry) → InOrder 0 (2 ^ 32) rows → entry_at boundary rows ≡ None → IsCutOn None (cut_at boundary rows)
+cut_nowhere boundary rows order found =
     let none : cut_at boundary rows ≡ [] = cut_found boundary 0 (2 ^ 32) rows order ∙ ap (found_cut boundary) found in
-    subst (λ (z : List Entry). Raised z chains chains) (sym none) (raised_none chains)
+    record { is = sym (ap first_region none); few = cut_few boundary rows order }
 
-pub raised_behind : (boundary : ℕ) (rows : List Entry) (row : Entry) (chains : ChainTable) → InOrder 0 (2 ^ 32) rows → entry_at boundary rows ≡ Some row → boundary ≤ row.address → Raised (cut_at boundary rows) chains chains
-raised_behind boundary rows row chains order found behind =
+pub cut_behind : (boundary : ℕ) (rows : List Entry) (row : Entry) → InOrder 0 (2 ^ 32) rows → entry_at boundary rows ≡ Some row → boundary ≤ row.address → IsCutOn None (cut_at boundary rows)
+cut_behind boundary rows row order found behind =
     let out : nat_lt row.address boundary ≡ false = grind (arith, nat_tests) in
     let none : cut_at boundary rows ≡ [] = cut_found boundary 0 (2 ^ 32) rows order ∙ (ap (found_cut boundary) found ∙ ap (λ b. if b then row ∷ [] else []) out) in
-    subst (λ (z : List Entry). Raised z chains chains) (sym none) (raised_none chains)
+    record { is = sym (ap first_region none); few = cut_few boundary rows order }
 
-pub raised_inside : (boundary : ℕ) (rows : List Entry) (row : Entry) (old new : ChainTable) → InOrder 0 (2 ^ 32) rows → entry_at boundary rows ≡ Some row → row.address < boundary → PutsEntries row.region.0 (region_entries old row.region.0 + 1) old new
-    → Raised (cut_at boundary rows) old new
-raised_inside boundary rows row old new order found inside put =
+pub cut_inside : (boundary : ℕ) (rows : List Entry) (row : Entry) → InOrder 0 (2 ^ 32) rows → entry_at boundary rows ≡ Some row → row.address < boundary → IsCutOn (Some row.region) (cut_at boundary rows)
+cut_inside boundary rows row order found inside =
     let in_front : nat_lt row.address boundary ≡ true = grind (arith, nat_tests) in
     let one : cut_at boundary rows ≡ row ∷ [] = cut_found boundary 0 (2 ^ 32) rows order ∙ (ap (found_cut boundary) found ∙ ap (λ b. if b then row ∷ [] else []) in_front) in
-    subst (λ (z : List Entry). Raised z old new) (sym one) (raised_one row old new put)
+    record { is = sym (ap first_region one); few = cut_few boundary rows order }
+
+-- it is there, where the regions of all entries are
+pub cut_there : (chains : ChainTable) (boundary : ℕ) (rows : List Entry) (cut : Option RegionId) → AllRows (λ row. has_region chains row.region.0 ≡ true) rows → IsCutOn cut (cut_at boundary rows) → IfSome cut (λ region. has_region chains region.0 ≡ true)
+cut_there chains boundary rows cut there on = first_there cut (cut_at boundary rows) (kept rows there) on.is
+  where
+    kept : (rows : List Entry) → AllRows (λ row. has_region chains row.region.0 ≡ true) rows → AllRows (λ row. has_region chains row.region.0 ≡ true) (cut_at boundary rows)
+    kept [] all = tt
+    kept (row ∷ rows) all = by_test (nat_lt row.address boundary && nat_lt boundary (row.address + row.bytes)) (kept rows all.1)
+      where
+        by_test : (b : Bool) → AllRows (λ row. has_region chains row.region.0 ≡ true) (cut_at boundary rows) → AllRows (λ row. has_region chains row.region.0 ≡ true) (if b then row ∷ cut_at boundary rows else cut_at boundary rows)
+        by_test true later = (all.0, later)
+        by_test false later = later
+
+    first_there : (cut : Option RegionId) (some : List Entry) → AllRows (λ row. has_region chains row.region.0 ≡ true) some → cut ≡ first_region some → IfSome cut (λ region. has_region chains region.0 ≡ true)
+    first_there None some all is = tt
+    first_there (Some region) [] all is = absurd (let bad : Some region ≡ None = is in cc)
+    first_there (Some region) (row ∷ some) all is = subst (λ (z : RegionId). has_region chains z.0 ≡ true) (sym (some_is region row.region is)) all.0
+
+-- an entry on it
+
+abbrev pub one_on : Option RegionId → List Entry
+one_on None = []
+one_on (Some region) = record { address = 0; bytes = 0; region = region; offset = 0; prot = record { read = false; write = false }; inherit = Never } ∷ []
+
+pub one_is : (cut : Option RegionId) → IsCutOn cut (one_on cut)
+one_is None = record { is = refl; few = omega arith }
+one_is (Some region) = record { is = refl; few = omega arith }
+
+pub cut_still : (cut : Option RegionId) (count : ℕ → ℕ) (old new : ChainTable) → Recounts count old new → IfSome cut (λ region. has_region old region.0 ≡ true) → IfSome cut (λ region. has_region new region.0 ≡ true)
+cut_still None count old new is there = tt
+cut_still (Some region) count old new is there = has_same count old new is region.0 ∙ there
+
+-- it counts the entry once more
+
+pub raised_uncut : (rows : List Entry) (chains : ChainTable) → IsCutOn None rows → Raised rows chains chains
+raised_uncut [] chains on = raised_none chains
+raised_uncut (row ∷ rows) chains on = absurd (let bad : None ≡ Some row.region = on.is in cc)
+
+pub raised_cut : (region : RegionId) (rows : List Entry) (old new : ChainTable) → PutsEntries region.0 (region_entries old region.0 + 1) old new → IsCutOn (Some region) rows → Raised rows old new
+raised_cut region [] old new put on = absurd (let bad : Some region ≡ None = on.is in cc)
+raised_cut region (row ∷ []) old new put on = raised_one row old new (subst (λ (z : RegionId). PutsEntries z.0 (region_entries old z.0 + 1) old new) (some_is region row.region on.is) put)
+raised_cut region (row ∷ next ∷ rows) old new put on = absurd (omega (arith, on.few))
 
 -- how many there are on a region
 pub on_cut_at : (r boundary : ℕ) (row : Entry) (rows : List Entry) → count_on r (cut_at boundary (row ∷ rows)) ≡ (if nat_lt row.address boundary && nat_lt boundary (row.address + row.bytes) then count_on r (row ∷ []) else 0) + count_on r (cut_at boundary rows)

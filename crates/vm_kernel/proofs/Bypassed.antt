@@ -1,5 +1,5 @@
 -- Whoever waits has passed over places where no page comes while it waits: a walk that brings zeros or a copy there would have passed over the place where it waits.
-use Rattle.vm_kernel.proofs.Common.{Access, Bool, Event, HasWaits, Header, Ids, List, Matches, None, ObjectId, ObjectRow, On, Option, PageKey, PageRow, Parts, RegionRow, Some, Waiting, Want, [], ap, arith, eqb_tells, false, inl, inr, named, object_at, page_on, refl, row_at, some_is, subst, suc, sym, true, zero, ℕ, ◌&&◌, ◌==◌, ◌∙◌, ◌∷◌, ◌<◌, ◌≡◌, ◌≤◌, ◌⊎◌}
+use Rattle.vm_kernel.proofs.Common.{Access, Bool, Event, Header, Ids, List, Matches, None, ObjectId, ObjectRow, On, Option, PageKey, PageRow, Parts, Some, Waiting, Want, [], ap, arith, eqb_tells, false, inl, inr, named, object_at, page_on, refl, row_at, some_is, subst, suc, sym, true, zero, ℕ, ◌&&◌, ◌==◌, ◌∙◌, ◌∷◌, ◌<◌, ◌≡◌, ◌≤◌}
 use Rattle.std.specs.Prelude.{if◌then◌else◌}
 use Rattle.vm_fault.specs.Walks.{IsUnder, PassesOver, Sinks, WalksTo}
 use Rattle.vm_kernel.proofs.Shown.{shown_at}
@@ -12,14 +12,12 @@ use Rattle.vm_model.specs.Tasks.{host_of}
 use Rattle.vm_model.specs.declared.event.Event.TheVariants as event
 use Rattle.vm_model.specs.Waiting.{is_store}
 use Rattle.vm_objects.specs.Objects.{ObjectTable}
-use Rattle.vm_objects.specs.declared.row.PagerState.{PagerState}
 use Rattle.vm_objects.specs.declared.row.PagerState.TheVariants as state
 use Rattle.vm_resident.specs.Resident.{ResidentTable}
-use Rattle.vm_shadow.specs.Chains.{ChainTable, shadow_at}
-use Rattle.vm_shadow.specs.declared.shadow_row.ShadowRow.{ShadowRow}
+use Rattle.vm_shadow.specs.Chains.{ChainTable}
 use Rattle.vm_state.proofs.Locks.{named_at}
 use Rattle.vm_state.proofs.Passing.{IsAbove, IsPassed, IsQuiet, IsSame, StopsAt, calm_of, effect_at, over_leads, same_of, sinks_over, stays_quiet, unmet_calm, walks_beside}
-use Rattle.vm_state.proofs.Shown.{IsShown, asks_row, misses, shows_row}
+use Rattle.vm_state.proofs.Shown.{misses, shows_row}
 use Rattle.vm_state.proofs.Unlocked.{unlocked_temporary}
 use Rattle.vm_state.proofs.Waiting.{waits_seen}
 use Rattle.vm_fault.specs.Walks.{MayCome}
@@ -34,8 +32,7 @@ use Rattle.vm_state.specs.References.{AllReferred}
 use Rattle.vm_terminate.specs.Finishes.{IsReferred}
 use Rattle.vm_kernel.specs.Matches.{host_id}
 use Rattle.vm_state.specs.Places.{place_of}
-use Rattle.vm_state.specs.Waiters.{HasWaiters, IsAsked, IsLockedFor, IsPagerTold, IsPlaceOf, LeadsTo, Reason, access_in}
-use Rattle.vm_waits.specs.Waits.{entry}
+use Rattle.vm_state.specs.Waiters.{HasWaiters, IsPagerTold, IsPlaceOf, LeadsTo, Reason, access_in}
 use Rattle.vm_waits.specs.declared.waiting.On.TheVariants as on
 use Rattle.vm_state.proofs.Bypassing.{told_pager}
 

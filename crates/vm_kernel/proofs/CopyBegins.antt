@@ -187,6 +187,7 @@ with_copy k k2 waits =
       chains = k2.chains;
       laundry = k.laundry;
       waits = waits;
+      skip = k2.skip;
     }
 
 none_left : (b : Bool) → (b && false) ≡ false
@@ -623,7 +624,7 @@ has_begun {doing = doing} {task = task} {address = address} {bytes = bytes} {to 
     b.region_told ∙ (ap (λ (z : ℕ). event.RegionMade region target z ∷ mid) whole
     ∙ ap (λ (z : List Event). event.RegionMade region target (bytes / header.size) ∷ z) (b.told ∙ ap (λ (z : List Event). event.BegunCopy task address bytes to ∷ z) s.nothing)) in
     let same : record k2 { waits = waits } ≡ with_copy k k3 waits =
-    λ i. record { alloc = k2.alloc; host = b.made.host i; size = b.made.size i; declared = b.made.declared i; memory = b.made.memory i; maps = b.made.maps i; chains = k2.chains; laundry = b.made.laundry i; waits = waits } in
+    λ i. record { alloc = k2.alloc; host = b.made.host i; size = b.made.size i; declared = b.made.declared i; memory = b.made.memory i; maps = b.made.maps i; chains = k2.chains; laundry = b.made.laundry i; waits = waits; skip = k2.skip } in
     record {
       works = subst (λ (z : List Event). Works header h (record k2 { waits = waits }) (ids_after ids) woken.Nobody (z ++ past)) (sym told)
           (subst (λ (z : Parts). Works header h z (ids_after ids) woken.Nobody (events ++ past)) (sym same) (works_now header h outside task address bytes to past k k3 ids waits s.rests may made puts pushed s.begins));

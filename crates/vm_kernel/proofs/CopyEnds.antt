@@ -305,7 +305,7 @@ use_ended header h k ids past w address pages target next c rows2 put maps2 chan
 -- the tables say of the history what they said
 matches_ended : (header : Header) (h : ℕ) (outside : Outside) (doing : Command) (k : Parts) (ids : Ids) (past : List Event) (w : Waiting) (address pages : ℕ) (target : ObjectId) (next : ℕ) → (c : Copying header h k ids past w address pages target next) → next + 1 ≡ pages → runs_now w.on ≡ true → (waits2 : WaitTable) → PutsEntry w.task.0 None k.waits.rows waits2.rows
     → (k2 : Parts) → ChangesOnly k.maps k2.maps w.task.0 (Some (entered (filled_entry header.size pages c.slow.to) (rows_in w.task.0 k.maps))) → PutsEntries c.slow.to.region.0 1 k.chains k2.chains
-    → Matches header h (record k { alloc = k2.alloc; maps = k2.maps; chains = k2.chains; waits = waits2 }) ids [] (copy_ending w.task (filled_entry header.size pages c.slow.to) ++ past)
+    → Matches header h (record k { alloc = k2.alloc; maps = k2.maps; chains = k2.chains; waits = waits2; skip = k2.skip }) ids [] (copy_ending w.task (filled_entry header.size pages c.slow.to) ++ past)
 matches_ended header h outside doing k ids past w address pages target next c last now waits2 put k2 changes counts =
     let m = c.matches in
     let size = header.size in
@@ -349,7 +349,7 @@ matches_ended header h outside doing k ids past w address pages target next c la
 -- what the tables of a call tell, as the history has it
 works_ended : (header : Header) (h : ℕ) (outside : Outside) (doing : Command) (k : Parts) (ids : Ids) (past : List Event) (w : Waiting) (address pages : ℕ) (target : ObjectId) (next : ℕ) → (c : Copying header h k ids past w address pages target next) → next + 1 ≡ pages → runs_now w.on ≡ true → (waits2 : WaitTable) → PutsInOrder w.task.0 None k.waits.rows waits2.rows
     → (k2 : Parts) → ChangesOnly k.maps k2.maps w.task.0 (Some (entered (filled_entry header.size pages c.slow.to) (rows_in w.task.0 k.maps))) → PutsEntries c.slow.to.region.0 1 k.chains k2.chains
-    → Works header h (record k { alloc = k2.alloc; maps = k2.maps; chains = k2.chains; waits = waits2 }) ids woken.Nobody (copy_ending w.task (filled_entry header.size pages c.slow.to) ++ past)
+    → Works header h (record k { alloc = k2.alloc; maps = k2.maps; chains = k2.chains; waits = waits2; skip = k2.skip }) ids woken.Nobody (copy_ending w.task (filled_entry header.size pages c.slow.to) ++ past)
 works_ended header h outside doing k ids past w address pages target next c last now waits2 put k2 changes counts =
     let t = w.task.0 in
     let row = filled_entry header.size pages c.slow.to in
@@ -380,8 +380,8 @@ copy_ends header h outside doing k k2 ids past w address pages target next waits
     let is = maps_filled w address pages target next c.slow.to (record k { waits = waits2 }) k2 before after c.what c.slow.goes did in
     let changes = subst (λ (z : ℕ). ChangesOnly k.maps k2.maps w.task.0 (Some (entered (filled_entry z pages c.slow.to) (rows_in w.task.0 k.maps)))) c.matches.size is.maps in
     let works = works_ended header h outside doing k ids past w address pages target next c last now waits2 put k2 changes is.counts in
-    let same : record k { alloc = k2.alloc; maps = k2.maps; chains = k2.chains; waits = waits2 } ≡ k2 =
-    λ i. record { alloc = k2.alloc; host = sym is.host i; size = sym is.size i; declared = sym is.declared i; memory = sym is.memory i; maps = k2.maps; chains = k2.chains; laundry = sym is.laundry i; waits = sym is.waits i } in
+    let same : record k { alloc = k2.alloc; maps = k2.maps; chains = k2.chains; waits = waits2; skip = k2.skip } ≡ k2 =
+    λ i. record { alloc = k2.alloc; host = sym is.host i; size = sym is.size i; declared = sym is.declared i; memory = sym is.memory i; maps = k2.maps; chains = k2.chains; laundry = sym is.laundry i; waits = sym is.waits i; skip = k2.skip } in
     subst (λ (z : Parts). Works header h z ids woken.Nobody (copy_ending w.task (filled_entry header.size pages c.slow.to) ++ past)) same works
 
 -- what was told

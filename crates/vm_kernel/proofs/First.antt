@@ -47,7 +47,7 @@ first_rests header h k count ranged known size host declared hosts start maps re
     let no_marks : marked_regions header [] ≡ 0 = unmarked header (named header) in
     let few = ranged.objects in
     let objects : (o : ℕ) → object_at k.memory.objects o ≡ None = λ o. ap (object_among o) start.objects in
-    let marks : (o p : ℕ) → absent_at k.memory.objects o p ≡ false = λ o p. ap (absent_among o p) start.objects in
+    let marks : (o p : ℕ) → absent_at k.memory.objects o p ≡ false = λ o p. ap (absent_among o p) start.absent in
     let unfilled : (t r : ℕ) → fills_in r (entry k.waits.rows t) ≡ false = λ t r. ap (λ z. fills_in r (entry z t)) waits in
     let no_use : (r : ℕ) → named header ≤ r → IsUsed (record { size = header.size; tasks = [] }) k.waits.rows r (in_use header h r []) = λ r temporary. record {
       why = λ used. inl (let test = sym (unused header h r temporary) ∙ used in grind (arith, nat_tests));

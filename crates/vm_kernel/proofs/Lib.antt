@@ -1,13 +1,16 @@
 mod Common
+mod Composing
+mod Failings
 pub mod Abroad
 pub mod Accessing
+pub mod Affording
 pub mod After
 pub mod Answers
 pub mod Asking
 pub mod Attempting
 pub mod Beginning
-pub mod Brings
 pub mod Boundaries
+pub mod Brings
 pub mod Built
 pub mod Bypassed
 pub mod Changing
@@ -19,7 +22,9 @@ pub mod CopyEnds
 pub mod Counts
 pub mod Cutting
 pub mod Declares
+pub mod Departing
 pub mod Done
+pub mod Dues
 pub mod Endings
 pub mod Ends
 pub mod Failing
@@ -37,13 +42,14 @@ pub mod Hearing
 pub mod Heeding
 pub mod Holding
 pub mod Known
-pub mod Laundering
 pub mod Landing
+pub mod Laundering
 pub mod Leading
 pub mod Locked
 pub mod Locking
 pub mod Losing
 pub mod Making
+pub mod MapSpending
 pub mod Mine
 pub mod Numbers
 pub mod Opening
@@ -55,11 +61,13 @@ pub mod Pageout
 pub mod Pages
 pub mod PagesLeft
 pub mod Pagewise
+pub mod Paying
 pub mod Pending
 pub mod Playing
 pub mod Prompting
 pub mod Ranged
 pub mod Ranges
+pub mod Readying
 pub mod Reclaims
 pub mod Recounts
 pub mod Refusals
@@ -68,6 +76,7 @@ pub mod Replied
 pub mod Requesting
 pub mod Returning
 pub mod Rewrites
+pub mod Roomier
 pub mod Rooms
 pub mod Rows
 pub mod Runs
@@ -76,10 +85,12 @@ pub mod Shadows
 pub mod Shares
 pub mod Sharing
 pub mod Shown
+pub mod Skipping
 pub mod Sleeping
 pub mod Sources
 pub mod Sourcing
 pub mod Sparing
+pub mod Spending
 pub mod States
 pub mod Stopping
 pub mod Strands

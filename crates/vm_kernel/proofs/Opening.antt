@@ -194,6 +194,7 @@ with_declared k objects chains maps =
       chains = chains;
       laundry = k.laundry;
       waits = k.waits;
+      skip = k.skip;
     }
 
 -- that a pager is told of an object

@@ -218,6 +218,7 @@ with_range k k2 maps =
       chains = k2.chains;
       laundry = k.laundry;
       waits = k.waits;
+      skip = k2.skip;
     }
 
 -- a region that was made may be used, up to its first entry
@@ -464,6 +465,6 @@ ran_range header h outside task address bytes pages past k k2 ids before after m
     (record { licensed = range_licensed header h outside task address bytes past k ids s.begins s.rests (may_range header h task address bytes past k ids before s); own_bytes = (tt, (tt, tt)); frames = (fine, (fine, tt)); inner = (tt, (tt, tt)); said = (tt, (tt, tt)); mine = range_mine header h task address bytes past k ids s.begins s.rests s.acts })
     tt rests in
     let same : record k2 { maps = maps } ≡ with_range k k2 maps =
-    λ i. record { alloc = k2.alloc; host = made.host i; size = made.size i; declared = made.declared i; memory = made.memory i; maps = maps; chains = k2.chains; laundry = made.laundry i; waits = made.waits i } in
+    λ i. record { alloc = k2.alloc; host = made.host i; size = made.size i; declared = made.declared i; memory = made.memory i; maps = maps; chains = k2.chains; laundry = made.laundry i; waits = made.waits i; skip = k2.skip } in
     subst (λ (z : List Event). Ran header h outside (command.Allocate task address bytes) past (record k2 { maps = maps }) (ids_after ids) z) (sym log)
     (subst (λ (z : Parts). Ran header h outside (command.Allocate task address bytes) past z (ids_after ids) events) (sym same) ran)

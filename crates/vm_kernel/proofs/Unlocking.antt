@@ -32,7 +32,7 @@ use Rattle.vm_state.proofs.Waiting.{here_unawaited, put_now, waiters_asked}
 use Rattle.vm_state.specs.Places.{known_local}
 use Rattle.vm_state.specs.References.{AllReferred, is_live_in}
 use Rattle.vm_state.specs.Stands.{HasControls}
-use Rattle.vm_state.specs.Waiters.{IsPlaceOf, is_woken}
+use Rattle.vm_state.specs.Waiters.{is_woken}
 use Rattle.vm_supply.specs.declared.woken.Woken.TheVariants as woken
 use Rattle.vm_waits.specs.declared.waiting.On.TheVariants as on
 use Rattle.vm_state.proofs.Bypassing.{waits_quiet}

@@ -9,6 +9,7 @@ pub mod Mapping
 pub mod Matches
 pub mod Plays
 pub mod Refusing
+pub mod Rooms
 pub mod Serving
 pub mod Slow
 pub mod Sweeping

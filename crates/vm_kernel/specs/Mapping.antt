@@ -1,5 +1,5 @@
 -- A declared object is mapped: its region counts one entry more, and its pager is told of it.
-use Rattle.std.specs.Prelude.{ℕ, ◌≡◌, ◌+◌, ◌-◌, ◌<◌, ◌^◌, true, false, List, ◌∷◌, Option, Some, None}
+use Rattle.std.specs.Prelude.{ℕ, ◌≡◌, ◌+◌, ◌-◌, ◌<◌, ◌^◌, ◌||◌, nat_lt, Bool, true, false, List, ◌∷◌, Option, Some, None}
 use Rattle.vm_base.specs.declared.entry.Entry.{Entry}
 use Rattle.vm_base.specs.declared.ids.Inherit.TheVariants.{Share}
 use Rattle.vm_base.specs.declared.ids.ObjectId.{ObjectId}
@@ -36,6 +36,11 @@ pub data Holds (object : ObjectId) (declared : Declared) (old new : Parts) : Typ
   First : region_at old.chains object.0 ≡ None → PutsRegion object.0 (Some (declared_region object declared)) old.chains new.chains
       → PutsObject object.0 (Some (referred declared (object_at old.memory.objects object.0))) old.memory.objects new.memory.objects → SameMarks old.memory.objects new.memory.objects
       → new ≡ record old { memory = record old.memory { objects = new.memory.objects }; chains = new.chains } → Holds object declared old new
+
+-- a control of an object lives, or the next one can begin
+abbrev pub can_open : Option ObjectRow → Bool
+can_open None = true
+can_open (Some known) = known.live || nat_lt known.control (2 ^ 32 - 3)
 
 -- where no control of an object lives the next one begins, and the object's pager is told of it
 pub data Opens (object : ObjectId) (known : ObjectRow) (old new : Parts) (before after : List Event) : Type 0 where

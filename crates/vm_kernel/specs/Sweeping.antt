@@ -1,7 +1,8 @@
 -- The counts of entries go up and down, and what no entry leads to goes.
-use Rattle.std.specs.Prelude.{ℕ, ◌≡◌, ◌≢◌, ◌&&◌, ◌+◌, ◌<◌, ◌⊎◌, ◌++◌, false, nat_lt, true, List, Some}
+use Rattle.std.specs.Prelude.{ℕ, ◌≡◌, ◌≢◌, ◌&&◌, ◌+◌, ◌<◌, ◌≤◌, ◌⊎◌, ◌++◌, false, nat_lt, true, List, [], ◌∷◌, length, Option, Some, None}
 use Rattle.std.specs.List.{filter}
 use Rattle.vm_base.specs.declared.entry.Entry.{Entry}
+use Rattle.vm_base.specs.declared.ids.RegionId.{RegionId}
 use Rattle.vm_model.specs.declared.event.Event.{Event}
 use Rattle.vm_model.specs.declared.event.Event.TheVariants as event
 use Rattle.vm_model.specs.declared.message.Channel.TheVariants.{Up}
@@ -44,6 +45,16 @@ cut_at boundary rows = filter (λ row. nat_lt row.address boundary && nat_lt bou
 -- the entries that are cut at the ends of a range, one that is cut at both twice
 abbrev pub cut_at_ends : ℕ → ℕ → List Entry → List Entry
 cut_at_ends address bytes rows = cut_at address rows ++ cut_at (address + bytes) rows
+
+-- the region of the first of some entries
+abbrev pub first_region : List Entry → Option RegionId
+first_region [] = None
+first_region (row ∷ rows) = Some row.region
+
+-- one entry on this region, or none
+pub record IsCutOn (region : Option RegionId) (rows : List Entry) : Type 0 where
+  pub is : region ≡ first_region rows
+  pub few : length rows ≤ 1
 
 -- what is given to calls that take entries out of the counts: those that are left, too
 pub record Releasing : Type 0 where

@@ -1,5 +1,5 @@
 // Tasks and ranges are made, and frames are wired.
-ghost use Rattle.std.specs.Prelude.{◌≡◌, ◌∷◌, OnOk, None};
+ghost use Rattle.std.specs.Prelude.{◌≡◌, ◌∷◌, ◌+◌, ◌<◌, ◌≤◌, IsOk, OnErr, OnOk, None};
 ghost use Rattle.vm_model.specs.declared.command.Command.TheVariants as command;
 ghost use Rattle.vm_kernel.specs.Begun.{Ran, Given, Starts};
 ghost use Rattle.vm_kernel.specs.Changes.{MadeRange, entering, whole_entry};
@@ -9,6 +9,7 @@ ghost use Rattle.vm_objects.specs.Objects.{object_at};
 ghost use Rattle.vm_shadow.specs.Chains.{region_at};
 ghost use Rattle.vm_kernel.specs.Matches.{host_id};
 ghost use Rattle.vm_kernel.specs.Plays.{Plays, paging};
+ghost use Rattle.vm_kernel.specs.Rooms.{IsRoomy, KeepsSpare, Spends};
 ghost use Rattle.vm_kernel.specs.Turns.{QueueIsStill};
 
 use crate::parts::Parts;
@@ -70,6 +71,9 @@ impl Parts {
         ensures ran { OnOk result (Ran given.header given.host given.outside (command.Task task (host_id given.host)) given.past self.new ids.now log.new.items) }
         ensures plays { OnOk result (Plays given.header given.past log.old.items (paging self.old) log.new.items (paging self.new)) }
         ensures quiet { OnOk result (QueueIsStill self.old.waits.queue self.new.waits.queue log.old.items log.new.items) }
+        ensures spends { OnOk result (Spends 1 0 self.old ids.now log.old self.new ids.now log.new) }
+        ensures err { IsRoomy 1 self.old ids.now log.old.room → OnErr result ((self.new ≡ self.old) × (log.new.items ≡ log.old.items)) }
+        ensures spare { OnOk result (KeepsSpare self.old self.new) }
     {
         self.maps.add_task(task)?;
         log.push(Event::TaskMade {
@@ -91,6 +95,9 @@ impl Parts {
         ensures ran { OnOk result (Ran given.header given.host given.outside (command.Allocate task address bytes) given.past self.new ids.new log.new.items) }
         ensures plays { OnOk result (Plays given.header given.past log.old.items (paging self.old) log.new.items (paging self.new)) }
         ensures quiet { OnOk result (QueueIsStill self.old.waits.queue self.new.waits.queue log.old.items log.new.items) }
+        ensures spends { OnOk result (Spends 2 0 self.old ids.old log.old self.new ids.new log.new) }
+        ensures succeeds { IsRoomy 2 self.old ids.old log.old.room → IsOk result }
+        ensures spare { OnOk result (KeepsSpare self.old self.new) }
     {
         let pages = (bytes / u64::from(self.size.bytes())) as u32;
         let region = RegionId(ids.next_region);
@@ -118,7 +125,11 @@ impl Parts {
     ) -> Result<(), NoMemory>
         requires absent { region_at self.old.chains region.0 ≡ None }
         requires unknown { object_at self.old.memory.objects object.0 ≡ None }
-        ensures { OnOk result (MadeRange region object pages entries self.old self.new) }
+        ensures made { OnOk result (MadeRange region object pages entries self.old self.new) }
+        ensures succeeds { 0 < self.old.memory.objects.rows → 0 < self.old.chains.spare → IsOk result }
+        ensures objects { self.old.memory.objects.rows ≤ self.new.memory.objects.rows + 1 }
+        ensures shadows { self.old.chains.spare ≤ self.new.chains.spare + 1 }
+        ensures skip { OnOk result (self.new.skip ≡ self.old.skip) }
     {
         self.memory.objects.make(object, ObjectKind::Temp, pages)?;
         self.memory.objects.refer(object);
@@ -138,6 +149,9 @@ impl Parts {
         ensures ran { OnOk result (Ran given.header given.host given.outside (command.Wire (host_id given.host) count) given.past self.new ids.now log.new.items) }
         ensures plays { OnOk result (Plays given.header given.past log.old.items (paging self.old) log.new.items (paging self.new)) }
         ensures quiet { OnOk result (QueueIsStill self.old.waits.queue self.new.waits.queue log.old.items log.new.items) }
+        ensures spends { OnOk result (Spends 1 0 self.old ids.now log.old self.new ids.now log.new) }
+        ensures succeeds { IsRoomy 1 self.old ids.now log.old.room → IsOk result }
+        ensures spare { OnOk result (KeepsSpare self.old self.new) }
     {
         let _ = self.memory.frames.wire(count);
         self.tell_wired(log)
@@ -149,6 +163,9 @@ impl Parts {
         ensures ran { OnOk result (Ran given.header given.host given.outside (command.Unwire (host_id given.host) count) given.past self.new ids.now log.new.items) }
         ensures plays { OnOk result (Plays given.header given.past log.old.items (paging self.old) log.new.items (paging self.new)) }
         ensures quiet { OnOk result (QueueIsStill self.old.waits.queue self.new.waits.queue log.old.items log.new.items) }
+        ensures spends { OnOk result (Spends 1 0 self.old ids.now log.old self.new ids.now log.new) }
+        ensures succeeds { IsRoomy 1 self.old ids.now log.old.room → IsOk result }
+        ensures spare { OnOk result (KeepsSpare self.old self.new) }
     {
         let _ = self.memory.frames.unwire(count);
         self.tell_wired(log)
@@ -156,7 +173,9 @@ impl Parts {
 
     // Tells how many frames are wired now.
     fn tell_wired(&self, log: &mut Events) -> Result<(), NoMemory>
-        ensures { OnOk result (log.new.items ≡ event.Wired self.now.host self.now.memory.frames.wired ∷ log.old.items) }
+        ensures told { OnOk result (log.new.items ≡ event.Wired self.now.host self.now.memory.frames.wired ∷ log.old.items) }
+        ensures succeeds { 0 < log.old.room → IsOk result }
+        ensures room { log.old.room ≤ log.new.room + 1 }
     {
         log.push(Event::Wired {
             host: self.host,

@@ -1,13 +1,14 @@
 // The commands that change a task's entries.
-ghost use Rattle.std.specs.Prelude.{◌≡◌, OnOk};
+ghost use Rattle.std.specs.Prelude.{◌≡◌, ◌+◌, IsOk, OnErr, OnOk};
 ghost use Rattle.vm_model.specs.declared.command.Command.TheVariants as command;
 ghost use Rattle.vm_kernel.specs.Begun.{Ran, Doing, Given, Starts};
 ghost use Rattle.vm_kernel.specs.Changes.{enter, inheritance, protection, removal};
 ghost use Rattle.vm_kernel.specs.Endings.{EndsByAddress};
 ghost use Rattle.vm_kernel.specs.Plays.{Plays, paging};
+ghost use Rattle.vm_kernel.specs.Rooms.{HasBuffers, IsRoomy, KeepsSkip, KeepsSpare, Spends, leaving};
 ghost use Rattle.vm_kernel.specs.Turns.{QueueIsStill};
 
-use crate::counting::count_cuts;
+use crate::counting::{count_cuts, cuts_of};
 use crate::parts::Parts;
 use vm_base::{Inherit, NoMemory, Prot, TaskId};
 use vm_maps::{MapChange, MapKind};
@@ -85,6 +86,10 @@ impl Parts {
         ensures plays { OnOk result (Plays given.header given.past log.old.items (paging self.old) log.new.items (paging self.new)) }
         ensures quiet { OnOk result (QueueIsStill self.old.waits.queue self.new.waits.queue log.old.items log.new.items) }
         ensures ends { OnOk result (EndsByAddress given.header given.past given.command log.new.items) }
+        ensures spends { OnOk result (Spends (1 + leaving self.old ids.now) 0 self.old ids.now log.old self.new ids.now log.new) }
+        ensures succeeds { IsRoomy (1 + leaving self.old ids.now) self.old ids.now log.old.room → HasBuffers self.old → IsOk result }
+        ensures buffers { OnOk result (HasBuffers self.old → HasBuffers self.new) }
+        ensures skip { OnOk result (KeepsSkip self.old self.new) }
     {
         let gone = self.maps.end_task(task);
         log.push(Event::TaskEnded { task })?;
@@ -107,9 +112,14 @@ impl Parts {
         ensures plays { OnOk result (Plays given.header given.past log.old.items (paging self.old) log.new.items (paging self.new)) }
         ensures quiet { OnOk result (QueueIsStill self.old.waits.queue self.new.waits.queue log.old.items log.new.items) }
         ensures ends { OnOk result (EndsByAddress given.header given.past given.command log.new.items) }
+        ensures spends { OnOk result (Spends (1 + leaving self.old ids.now) 0 self.old ids.now log.old self.new ids.now log.new) }
+        ensures err { IsRoomy (1 + leaving self.old ids.now) self.old ids.now log.old.room → HasBuffers self.old → OnErr result ((self.new ≡ self.old) × (log.new.items ≡ log.old.items)) }
+        ensures buffers { OnOk result (HasBuffers self.old → HasBuffers self.new) }
+        ensures skip { OnOk result (KeepsSkip self.old self.new) }
     {
-        count_cuts(&mut self.chains, &self.maps, task, address, bytes);
+        let cuts = cuts_of(&self.maps, task, address, bytes);
         let gone = self.maps.remove(task, &removal(address, bytes))?;
+        count_cuts(&mut self.chains, cuts);
         log.push(Event::Removed {
             task,
             address,
@@ -133,9 +143,13 @@ impl Parts {
         ensures ran { OnOk result (Ran given.header given.host given.outside (command.Protect task address bytes prot) given.past self.new ids.now log.new.items) }
         ensures plays { OnOk result (Plays given.header given.past log.old.items (paging self.old) log.new.items (paging self.new)) }
         ensures quiet { OnOk result (QueueIsStill self.old.waits.queue self.new.waits.queue log.old.items log.new.items) }
+        ensures spends { OnOk result (Spends 1 0 self.old ids.now log.old self.new ids.now log.new) }
+        ensures err { IsRoomy 1 self.old ids.now log.old.room → OnErr result ((self.new ≡ self.old) × (log.new.items ≡ log.old.items)) }
+        ensures spare { OnOk result (KeepsSpare self.old self.new) }
     {
-        count_cuts(&mut self.chains, &self.maps, task, address, bytes);
+        let cuts = cuts_of(&self.maps, task, address, bytes);
         let _ = self.maps.protect(task, &protection(address, bytes, prot))?;
+        count_cuts(&mut self.chains, cuts);
         log.push(Event::Protected {
             task,
             address,
@@ -159,11 +173,15 @@ impl Parts {
         ensures ran { OnOk result (Ran given.header given.host given.outside (command.Inherit task address bytes inherit) given.past self.new ids.now log.new.items) }
         ensures plays { OnOk result (Plays given.header given.past log.old.items (paging self.old) log.new.items (paging self.new)) }
         ensures quiet { OnOk result (QueueIsStill self.old.waits.queue self.new.waits.queue log.old.items log.new.items) }
+        ensures spends { OnOk result (Spends 1 0 self.old ids.now log.old self.new ids.now log.new) }
+        ensures err { IsRoomy 1 self.old ids.now log.old.room → OnErr result ((self.new ≡ self.old) × (log.new.items ≡ log.old.items)) }
+        ensures spare { OnOk result (KeepsSpare self.old self.new) }
     {
-        count_cuts(&mut self.chains, &self.maps, task, address, bytes);
+        let cuts = cuts_of(&self.maps, task, address, bytes);
         let _ = self
             .maps
             .inherit(task, &inheritance(address, bytes, inherit))?;
+        count_cuts(&mut self.chains, cuts);
         log.push(Event::Inherited {
             task,
             address,

@@ -1,5 +1,5 @@
 // One host's kernel.
-ghost use Rattle.std.specs.Prelude.{◌≡◌, ◌≢◌, ◌++◌, ◌∷◌, ◌<◌, [], length, false, true, is_some, IfOk, OnOk};
+ghost use Rattle.std.specs.Prelude.{ℕ, ◌≡◌, ◌≢◌, ◌+◌, ◌++◌, ◌∷◌, ◌<◌, ◌≤◌, [], length, false, true, is_some, IfOk, OnErr, OnOk};
 ghost use Rattle.vm_model.specs.declared.event.Event.TheVariants as event;
 ghost use Rattle.vm_model.specs.declared.message.Channel.TheVariants.{Down};
 ghost use Rattle.vm_waits.specs.Waits.{entry, queued};
@@ -17,6 +17,7 @@ ghost use Rattle.vm_supply.specs.Answers.{outcome_of};
 ghost use Rattle.vm_state.specs.Stands.{HasTasks};
 ghost use Rattle.vm_kernel.specs.Matches.{IsRanged, Rests, first_ids, host_id};
 ghost use Rattle.vm_kernel.specs.Refusing.{maps_elsewhere, takes_name};
+ghost use Rattle.vm_kernel.specs.Rooms.{IsReady, ServeRoom, dues_of, front, full_dues, most, with_rooms_of};
 ghost use Rattle.vm_kernel.specs.Taking.{IsAbsencePaid, IsErrorPaid, IsLockPaid, IsWord};
 ghost use Rattle.vm_legal.specs.InTurn.{EndsAll, NoneSleepsOn};
 ghost use Rattle.vm_legal.specs.Returned.{OnlyReturned};
@@ -77,81 +78,113 @@ impl Kernel {
             chains: Chains::new(alloc),
             laundry,
             waits: Waits::new(alloc),
+            skip: Vec::new(alloc),
         };
         Ok(Kernel { parts })
     }
 
-    /// Runs a command that isn't refused, and gives what happened behind its line; the frame queues
-    /// are served behind that.
+    /// The most events that the next `begin`, `take` or `laundered` and the serving behind it add on this
+    /// host. It takes no memory.
+    pub fn most(&self, ids: &Ids) -> u64
+        ensures { result ≡ most self.now ids.now }
+    {
+        self.parts.most(ids)
+    }
+
+    /// Makes room for a step in the host's tables; nothing but room changes. It fails for want of memory
+    /// alone. Then `serve` and `laundered` want none, nor does a `take` but for a lock request of an object
+    /// that isn't declared; and where `begin` does, it leaves all as it was.
+    pub fn reserve(&mut self, ids: &Ids) -> Result<(), NoMemory>
+        ensures is { self.new ≡ with_rooms_of self.new self.old }
+        ensures ready { OnOk result (IsReady self.new ids.now) }
+    {
+        self.parts.reserve(ids)
+    }
+
+    /// Runs a command that isn't refused, and adds what happened behind its line to the log, which is
+    /// empty; the frame queues are served behind that.
     ///
     /// The commands are vm_allocate, vm_deallocate, vm_protect, vm_inherit, task_create and
     /// task_terminate, vm_copy, loads and stores, and this profile's `pageout`, `wire` and `unwire`.
     /// Addresses and lengths are in bytes.
     ///
-    /// After `NoMemory` the kernel is used no more.
-    pub fn begin(&mut self, command: &Command, ids: &mut Ids) -> Result<Events, NoMemory>
+    /// It fails for want of memory alone. Behind `reserve`, and with room for as many events in the log, all
+    /// but room is then as it was, and the same call may be made again.
+    pub fn begin(
+        &mut self,
+        command: &Command,
+        ids: &mut Ids,
+        log: &mut Events,
+    ) -> Result<(), NoMemory>
         ghost given: { Given }
-        requires starts { Starts given.header given.host command.now given.past self.old ids.old [] }
+        requires starts { Starts given.header given.host command.now given.past self.old ids.old log.old.items }
         requires built { kernel_runs command.now ≡ true }
-        ensures ran { IfOk result (λ events. Ran given.header given.host given.outside command.now given.past self.new ids.new events.items) }
-        ensures plays { IfOk result (λ events. PlaysBy given.header (may_reclaim command.now self.old.waits.queue given.past) given.past [] (paging self.old) events.items (paging self.new)) }
-        ensures restarts { IfOk result (λ events. Restarted given.header given.host self.new.waits.rows given.past self.old.waits.queue self.new.waits.queue events.items) }
-        ensures ends { IfOk result (λ events. EndsByAddress given.header given.past command.now events.items) }
+        ensures ran { OnOk result (Ran given.header given.host given.outside command.now given.past self.new ids.new log.new.items) }
+        ensures plays { OnOk result (PlaysBy given.header (may_reclaim command.now self.old.waits.queue given.past) given.past [] (paging self.old) log.new.items (paging self.new)) }
+        ensures restarts { OnOk result (Restarted given.header given.host self.new.waits.rows given.past self.old.waits.queue self.new.waits.queue log.new.items) }
+        ensures ends { OnOk result (EndsByAddress given.header given.past command.now log.new.items) }
+        ensures few { OnOk result (length log.new.items + dues_of self.new ids.new ≤ full_dues self.old ids.old + front self.old ids.old) }
+        ensures room { (more : ℕ) → IsReady self.old ids.old → most self.old ids.old + more ≤ log.old.room → OnOk result (ServeRoom more self.new ids.new log.new.room) }
+        ensures marks { OnOk result (ids.new.marks ≤ ids.old.marks + 1025) }
+        ensures err { IsReady self.old ids.old → most self.old ids.old ≤ log.old.room → OnErr result ((self.new ≡ with_rooms_of self.new self.old) × ((ids.new ≡ ids.old) × (log.new.items ≡ []))) }
     {
-        let mut log = Events::new(self.parts.alloc);
-        self.parts.run(command, ids, &mut log)?;
-        Ok(log)
+        self.parts.reserve_for(command)?;
+        self.parts.run(command, ids, log)
     }
 
-    /// Takes what a pager says to a control of an object, and gives what happened behind the taking, up
-    /// to where the frame queues are served. What isn't for the live control, or answers nothing, is
+    /// Takes what a pager says to a control of an object, and adds what happened behind the taking to the
+    /// log, which is empty, up to where the frame queues are served. What isn't for the live control, or answers nothing, is
     /// discarded (this profile).
     ///
     /// The messages are memory_object_ready, memory_object_data_supply, memory_object_data_unavailable,
     /// memory_object_data_error, and memory_object_lock_request. Whoever waited for the unlock of a page
     /// that a lock request is over is run again behind memory_object_lock_completed.
     ///
-    /// After `NoMemory` the kernel is used no more.
+    /// It fails for want of memory alone. Behind `reserve`, and with room for as many events in the log, it
+    /// does only for a lock request of an object that isn't declared, and then all but room is as it was.
     pub fn take(
         &mut self,
         object: ObjectId,
         control: u32,
         message: &Message,
         ids: &mut Ids,
-    ) -> Result<Events, NoMemory>
+        log: &mut Events,
+    ) -> Result<(), NoMemory>
         ghost given: { Passing }
         requires rests { Rests given.header given.host self.old ids.old given.past }
         requires front { given.front ≡ event.Taken (Down (host_id given.host) object control) message.now ∷ [] }
         requires word { IsWord given.header.size message.now }
-        ensures passed { IfOk result (λ events. Passed given.header given.host given.outside given.command (given.front ++ given.past) self.new ids.new events.items) }
-        ensures failed { IfOk result (λ events. IsErrorPaid given.header (events.items ++ (given.front ++ given.past))) }
-        ensures zeroed { IfOk result (λ events. IsAbsencePaid given.header (events.items ++ (given.front ++ given.past))) }
-        ensures locked { IfOk result (λ events. IsLockPaid given.header (events.items ++ (given.front ++ given.past))) }
-        ensures plays { IfOk result (λ events. PlaysAnswer given.header (given.front ++ given.past) object (outcome_of (object_at self.old.memory.objects object.0) control (row_at self.old.memory.resident object.0) message.now) (paging self.old) events.items (paging self.new)) }
-        ensures ended { HasQueue given.header given.host self.old given.past → IfOk result (λ events. EndsAll given.header (events.items ++ (given.front ++ given.past))) }
-        ensures restarts { IfOk result (λ events. Restarted given.header given.host self.new.waits.rows (given.front ++ given.past) self.old.waits.queue self.new.waits.queue events.items) }
+        requires nothing { log.old.items ≡ [] }
+        ensures passed { OnOk result (Passed given.header given.host given.outside given.command (given.front ++ given.past) self.new ids.new log.new.items) }
+        ensures failed { OnOk result (IsErrorPaid given.header (log.new.items ++ (given.front ++ given.past))) }
+        ensures zeroed { OnOk result (IsAbsencePaid given.header (log.new.items ++ (given.front ++ given.past))) }
+        ensures locked { OnOk result (IsLockPaid given.header (log.new.items ++ (given.front ++ given.past))) }
+        ensures plays { OnOk result (PlaysAnswer given.header (given.front ++ given.past) object (outcome_of (object_at self.old.memory.objects object.0) control (row_at self.old.memory.resident object.0) message.now) (paging self.old) log.new.items (paging self.new)) }
+        ensures ended { HasQueue given.header given.host self.old given.past → OnOk result (EndsAll given.header (log.new.items ++ (given.front ++ given.past))) }
+        ensures restarts { OnOk result (Restarted given.header given.host self.new.waits.rows (given.front ++ given.past) self.old.waits.queue self.new.waits.queue log.new.items) }
+        ensures few { OnOk result (length log.new.items + dues_of self.new ids.new ≤ full_dues self.old ids.old + front self.old ids.old) }
+        ensures room { (more : ℕ) → IsReady self.old ids.old → most self.old ids.old + more ≤ log.old.room → OnOk result (ServeRoom more self.new ids.new log.new.room) }
+        ensures marks { OnOk result (ids.new.marks ≤ ids.old.marks) }
+        ensures err { IsReady self.old ids.old → most self.old ids.old ≤ log.old.room → OnErr result ((self.new ≡ with_rooms_of self.new self.old) × ((ids.new ≡ ids.old) × (log.new.items ≡ []))) }
     {
-        let mut log = Events::new(self.parts.alloc);
-        self.parts.take(ids, object, control, message, &mut log)?;
-        Ok(log)
+        self.parts.reserve_for_word(message)?;
+        self.parts.take(ids, object, control, message, log)
     }
 
-    /// The pager of an object took the oldest return without a copy: its frame is free. Gives what
-    /// happened behind that, which is nothing.
-    ///
-    /// After `NoMemory` the kernel is used no more.
-    pub fn laundered(&mut self, ids: &mut Ids) -> Result<Events, NoMemory>
+    /// The pager of an object took the oldest return without a copy: its frame is free. Nothing happens
+    /// behind that up to where the frame queues are served.
+    pub fn laundered(&mut self, ids: &Ids)
         ghost given: { Passing }
-        requires rests { Rests given.header given.host self.old ids.old given.past }
+        requires rests { Rests given.header given.host self.old ids.now given.past }
         requires front { IsLaundered given.host given.front }
         requires held { self.old.laundry.held ≢ [] }
-        ensures passed { IfOk result (λ events. Passed given.header given.host given.outside given.command (given.front ++ given.past) self.new ids.new events.items) }
-        ensures nothing { IfOk result (λ events. events.items ≡ []) }
+        ensures passed { Passed given.header given.host given.outside given.command (given.front ++ given.past) self.new ids.now [] }
         ensures pages { paging self.new ≡ paging self.old }
         ensures waits { self.new.waits ≡ self.old.waits }
+        ensures ready { IsReady self.old ids.now → IsReady self.new ids.now }
+        ensures most { most self.new ids.now ≡ most self.old ids.now }
     {
         self.parts.launder(ids);
-        Ok(Events::new(self.parts.alloc))
     }
 
     /// A step ends: the host's frame queue is served, and what happened is added to the step's
@@ -159,17 +192,21 @@ impl Kernel {
     /// that is refused and of the line of a `settle`. An access whose walk then comes to a page that is
     /// here, and whose lock lets it in, waits only while no frame is free, where the pagers of temporary
     /// memory give no more than they were given.
-    ///
-    /// After `NoMemory` the kernel is used no more.
-    pub fn serve(&mut self, ids: &mut Ids, log: &mut Events) -> Result<(), NoMemory>
+    pub fn serve(&mut self, ids: &mut Ids, log: &mut Events)
         ghost given: { Doing }
         requires rests { Rests given.header given.host self.old ids.old (log.old.items ++ given.past) }
-        ensures served { OnOk result (Served given.header given.host given.outside given.command given.past log.old.items self.new ids.new log.new.items) }
-        ensures awake { OnOk result (OnlyReturned (named given.header) given.host (log.new.items ++ given.past) → NoneSleepsOn given.header given.host (log.new.items ++ given.past)) }
-        ensures leaves { OnOk result (LeavesInTurn given.header given.past self.old self.new log.old.items log.new.items) }
-        ensures others { OnOk result (KeepsOthers self.old.waits.queue self.old.waits.rows self.new.waits.rows) }
+        requires room { (more : ℕ) × ServeRoom more self.old ids.old log.old.room }
+        ensures served { Served given.header given.host given.outside given.command given.past log.old.items self.new ids.new log.new.items }
+        ensures awake { OnlyReturned (named given.header) given.host (log.new.items ++ given.past) → NoneSleepsOn given.header given.host (log.new.items ++ given.past) }
+        ensures leaves { LeavesInTurn given.header given.past self.old self.new log.old.items log.new.items }
+        ensures others { KeepsOthers self.old.waits.queue self.old.waits.rows self.new.waits.rows }
+        ensures few { length log.new.items + ids.new.marks ≤ length log.old.items + dues_of self.old ids.old + 2 }
+        ensures left { (more : ℕ) → ServeRoom more self.old ids.old log.old.room → ids.new.marks + more ≤ log.new.room }
+        ensures marks { ids.new.marks ≤ ids.old.marks }
     {
-        self.parts.go_on(ids, log)
+        let Ok(()) = self.parts.go_on(ids, log) else {
+            unreachable!()
+        };
     }
 
     /// Whether a task waits: it has begun an access that hasn't ended.

@@ -15,6 +15,7 @@ mod obeying;
 mod others;
 mod parts;
 mod refusing;
+mod reserving;
 mod running;
 mod serving;
 mod slow;

@@ -1,11 +1,12 @@
 // What no entry leads to any more goes.
-ghost use Rattle.std.specs.Prelude.{◌≡◌, ◌+◌, ◌++◌, ◌<◌, [], drop, length, OnOk};
+ghost use Rattle.std.specs.Prelude.{◌≡◌, ◌+◌, ◌++◌, ◌<◌, [], drop, length, IsOk, OnOk};
 ghost use Rattle.vm_base.specs.Entries.{by_address};
 ghost use Rattle.vm_model.specs.Regions.{region_of};
 ghost use Rattle.vm_kernel.specs.Begun.{Doing, LegalEvents};
 ghost use Rattle.vm_kernel.specs.Endings.{CountsOut, EndsBelow, EndsSoFar};
 ghost use Rattle.vm_kernel.specs.Sweeping.{Ending, EndsObject, EndsOnly, EndsRegion, IsKnownToPager, IsWhole, OnlyLoses, Releasing, Sweeps};
 ghost use Rattle.vm_kernel.specs.Plays.{Plays, paging};
+ghost use Rattle.vm_kernel.specs.Rooms.{HasBuffers, IsRoomy, KeepsSkip, Spends, leaving};
 ghost use Rattle.vm_kernel.specs.Turns.{QueueIsStill};
 
 use crate::counting::{count_of, set_count};
@@ -26,6 +27,10 @@ impl Parts {
         ensures plays { OnOk result (Plays given.header given.past log.old.items (paging self.old) log.new.items (paging self.new)) }
         ensures quiet { OnOk result (QueueIsStill self.old.waits.queue self.new.waits.queue log.old.items log.new.items) }
         ensures ends { OnOk result (EndsSoFar given.header (log.old.items ++ given.past) (by_address gone.now) [] log.old.items log.new.items) }
+        ensures spends { OnOk result (Spends (leaving self.old ids.now) (leaving self.new ids.now) self.old ids.now log.old self.new ids.now log.new) }
+        ensures succeeds { IsRoomy (leaving self.old ids.now) self.old ids.now log.old.room → HasBuffers self.old → IsOk result }
+        ensures buffers { OnOk result (HasBuffers self.old → HasBuffers self.new) }
+        ensures skip { OnOk result (KeepsSkip self.old self.new) }
     {
         'all: for i in 0..gone.len() {
             self.release(ids, gone, i, log)?;
@@ -50,6 +55,10 @@ impl Parts {
         ensures plays { OnOk result (Plays given.header given.past log.old.items (paging self.old) log.new.items (paging self.new)) }
         ensures quiet { OnOk result (QueueIsStill self.old.waits.queue self.new.waits.queue log.old.items log.new.items) }
         ensures ends { OnOk result (CountsOut given.header (log.old.items ++ given.past) (drop i (by_address gone.now)) given.rest log.old.items log.new.items) }
+        ensures spends { OnOk result (Spends (leaving self.old ids.now) (leaving self.new ids.now) self.old ids.now log.old self.new ids.now log.new) }
+        ensures succeeds { IsRoomy (leaving self.old ids.now) self.old ids.now log.old.room → HasBuffers self.old → IsOk result }
+        ensures buffers { OnOk result (HasBuffers self.old → HasBuffers self.new) }
+        ensures skip { OnOk result (KeepsSkip self.old self.new) }
     {
         let region = gone.at(i).region;
         let count = count_of(&self.chains, region);
@@ -76,6 +85,10 @@ impl Parts {
         ensures plays { OnOk result (Plays given.header given.past log.old.items (paging self.old) log.new.items (paging self.new)) }
         ensures only { OnOk result (EndsOnly log.old.items log.new.items) }
         ensures under { OnOk result (EndsBelow given.header (log.old.items ++ given.past) (region_of given.header region.0 (log.old.items ++ given.past)).top log.old.items log.new.items) }
+        ensures spends { OnOk result (Spends (leaving self.old ids.now) (leaving self.new ids.now) self.old ids.now log.old self.new ids.now log.new) }
+        ensures succeeds { IsRoomy (leaving self.old ids.now) self.old ids.now log.old.room → HasBuffers self.old → IsOk result }
+        ensures buffers { OnOk result (HasBuffers self.old → HasBuffers self.new) }
+        ensures skip { OnOk result (KeepsSkip self.old self.new) }
     {
         let object = self.chains.drop_region(region);
         if self.memory.objects.unrefer(object) > 0 {
@@ -96,6 +109,10 @@ impl Parts {
         ensures plays { OnOk result (Plays given.header given.past log.old.items (paging self.old) log.new.items (paging self.new)) }
         ensures only { OnOk result (EndsOnly log.old.items log.new.items) }
         ensures under { OnOk result (EndsBelow given.header (log.old.items ++ given.past) object.0 log.old.items log.new.items) }
+        ensures spends { OnOk result (Spends (leaving self.old ids.now) (leaving self.new ids.now) self.old ids.now log.old self.new ids.now log.new) }
+        ensures succeeds { IsRoomy (leaving self.old ids.now) self.old ids.now log.old.room → HasBuffers self.old → IsOk result }
+        ensures buffers { OnOk result (HasBuffers self.old → HasBuffers self.new) }
+        ensures skip { OnOk result (KeepsSkip self.old self.new) }
     {
         self.memory.queues.stand_once();
         finish(

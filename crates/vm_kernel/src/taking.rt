@@ -1,15 +1,19 @@
 // What a host does with messages of its pager, and with returns that its pager took.
-ghost use Rattle.std.specs.Prelude.{◌≡◌, ◌≢◌, ◌++◌, ◌∷◌, [], IfOk, OnOk};
+ghost use Rattle.std.specs.Prelude.{ℕ, ◌≡◌, ◌+◌, ◌<◌, ◌≤◌, ◌≢◌, ◌++◌, ◌∷◌, [], true, length, IfOk, IsOk, OnOk};
 ghost use Rattle.vm_model.specs.declared.event.Event.TheVariants as event;
 ghost use Rattle.vm_model.specs.declared.message.Channel.TheVariants.{Down};
 ghost use Rattle.vm_supply.specs.declared.woken.Woken.TheVariants as who;
 ghost use Rattle.vm_kernel.specs.Begun.{Doing, IsLaundered, LegalEvents, Passing};
 ghost use Rattle.vm_kernel.specs.Matches.{Rests, Works, host_id};
-ghost use Rattle.vm_kernel.specs.Taking.{EndsEach, EndsNobody, Erring, FailsNow, HasAsker, HasEnded, HasFailed, IsAbsencePaid, IsAnswered, IsErrorPaid, IsLockPaid, IsWord};
+ghost use Rattle.vm_frames.specs.Frames.{frame_count};
+ghost use Rattle.vm_kernel.specs.Taking.{EndsEach, EndsNobody, Erring, FailsNow, HasAsker, HasEnded, HasFailed, IsAbsencePaid, IsAnswered, IsErrorPaid, IsLockPaid, IsWord, is_lock_request};
+ghost use Rattle.vm_base.specs.declared.ids.PageKey.{PageKey};
 ghost use Rattle.vm_objects.specs.Objects.{object_at};
+ghost use Rattle.vm_parts.specs.Listed.{listed_pages};
 ghost use Rattle.vm_resident.specs.Resident.{row_at};
 ghost use Rattle.vm_supply.specs.Answers.{IsAnswer, outcome_of};
 ghost use Rattle.vm_kernel.specs.Plays.{Plays, PlaysAnswer, paging};
+ghost use Rattle.vm_kernel.specs.Rooms.{HasBuffers, HasMore, HasRoom, IsRoomy, IsSkipRoom, KeepsSkip, Spends, dues, front, full_dues, leaving, to_run};
 ghost use Rattle.vm_kernel.specs.Turns.{IsBrought, Restarted, RunsNobody};
 
 use crate::parts::Parts;
@@ -44,6 +48,11 @@ impl Parts {
         ensures brought { OnOk result (IsBrought log.new.items) }
         ensures zeroed { OnOk result (IsAbsencePaid given.header (log.new.items ++ (given.front ++ given.past))) }
         ensures plays { OnOk result (PlaysAnswer given.header (given.front ++ given.past) object (outcome_of (object_at self.old.memory.objects object.0) control (row_at self.old.memory.resident object.0) message.now) (paging self.old) log.new.items (paging self.new)) }
+        ensures spends { OnOk result (Spends 1 0 self.old ids.now log.old self.new ids.now log.new) }
+        ensures succeeds { IsRoomy 1 self.old ids.now log.old.room → 0 < self.old.memory.objects.marks → IsOk result }
+        ensures buffers { OnOk result (self.new.memory.buffers ≡ self.old.memory.buffers) }
+        ensures failing { IfOk result (λ woken. (key : PageKey) → woken ≡ who.Fails key → HasBuffers self.old → HasBuffers self.new) }
+        ensures skip { OnOk result (KeepsSkip self.old self.new) }
     {
         let woken = answer(self.host, object, control, message, &mut self.memory, log)?;
         Ok(woken)
@@ -64,6 +73,11 @@ impl Parts {
         ensures plays { OnOk result (Plays given.header given.past log.old.items (paging self.old) log.new.items (paging self.new)) }
         ensures ended { OnOk result (HasEnded woken self.old.waits.rows (log.new.items ++ given.past)) }
         ensures quiet { OnOk result (RunsNobody self.old.waits.queue self.new.waits.queue log.old.items log.new.items) }
+        ensures spends { OnOk result (Spends (leaving self.old ids.now) (leaving self.new ids.now) self.old ids.now log.old self.new ids.now log.new) }
+        ensures succeeds { IsRoomy (leaving self.old ids.now) self.old ids.now log.old.room → ((key : PageKey) → woken ≡ who.Fails key → HasBuffers self.old) → IsOk result }
+        ensures buffers { OnOk result (HasBuffers self.old → HasBuffers self.new) }
+        ensures enough { OnOk result (((key : PageKey) → woken ≡ who.Fails key → HasBuffers self.old) → 0 < self.old.memory.buffers.count → 0 < self.new.memory.buffers.count) }
+        ensures skip { OnOk result (KeepsSkip self.old self.new) }
     {
         match woken {
             Woken::Nobody => Ok(()),
@@ -95,6 +109,10 @@ impl Parts {
         ensures plays { OnOk result (Plays given.header given.past log.old.items (paging self.old) log.new.items (paging self.new)) }
         ensures ended { OnOk result (HasEnded (who.Fails key) self.old.waits.rows (log.new.items ++ given.past)) }
         ensures quiet { OnOk result (RunsNobody self.old.waits.queue self.new.waits.queue log.old.items log.new.items) }
+        ensures spends { OnOk result (Spends (leaving self.old ids.now) (leaving self.new ids.now) self.old ids.now log.old self.new ids.now log.new) }
+        ensures succeeds { IsRoomy (leaving self.old ids.now) self.old ids.now log.old.room → HasBuffers self.old → IsOk result }
+        ensures buffers { OnOk result (HasBuffers self.old → HasBuffers self.new) }
+        ensures skip { OnOk result (KeepsSkip self.old self.new) }
     {
         'all: while let Some(waiting) = self.waits.next_on(key) {
             log.push(Event::Failed {
@@ -132,8 +150,13 @@ impl Parts {
         ensures plays { OnOk result (PlaysAnswer given.header (given.front ++ given.past) object (outcome_of (object_at self.old.memory.objects object.0) control (row_at self.old.memory.resident object.0) message.now) (paging self.old) log.new.items (paging self.new)) }
         ensures ended { OnOk result (EndsEach given.header self.old.waits.rows (log.new.items ++ (given.front ++ given.past))) }
         ensures restarts { OnOk result (Restarted given.header given.host self.new.waits.rows (given.front ++ given.past) self.old.waits.queue self.new.waits.queue log.new.items) }
+        ensures few { OnOk result (length log.new.items + dues (to_run self.new.waits.rows) self.new.memory ids.new.marks ≤ length log.old.items + (full_dues self.old ids.old + front self.old ids.old)) }
+        ensures room { (more : ℕ) → HasMore (front self.old ids.old) more self.old ids.old log.old.room → 0 < self.old.memory.objects.marks → HasBuffers self.old → IsSkipRoom self.old → (is_lock_request message.now ≡ true → listed_pages self.old.memory.queues + 1 ≤ self.old.memory.buffers.count) → IsOk result × (HasRoom more self.new ids.new log.new.room × (0 < self.new.memory.buffers.count × IsSkipRoom self.new)) }
+        ensures marks { OnOk result (ids.new.marks ≤ ids.old.marks) }
     {
+        self.memory.queues.stand_once();
         let woken = self.heed(ids, object, control, message, log)?;
+        self.memory.queues.stand_once();
         self.wake(ids, woken, log)?;
         self.restart(ids, log)
     }
@@ -147,6 +170,8 @@ impl Parts {
         ensures rests { Rests given.header given.host self.new ids.now (given.front ++ given.past) }
         ensures same { paging self.new ≡ paging self.old }
         ensures waits { self.new.waits ≡ self.old.waits }
+        ensures rest { self.new ≡ record self.old { memory = record self.old.memory { frames = self.new.memory.frames }; laundry = self.new.laundry } }
+        ensures frames { frame_count self.new.memory.frames ≡ frame_count self.old.memory.frames }
     {
         let Some(frame) = self.laundry.first() else {
             unreachable!()

@@ -1,5 +1,5 @@
 -- Pages obey a lock request, one after another.
-use Rattle.std.proofs.Common.{◌≡◌, ℕ, suc, ◌+◌, ◌≤◌, true, false, Option, Some, None, ap, subst, arith}
+use Rattle.std.proofs.Common.{◌≡◌, ℕ, suc, ◌+◌, ◌≤◌, true, false, Option, Some, None, length, ap, subst, arith}
 use Rattle.vm_base.specs.declared.ids.HostId.{HostId}
 use Rattle.vm_base.specs.declared.ids.ObjectId.{ObjectId}
 use Rattle.vm_base.specs.declared.ids.PageKey.{PageKey}
@@ -17,15 +17,16 @@ pub record HasObeyed (o p : ℕ) (old new : LockState) : Type 0 where
   pub row : PutsRow o p now old.parts.resident new.parts.resident
   pub objects : SameObjects old.parts.objects new.parts.objects
   pub room : old.room ≤ new.room + 1
+  pub told : length new.events ≤ length old.events + 1
 
 pub has_obeyed : (host : HostId) (key : PageKey) (control : ℕ) (request : LockRequest) (row : PageRow) (old new : LockState) → PageObeys host key control request row old new → HasObeyed key.object.0 key.page.0 old new
 has_obeyed host key control request row old new (IsDropped act page objects held room events) =
-    record { now = None; row = page.row; objects = record { at = λ o. ap (λ z. object_at z o) objects }; room = omega arith }
+    record { now = None; row = page.row; objects = record { at = λ o. ap (λ z. object_at z o) objects }; room = omega arith; told = rw events (omega arith) }
 has_obeyed host key control request row old new (Stays act page objects held room events) =
-    record { now = Some (relocked request.lock false row); row = page.row; objects = record { at = λ o. ap (λ z. object_at z o) objects }; room = omega arith }
-has_obeyed host key control request row old new (GoesBack act page objects present held room events) = record { now = None; row = page.row; objects = objects; room = omega arith }
+    record { now = Some (relocked request.lock false row); row = page.row; objects = record { at = λ o. ap (λ z. object_at z o) objects }; room = omega arith; told = rw events (omega arith) }
+has_obeyed host key control request row old new (GoesBack act page objects present held room events) = record { now = None; row = page.row; objects = objects; room = omega arith; told = rw events (omega arith) }
 has_obeyed host key control request row old new (IsSaved act page objects present held room events) =
-    record { now = Some (relocked request.lock true row); row = page.row; objects = objects; room = omega arith }
+    record { now = Some (relocked request.lock true row); row = page.row; objects = objects; room = omega arith; told = rw events (omega arith) }
 
 -- a page is passed over, and the others behind it obey
 pub one_asked : (host : HostId) (object : ObjectId) (control : ℕ) (request : LockRequest) (from : ℕ) (page : PageNo) (row : PageRow) (old end : LockState) → IsNextInRange object request from page row old → row.here ≡ false

@@ -1,2 +1,3 @@
 pub mod Obeys
 pub mod Requests
+pub mod Rooms

@@ -1,9 +1,10 @@
 // A lock request is done.
-ghost use Rattle.std.specs.Prelude.{ℕ, ◌≡◌, ◌+◌, ◌<◌, ◌≤◌, List, IsOk, OnOk};
+ghost use Rattle.std.specs.Prelude.{ℕ, ◌≡◌, ◌+◌, ◌<◌, ◌≤◌, List, length, IsOk, OnOk};
 ghost use Rattle.vm_base.specs.declared.ids.FrameNo.{FrameNo};
 ghost use Rattle.vm_parts.specs.Fits.{Fit};
 ghost use Rattle.vm_parts.specs.Listed.{listed_pages};
 ghost use Rattle.vm_locks.specs.Obeys.{CanLock, Obeys, Replies, lock_state};
+ghost use Rattle.vm_locks.specs.Rooms.{LeavesRoom};
 
 use crate::pages::lock_pages;
 use crate::request::{LockRequest, request_in};
@@ -32,7 +33,9 @@ pub fn lock<L: Holder>(
         (lock_state parts.new (L.held laundry.new) (L.room laundry.new) log.new.items)) }
     ensures fit { OnOk result (Fit parts.new) }
     ensures size { OnOk result (parts.new.buffers.size ≡ parts.old.buffers.size) }
+    ensures rooms { OnOk result (LeavesRoom parts.old parts.new log.old.room log.new.room) }
     ensures succeeds { listed_pages parts.old.queues + 1 ≤ log.old.room → listed_pages parts.old.queues ≤ parts.old.buffers.count → IsOk result }
+    ensures told { OnOk result (length log.new.items ≤ length log.old.items + listed_pages parts.old.queues + 1) }
 {
     let Some(known) = parts.objects.find(object) else {
         unreachable!()
@@ -53,6 +56,7 @@ fn reply(
 ) -> Result<(), NoMemory>
     ensures replies { OnOk result ((parts : HostParts) (held : List FrameNo) (room : ℕ) → Replies host object control request
         (lock_state parts held room log.old.items) (lock_state parts held room log.new.items)) }
+    ensures room { log.old.room ≤ log.new.room + 1 }
     ensures succeeds { 0 < log.old.room → IsOk result }
 {
     if !request.reply {

@@ -1,5 +1,5 @@
 // The pages of a lock request's range.
-ghost use Rattle.std.specs.Prelude.{◌≡◌, ◌+◌, ◌<◌, ◌≤◌, true, false, Some, [], ◌∷◌, ◌++◌, IsOk, IsSome, OnOk};
+ghost use Rattle.std.specs.Prelude.{◌≡◌, ◌+◌, ◌<◌, ◌≤◌, true, false, Some, length, [], ◌∷◌, ◌++◌, IsOk, IsSome, OnOk};
 ghost use Rattle.vm_frames.specs.Frames.{is_claimed, page_in};
 ghost use Rattle.vm_model.specs.declared.event.Event.TheVariants as event;
 ghost use Rattle.vm_model.specs.declared.message.Channel.TheVariants as channel;
@@ -38,7 +38,11 @@ pub fn lock_pages<L: Holder>(
     ensures fit { OnOk result (Fit parts.new) }
     ensures size { OnOk result (parts.new.buffers.size ≡ parts.old.buffers.size) }
     ensures log { OnOk result (log.old.room ≤ log.new.room + listed_pages parts.old.queues) }
+    ensures buffers { OnOk result (parts.old.buffers.count ≤ parts.new.buffers.count + listed_pages parts.old.queues) }
+    ensures spare { OnOk result (parts.old.resident.spare ≤ parts.new.resident.spare) }
+    ensures rows { OnOk result (parts.old.objects.rows ≤ parts.new.objects.rows) }
     ensures succeeds { listed_pages parts.old.queues ≤ log.old.room → listed_pages parts.old.queues ≤ parts.old.buffers.count → IsOk result }
+    ensures told { OnOk result (length log.new.items ≤ length log.old.items + listed_pages parts.old.queues) }
 {
     let mut from = request.page;
     'pages: while let Some(page) = parts.resident.next_page(object, from) {
@@ -80,6 +84,8 @@ fn lock_page<L: Holder>(
     ensures size { OnOk result (parts.new.buffers.size ≡ parts.old.buffers.size) }
     ensures log { log.old.room ≤ log.new.room + 1 }
     ensures buffers { parts.old.buffers.count ≤ parts.new.buffers.count + 1 }
+    ensures spare { parts.old.resident.spare ≤ parts.new.resident.spare }
+    ensures rows { parts.old.objects.rows ≤ parts.new.objects.rows }
     ensures succeeds { 0 < log.old.room → 0 < parts.old.buffers.count → IsOk result }
 {
     let act = lock_act(LockCase {
@@ -111,6 +117,7 @@ fn drop_page(host: HostId, key: PageKey, row: PageRow, parts: &mut HostParts, lo
     ensures discards { Discards key row parts.old parts.new }
     ensures objects { parts.new.objects ≡ parts.old.objects }
     ensures buffers { parts.new.buffers ≡ parts.old.buffers }
+    ensures spare { parts.old.resident.spare ≤ parts.new.resident.spare }
     ensures log { log.new.items ≡ event.Dropped host key.object key.page ∷ log.old.items }
     ensures less { log.old.room ≤ log.new.room + 1 }
 {
@@ -146,6 +153,8 @@ fn return_page<L: Holder>(
     ensures present { PutsAbsent key.object.0 key.page.0 false parts.old.objects parts.new.objects }
     ensures size { parts.new.buffers.size ≡ parts.old.buffers.size }
     ensures count { parts.old.buffers.count ≡ parts.new.buffers.count + 1 }
+    ensures spare { parts.old.resident.spare ≤ parts.new.resident.spare }
+    ensures rows { parts.old.objects.rows ≤ parts.new.objects.rows }
     ensures held { L.held laundry.new ≡ L.held laundry.old ++ row.frame ∷ [] }
     ensures left { L.room laundry.new + 1 ≡ L.room laundry.old }
     ensures log { log.new.items ≡ event.Sent (channel.Up host key.object)
@@ -179,6 +188,8 @@ fn save_page(
     ensures present { PutsAbsent key.object.0 key.page.0 false parts.old.objects parts.new.objects }
     ensures size { parts.new.buffers.size ≡ parts.old.buffers.size }
     ensures count { parts.old.buffers.count ≡ parts.new.buffers.count + 1 }
+    ensures spare { parts.old.resident.spare ≤ parts.new.resident.spare }
+    ensures rows { parts.old.objects.rows ≤ parts.new.objects.rows }
     ensures log { log.new.items ≡ event.Sent (channel.Up host key.object)
         (message.Return control key.page row.dirty true (page_in parts.old.frames row.frame.0)) ∷ log.old.items }
     ensures less { log.old.room ≤ log.new.room + 1 }
@@ -209,6 +220,7 @@ fn send_page(
     ensures present { PutsAbsent key.object.0 key.page.0 false parts.old.objects parts.new.objects }
     ensures size { parts.new.buffers.size ≡ parts.old.buffers.size }
     ensures count { parts.old.buffers.count ≡ parts.new.buffers.count + 1 }
+    ensures rows { parts.old.objects.rows ≤ parts.new.objects.rows }
     ensures log { log.new.items ≡ event.Sent (channel.Up host key.object)
         (message.Return control key.page row.dirty keep (page_in parts.old.frames row.frame.0)) ∷ log.old.items }
     ensures less { log.old.room ≤ log.new.room + 1 }

@@ -1,132 +1,131 @@
 -- How an object and its marks are found, and what a change leaves of them.
-use Rattle.std.proofs.Common.{ℕ, ◌≡◌, ◌≢◌, ◌+◌, ◌-◌, ◌<◌, ◌≤◌, ◌==◌, ◌&&◌, inr, Bool, false, List, [], ◌∷◌, ◌++◌, length, get_or, set, take, drop, replicate, Option, Some, None, refl, sym, ◌∙◌, ap, arith, length-append}
+use Rattle.std.proofs.Common.{ℕ, ◌≡◌, ◌<◌, ◌≤◌, ◌==◌, ◌&&◌, Bool, true, false, List, [], ◌∷◌, Option, Some, None, Result, Ok, Err, refl, sym, ◌∙◌, ap, arith}
+use Rattle.std.proofs.lemmas.Bool.{false≢true}
 use Rattle.std.proofs.lemmas.Bool.Decides.{nat_tests}
-use Rattle.std.proofs.lemmas.List.{get_or-append-add, get_or-drop, get_or-set_other, get_or-replicate, get_or-take, get_or_append_left, get_or_past, length-replicate, length-take, take_all}
-use Rattle.std.proofs.lemmas.Grind.{get_or-set_at}
 use Rattle.std.specs.Borrow.{MutBor}
-use Rattle.std.specs.Option.{option_copied_mut, option_map}
-use Rattle.std.specs.Prelude.{IsSome, if◌then◌else◌, nat_lt}
+use Rattle.std.specs.List.{list_any}
+use Rattle.std.specs.Option.{option_copied_mut}
+use Rattle.std.specs.Prelude.{◌||◌, IfSome, IsOk, IsSome, IsSomeAnd, OnOk, if◌then◌else◌}
+use Rattle.vm_base.specs.Keys.{is_page}
 use Rattle.vm_base.specs.declared.ids.ObjectId.{ObjectId}
-use Rattle.vm_objects.specs.Objects.{ObjectEntry, ObjectTable, PutsAbsent, PutsObject, SameMarks, absent_among, absent_at, object_among, object_at}
-use Rattle.vm_objects.specs.Slots.{AreObjectSlots, RangesAreApart, object_entries, slot_of}
+use Rattle.vm_base.specs.declared.ids.PageKey.{PageKey}
+use Rattle.vm_objects.specs.Marks.{AreMarks, row_of}
+use Rattle.vm_objects.specs.Objects.{ObjectTable, PutsAbsent, PutsObject, SameMarks, absent_among, absent_at, object_among, object_at}
 use Rattle.vm_objects.specs.declared.row.ObjectRow.{ObjectRow}
-use Rattle.vm_objects.specs.declared.slot.Slot.{Slot}
 
--- whether a page of an object is marked
-abbrev pub mark_in : List Bool → ℕ → Option Slot → Bool
-mark_in marks p None = false
-mark_in marks p (Some slot) = nat_lt p slot.row.pages && get_or marks (slot.start + p) false
+pub object_is : (o : ℕ) (entries : List (ObjectId × ObjectRow)) → object_among o entries ≡ row_of entries o
+object_is o [] = refl
+object_is o (entry ∷ entries) = grind (arith, nat_tests, object_is o entries)
 
-mark_is : (marks : List Bool) (start pages p : ℕ) → get_or (take pages (drop start marks)) p false ≡ (nat_lt p pages && get_or marks (start + p) false)
-mark_is marks start pages p =
-    grind (arith, nat_tests, get_or-take pages (drop start marks) p false, get_or-drop start marks p false, get_or_past (take pages (drop start marks)) p false, length-take pages (drop start marks))
+-- whether a page is in the set
+abbrev pub mark_of : List PageKey → ℕ → ℕ → Bool
+mark_of absent o p = list_any (λ key. o == key.object.0 && p == key.page.0) absent
 
-objects_are : (o : ℕ) (marks : List Bool) (slots : List (ObjectId × Slot)) → object_among o (object_entries marks slots) ≡ option_map (λ slot. slot.row) (slot_of slots o)
-objects_are o marks [] = refl
-objects_are o marks (kept ∷ slots) = grind (arith, nat_tests, objects_are o marks slots)
+pub mark_is : (o p : ℕ) (absent : List PageKey) → absent_among o p absent ≡ mark_of absent o p
+mark_is o p [] = refl
+mark_is o p (key ∷ absent) = grind (arith, nat_tests, mark_is o p absent)
 
-marks_are : (o p : ℕ) (marks : List Bool) (slots : List (ObjectId × Slot)) → absent_among o p (object_entries marks slots) ≡ mark_in marks p (slot_of slots o)
-marks_are o p marks [] = refl
-marks_are o p marks (kept ∷ slots) = grind (arith, nat_tests, marks_are o p marks slots, mark_is marks kept.1.start kept.1.row.pages p)
-
--- of an object that is not there no page is marked
-pub none_absent : (o p : ℕ) (entries : List ObjectEntry) → object_among o entries ≡ None → absent_among o p entries ≡ false
-none_absent o p [] none = refl
-none_absent o p (entry ∷ entries) none = grind (arith, nat_tests, none, none_absent o p entries)
+-- what holds of a call that succeeds
+pub ok_has : {T E P : Type 0} (r : Result T E) → IsOk r → OnOk r P → P
+ok_has (Ok x) ok has = has
+ok_has (Err e) ok has = absurd (false≢true ok)
 
 -- what is kept, as contracts see it
-abbrev pub table_of : List Bool → List (ObjectId × Slot) → ℕ → ℕ → ObjectTable
-table_of marks slots rows pages = record { entries = object_entries marks slots; rows = rows; pages = pages }
+abbrev pub table_of : List (ObjectId × ObjectRow) → List PageKey → ℕ → ℕ → ObjectTable
+table_of entries absent rows marks = record { entries = entries; absent = absent; rows = rows; marks = marks }
 
-module _ (marks : List Bool) (slots : List (ObjectId × Slot)) (rows pages : ℕ) (table : ObjectTable) (view : table_of marks slots rows pages ≡ table) where
-  pub object_is : (o : ℕ) → object_at table o ≡ option_map (λ slot. slot.row) (slot_of slots o)
-  object_is o = rw (← view) (objects_are o marks slots)
+-- of an object that is not there no page is marked
+pub none_absent : (o p : ℕ) (entries : List (ObjectId × ObjectRow)) (absent : List PageKey) (spare promised : ℕ) → AreMarks entries absent spare promised → object_among o entries ≡ None → absent_among o p absent ≡ false
+none_absent o p entries absent spare promised are none = by (absent_among o p absent) refl
+  where
+    by : (b : Bool) → absent_among o p absent ≡ b → b ≡ false
+    by false is = refl
+    by true is = absurd (rw none at (are.inside o p is))
 
-  pub found : (o : ℕ) (slot : Slot) → slot_of slots o ≡ Some slot → object_at table o ≡ Some slot.row
-  found o slot is = object_is o ∙ rw is refl
+-- and none behind the end of one that is
+pub past_end : (o p : ℕ) (entries : List (ObjectId × ObjectRow)) (absent : List PageKey) (spare promised : ℕ) → AreMarks entries absent spare promised
+    → IfSome (object_among o entries) (λ row. row.pages ≤ p → absent_among o p absent ≡ false)
+past_end o p entries absent spare promised are = by (object_among o entries) refl
+  where
+    by_mark : (row : ObjectRow) → object_among o entries ≡ Some row → row.pages ≤ p → (b : Bool) → absent_among o p absent ≡ b → b ≡ false
+    by_mark row is past false marked = refl
+    by_mark row is past true marked = let less = rw is at (are.inside o p marked) in absurd (omega (arith, past, less))
 
-  pub mark_found : (o p : ℕ) (slot : Slot) → slot_of slots o ≡ Some slot → absent_at table o p ≡ mark_in marks p (Some slot)
-  mark_found o p slot is = rw (← view) (marks_are o p marks slots ∙ rw is refl)
+    by : (found : Option ObjectRow) → object_among o entries ≡ found → IfSome found (λ row. row.pages ≤ p → absent_among o p absent ≡ false)
+    by None is = tt
+    by (Some row) is = λ past. by_mark row is past (absent_among o p absent) refl
 
-  pub there : (o : ℕ) → IsSome (object_at table o) → IsSome (slot_of slots o)
-  there o some = grind (arith, object_is o, some)
-
-  -- of an object with this slot
-  pub told : (o : ℕ) (lent : Option (MutBor Slot)) (slot : MutBor Slot) → option_copied_mut lent ≡ slot_of slots o → lent ≡ Some slot → object_at table o ≡ Some slot.now.row
-  told o lent slot value is = found o slot.now (sym value ∙ ap option_copied_mut is)
+-- the map has this row at an object now, and at each other what it had
+abbrev pub WritesRow : ℕ → ObjectRow → List (ObjectId × ObjectRow) → List (ObjectId × ObjectRow) → Type 0
+WritesRow id row old new = (o : ObjectId) → row_of new o.0 ≡ (if id == o.0 then Some row else row_of old o.0)
 
 -- what an object's new row leaves
-pub record Changed (count : ℕ) (edited : List (ObjectId × Slot)) (id : ℕ) (row : ObjectRow) (old new : ObjectTable) : Type 0 where
-  pub kept : AreObjectSlots count edited
+pub record Changed (edited : List (ObjectId × ObjectRow)) (absent : List PageKey) (spare promised : ℕ) (id : ℕ) (row : ObjectRow) (old new : ObjectTable) : Type 0 where
+  pub kept : AreMarks edited absent spare promised
   pub object : PutsObject id (Some row) old new
   pub marks : SameMarks old new
 
-others_same : (marks longer : List Bool) (slots : List (ObjectId × Slot)) → AreObjectSlots (length marks) slots → ((k : ℕ) → k < length marks → get_or longer k false ≡ get_or marks k false)
-    → (o p : ℕ) (found : Option Slot) → slot_of slots o ≡ found → mark_in longer p found ≡ mark_in marks p found
-others_same marks longer slots kept others o p None is = refl
-others_same marks longer slots kept others o p (Some other) is = grind (arith, nat_tests, kept.inside o other is, others (other.start + p))
+written : (entries edited : List (ObjectId × ObjectRow)) (id : ℕ) (row : ObjectRow) → WritesRow id row entries edited → (o : ℕ) → object_among o edited ≡ (if id == o then Some row else object_among o entries)
+written entries edited id row writes o = object_is o edited ∙ writes (record { 0 = o }) ∙ ap (λ z. if id == o then Some row else z) (sym (object_is o entries))
 
--- an object is put with a range that no other has
-placed : (marks longer : List Bool) (slots edited : List (ObjectId × Slot)) (table new : ObjectTable) (id : ℕ) (slot : Slot) → object_entries marks slots ≡ table.entries → new.entries ≡ object_entries longer edited → AreObjectSlots (length marks) slots
-    → ((o : ℕ) → slot_of edited o ≡ (if id == o then Some slot else slot_of slots o)) → length marks ≤ length longer → slot.start + slot.row.pages ≤ length longer
-    → ((o : ℕ) (other : Slot) → id ≢ o → slot_of slots o ≡ Some other → RangesAreApart slot other)
-    → ((p : ℕ) → mark_in longer p (Some slot) ≡ mark_in marks p (slot_of slots id))
-    → ((k : ℕ) → k < length marks → get_or longer k false ≡ get_or marks k false)
-    → Changed (length longer) edited id slot.row table new
-placed marks longer slots edited table new id slot view seen kept edits more within apart own others =
-    let same = λ (o p : ℕ). others_same marks longer slots kept others o p (slot_of slots o) refl in
-    record {
-      kept = record {
-        inside = λ o one is. grind (arith, nat_tests, edits o, kept.inside o one, is);
-        apart = λ o p one other differ is also. grind (arith, nat_tests, edits o, edits p, kept.apart o p one other differ, apart o other, apart p one, is, also);
-      };
-      object = record { at = λ o. rw (seen, ← view, objects_are o longer edited, objects_are o marks slots, edits o) (grind (arith, nat_tests)) };
-      marks = record { at = λ o p. rw (seen, ← view, marks_are o p longer edited, marks_are o p marks slots, edits o) (grind (arith, nat_tests, own p, same o p)) };
-    }
+-- an object is put whose marks, if it has any, lie below its pages
+pub put : (entries edited : List (ObjectId × ObjectRow)) (absent : List PageKey) (spare promised rows marks rows2 marks2 id : ℕ) (row : ObjectRow) → AreMarks entries absent spare promised → WritesRow id row entries edited
+    → ((p : ℕ) → absent_among id p absent ≡ true → p < row.pages) → Changed edited absent spare promised id row (table_of entries absent rows marks) (table_of edited absent rows2 marks2)
+put entries edited absent spare promised rows marks rows2 marks2 id row are writes below = record {
+  kept = record { inside = λ o p marked. by o p marked (id == o) refl; room = are.room };
+  object = record { at = written entries edited id row writes };
+  marks = record { at = λ o p. refl };
+}
+  where
+    by : (o p : ℕ) → absent_among o p absent ≡ true → (b : Bool) → (id == o) ≡ b → IsSomeAnd (object_among o edited) (λ row. p < row.pages)
+    by o p marked true same = let is : id ≡ o = grind (arith, nat_tests, same) in rw (written entries edited id row writes o, same) (below p (rw is marked))
+    by o p marked false apart = rw (written entries edited id row writes o, apart) (are.inside o p marked)
 
--- an object that is there gets another row of as many pages
-pub changed : (marks : List Bool) (slots edited : List (ObjectId × Slot)) (rows pages rows2 pages2 : ℕ) (table : ObjectTable) (id : ℕ) (lent : Option (MutBor Slot)) (slot : MutBor Slot) (row : ObjectRow)
-    → table_of marks slots rows pages ≡ table → AreObjectSlots (length marks) slots → option_copied_mut lent ≡ slot_of slots id → lent ≡ Some slot → row.pages ≡ slot.now.row.pages
-    → (IsSome (slot_of slots id) → (o : ObjectId) → slot_of edited o.0 ≡ (if id == o.0 then Some (record slot.now { row = row }) else slot_of slots o.0))
-    → Changed (length marks) edited id row table (table_of marks edited rows2 pages2)
-changed marks slots edited rows pages rows2 pages2 table id lent slot row view kept value found size edits =
-    let is : slot_of slots id ≡ Some slot.now = sym value ∙ ap option_copied_mut found in
-    placed marks marks slots edited table (table_of marks edited rows2 pages2) id (record slot.now { row = row }) (ap (λ (t : ObjectTable). t.entries) view) refl kept (λ o. edits (rw is refl) (record { 0 = o }))
-    (omega arith) (omega (arith, kept.inside id slot.now is, size))
-    (λ o other differ other_is. grind (arith, kept.apart id o slot.now other differ is other_is, size))
-    (λ p. rw (is, size) refl) (λ k less. refl)
+-- a new object, of which no page is marked
+pub made : (entries edited : List (ObjectId × ObjectRow)) (absent : List PageKey) (spare promised rows marks rows2 marks2 id : ℕ) (row : ObjectRow) → AreMarks entries absent spare promised → object_among id entries ≡ None → WritesRow id row entries edited
+    → Changed edited absent spare promised id row (table_of entries absent rows marks) (table_of edited absent rows2 marks2)
+made entries edited absent spare promised rows marks rows2 marks2 id row are none writes =
+    put entries edited absent spare promised rows marks rows2 marks2 id row are writes (λ p marked. absurd (false≢true (sym (none_absent id p entries absent spare promised are none) ∙ marked)))
 
-blank : (marks : List Bool) (n p : ℕ) → (nat_lt p n && get_or (marks ++ replicate n false) (length marks + p) false) ≡ false
-blank marks n p = grind (arith, nat_tests, get_or-append-add marks (replicate n false) p false, get_or-replicate n p false false)
+module _ (entries : List (ObjectId × ObjectRow)) (absent : List PageKey) (rows marks : ℕ) (table : ObjectTable) (view : table_of entries absent rows marks ≡ table) where
+  pub found : (o : ℕ) → object_at table o ≡ row_of entries o
+  found o = rw (← view) (object_is o entries)
 
--- a new object, with its range behind all others
-pub made : (marks longer : List Bool) (slots edited : List (ObjectId × Slot)) (rows pages : ℕ) (table roomier new : ObjectTable) (id count : ℕ) (slot : Slot) → table_of marks slots rows pages ≡ roomier → roomier.entries ≡ table.entries → new.entries ≡ object_entries longer edited
-    → AreObjectSlots (length marks) slots → object_at table id ≡ None → slot.start ≡ count → count ≡ length marks → longer ≡ take (slot.start + slot.row.pages) marks ++ replicate (slot.start + slot.row.pages - count) false
-    → ((o : ObjectId) → slot_of edited o.0 ≡ (if id == o.0 then Some slot else slot_of slots o.0))
-    → Changed (length longer) edited id slot.row table new
-made marks longer slots edited rows pages table roomier new id count slot view same seen kept none begun counted resized edits =
-    let whole : take (slot.start + slot.row.pages) marks ≡ marks = take_all (slot.start + slot.row.pages) marks (omega arith) in
-    let rest : slot.start + slot.row.pages - count ≡ slot.row.pages = omega arith in
-    let more : longer ≡ marks ++ replicate slot.row.pages false = rw (whole, rest) at resized in
-    let start : slot.start ≡ length marks = begun ∙ counted in
-    let entries : object_entries marks slots ≡ table.entries = ap (λ (t : ObjectTable). t.entries) view ∙ same in
-    let size : length longer ≡ length marks + slot.row.pages = rw more (length-append marks (replicate slot.row.pages false) ∙ ap (λ n. length marks + n) (length-replicate slot.row.pages false)) in
-    placed marks longer slots edited table new id slot entries seen kept (λ o. edits (record { 0 = o })) (omega (arith, size)) (omega (arith, size, start))
-    (λ o other differ other_is. inr (omega (arith, kept.inside o other other_is, start)))
-    (λ p. rw (start, more, blank marks slot.row.pages p, ← marks_are id p marks slots) (sym (none_absent id p (object_entries marks slots) (rw entries none))))
-    (λ k less. rw more (get_or_append_left marks (replicate slot.row.pages false) false k less))
+  pub there : (o : ℕ) → IsSome (object_at table o) → IsSome (row_of entries o)
+  there o some = rw (found o) at some
 
-set_is : (marks : List Bool) (k j : ℕ) (b : Bool) → k < length marks → get_or (set marks k b) j false ≡ (if k == j then b else get_or marks j false)
-set_is marks k j b within = grind (arith, nat_tests, get_or-set_at marks k j b false, get_or-set_other marks k j b false)
+  -- of an object that was lent
+  pub told : (o : ℕ) (lent : Option (MutBor ObjectRow)) (row : MutBor ObjectRow) → option_copied_mut lent ≡ row_of entries o → lent ≡ Some row → object_at table o ≡ Some row.now
+  told o lent row value is = found o ∙ sym value ∙ ap option_copied_mut is
 
-mark_set : (marks : List Bool) (slots : List (ObjectId × Slot)) (id p o q : ℕ) (slot : Slot) (b : Bool) (found : Option Slot) → AreObjectSlots (length marks) slots → slot_of slots id ≡ Some slot → p < slot.row.pages → slot_of slots o ≡ found
-    → mark_in (set marks (slot.start + p) b) q found ≡ (if (id == o) && (p == q) then b else mark_in marks q found)
-mark_set marks slots id p o q slot b None kept is less found = grind (arith, nat_tests, is, found)
-mark_set marks slots id p o q slot b (Some other) kept is less found =
-    grind (arith, nat_tests, is, found, less, kept.inside id slot is, set_is marks (slot.start + p) (other.start + q) b, kept.apart id o slot other)
+  -- an object that is there gets another row of as many pages
+  pub changed : (edited : List (ObjectId × ObjectRow)) (spare promised rows2 marks2 id : ℕ) (lent : Option (MutBor ObjectRow)) (was : MutBor ObjectRow) (row : ObjectRow)
+      → AreMarks entries absent spare promised → option_copied_mut lent ≡ row_of entries id → lent ≡ Some was → row.pages ≡ was.now.pages
+      → (IsSome (row_of entries id) → WritesRow id row entries edited) → Changed edited absent spare promised id row table (table_of edited absent rows2 marks2)
+  changed edited spare promised rows2 marks2 id lent was row are value is size writes =
+      let stood : row_of entries id ≡ Some was.now = sym value ∙ ap option_copied_mut is in
+      let below : (p : ℕ) → absent_among id p absent ≡ true → p < row.pages = (λ p marked. let less = rw (object_is id entries, stood) at (are.inside id p marked) in omega (arith, less, size)) in
+      rw (← view) (put entries edited absent spare promised rows marks rows2 marks2 id row are (writes (rw stood refl)) below)
 
--- one page of an object is marked or not
-pub marked : (marks : List Bool) (slots : List (ObjectId × Slot)) (rows pages rows2 pages2 : ℕ) (table : ObjectTable) (id p : ℕ) (slot : Slot) (b : Bool) → table_of marks slots rows pages ≡ table → AreObjectSlots (length marks) slots
-    → slot_of slots id ≡ Some slot → p < slot.row.pages → PutsAbsent id p b table (table_of (set marks (slot.start + p) b) slots rows2 pages2)
-marked marks slots rows pages rows2 pages2 table id p slot b view kept is less =
-    rw (← view) (record { at = λ o q. rw (marks_are o q (set marks (slot.start + p) b) slots, marks_are o q marks slots) (mark_set marks slots id p o q slot b (slot_of slots o) kept is less refl) })
+-- the set has this page or not now, and each other as it did
+abbrev pub WritesMark : PageKey → Bool → List PageKey → List PageKey → Type 0
+WritesMark key b old new = (q : PageKey) → mark_of new q.object.0 q.page.0 ≡ (if key.object.0 == q.object.0 && key.page.0 == q.page.0 then b else mark_of old q.object.0 q.page.0)
+
+pub marked : (entries entries2 : List (ObjectId × ObjectRow)) (absent edited : List PageKey) (rows marks rows2 marks2 : ℕ) (key : PageKey) (b : Bool) → WritesMark key b absent edited
+    → PutsAbsent key.object.0 key.page.0 b (table_of entries absent rows marks) (table_of entries2 edited rows2 marks2)
+marked entries entries2 absent edited rows marks rows2 marks2 key b writes = record {
+  at = λ o p. mark_is o p edited ∙ writes (record { object = record { 0 = o }; page = record { 0 = p } }) ∙ ap (λ z. if is_page key o p then b else z) (sym (mark_is o p absent));
+}
+
+-- a mark that is put lies below the pages of its object
+pub marks_put : (entries : List (ObjectId × ObjectRow)) (absent edited : List PageKey) (spare promised spare2 promised2 : ℕ) (key : PageKey) (b : Bool) → AreMarks entries absent spare promised → WritesMark key b absent edited
+    → (b ≡ true → IsSomeAnd (object_among key.object.0 entries) (λ row. key.page.0 < row.pages)) → promised2 ≤ spare2 → AreMarks entries edited spare2 promised2
+marks_put entries absent edited spare promised spare2 promised2 key b are writes inside room = record { inside = λ o p is. by o p (is_page key o p) refl (sym ((marked entries entries absent edited 0 0 0 0 key b writes).at o p) ∙ is); room = room }
+  where
+    by : (o p : ℕ) (same : Bool) → is_page key o p ≡ same → (if is_page key o p then b else absent_among o p absent) ≡ true → IsSomeAnd (object_among o entries) (λ row. p < row.pages)
+    by o p true same is =
+        let one : key.object.0 ≡ o = grind (arith, nat_tests, same) in
+        let two : key.page.0 ≡ p = grind (arith, nat_tests, same) in
+        let it : b ≡ true = rw same at is in
+        rw (one, two) at (inside it)
+    by o p false same is = are.inside o p (rw same at is)

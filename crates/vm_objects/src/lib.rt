@@ -5,7 +5,6 @@
 mod holder;
 mod objects;
 mod row;
-mod slot;
 
 pub use holder::Holder;
 pub use objects::Objects;

@@ -3,9 +3,8 @@ ghost use Rattle.std.specs.Prelude.{ℕ, ◌≡◌, ◌+◌, ◌-◌, ◌<◌, �
 ghost use Rattle.vm_objects.specs.Objects.{PutsAbsent, PutsObject, SameMarks, SameObjects, SameOrRoomier, SameRooms, absent_at, object_at};
 ghost use Rattle.vm_objects.specs.declared.row.PagerState.TheVariants as state;
 
-use crate::slot::Slot;
 use crate::{ObjectRow, PagerState};
-use indexmap::IndexMap;
+use indexmap::{IndexMap, IndexSet};
 use std::alloc::Global;
 use std::marker::Model;
 use vm_base::{NoMemory, ObjectId, ObjectKind, PageKey};
@@ -13,54 +12,69 @@ use vm_base::{NoMemory, ObjectId, ObjectKind, PageKey};
 /// What a host knows of its memory objects.
 ///
 /// Contracts see a row for each object, which of its pages are known to be absent, and the room: how
-/// many further objects, of how many pages together, can be made without memory. Only `new`,
-/// `reserve` and `make` take memory.
+/// many further objects can be made without memory, and how many further pages can be noted as absent.
+/// Only `reserve`, `reserve_marks` and `make` take memory.
 #[derive(Drop)]
 pub struct Objects {
-    slots: IndexMap<ObjectId, Slot>,
-    // The marks of all objects, each object's side by side; true where the page is known absent.
-    marks: Vec<bool>,
+    rows: IndexMap<ObjectId, ObjectRow>,
+    // The pages that are known absent.
+    absent: IndexSet<PageKey>,
+    // So many further marks have been promised room.
+    promised: u32,
 }
 
 impl Model for Objects {
-    ghost use Rattle.std.specs.Prelude.{◌-◌, length, vec_capacity};
     ghost use Rattle.indexmap.specs.IndexMap.{spare};
+    ghost use Rattle.indexmap.specs.IndexSet.{spare as mark_room};
+    ghost use Rattle.vm_objects.specs.Marks.{AreMarks};
     ghost use Rattle.vm_objects.specs.Objects.{ObjectTable};
 
     ghost Value = { ObjectTable };
 
-    ghost use Rattle.vm_objects.specs.Slots.{AreObjectSlots, object_entries};
+    ghost view = { λ s. record { entries = s.rows.entries; absent = s.absent.keys; rows = spare s.rows; marks = s.promised } };
 
-    ghost view = { λ s. record {
-      entries = object_entries s.marks.items s.slots.entries;
-      rows = spare s.slots;
-      pages = vec_capacity s.marks - length s.marks.items;
-    } };
-
-    ghost invariant = { λ s. AreObjectSlots (length s.marks.items) s.slots.entries };
+    ghost invariant = { λ s. AreMarks s.rows.entries s.absent.keys (mark_room s.absent) s.promised };
 }
 
 impl Objects {
     /// No objects, and no memory taken.
     pub fn new(alloc: Global) -> Objects
-        ensures { result.entries ≡ [] }
+        ensures entries { result.entries ≡ [] }
+        ensures absent { result.absent ≡ [] }
     {
         Objects {
-            slots: IndexMap::new(alloc),
-            marks: Vec::new(alloc),
+            rows: IndexMap::new(alloc),
+            absent: IndexSet::new(alloc),
+            promised: 0,
         }
     }
 
-    /// Makes room for so many further objects, of so many pages together; it fails for want of
-    /// memory alone.
-    pub fn reserve(&mut self, rows: u32, pages: u32) -> Result<(), NoMemory>
+    /// Makes room for so many further objects, and for so many further marks of absent pages; it fails
+    /// for want of memory alone.
+    pub fn reserve(&mut self, rows: u32, marks: u32) -> Result<(), NoMemory>
         ensures same { SameOrRoomier self.old self.new }
         ensures rows { OnOk result (rows ≤ self.new.rows) }
-        ensures pages { OnOk result (pages ≤ self.new.pages) }
-        ensures succeeds { rows ≤ self.old.rows → pages ≤ self.old.pages → IsOk result }
+        ensures marks { OnOk result (marks ≤ self.new.marks) }
+        ensures succeeds { rows ≤ self.old.rows → marks ≤ self.old.marks → IsOk result }
     {
-        self.slots.reserve(rows as usize)?;
-        self.marks.reserve(pages as usize)?;
+        self.rows.reserve(rows as usize)?;
+        self.reserve_marks(marks)
+    }
+
+    /// Makes room for so many further marks of absent pages; it fails for want of memory alone, and then
+    /// nothing changed.
+    pub fn reserve_marks(&mut self, marks: u32) -> Result<(), NoMemory>
+        ensures same { SameOrRoomier self.old self.new }
+        ensures rows { self.new.rows ≡ self.old.rows }
+        ensures room { OnOk result (marks ≤ self.new.marks) }
+        ensures succeeds { marks ≤ self.old.marks → IsOk result }
+        ensures err { OnErr result (self.new ≡ self.old) }
+    {
+        if marks <= self.promised {
+            return Ok(());
+        }
+        self.absent.reserve(marks as usize)?;
+        self.promised = marks;
         Ok(())
     }
 
@@ -79,13 +93,11 @@ impl Objects {
         ensures present { (p : ℕ) → absent_at self.new id.0 p ≡ false }
         ensures marks { SameMarks self.old self.new }
         ensures err { OnErr result (SameOrRoomier self.old self.new) }
-        ensures succeeds { 0 < self.old.rows → pages ≤ self.old.pages → IsOk result }
+        ensures succeeds { 0 < self.old.rows → IsOk result }
         ensures rows { self.old.rows ≤ self.new.rows + 1 }
-        ensures pages { self.old.pages ≤ self.new.pages + pages }
+        ensures spare { self.old.marks ≤ self.new.marks }
     {
-        self.reserve(1, pages)?;
-        let start = self.marks.len();
-        self.marks.resize(start + pages as usize, false)?;
+        self.rows.reserve(1)?;
         let row = ObjectRow {
             kind,
             pages,
@@ -94,7 +106,7 @@ impl Objects {
             live: false,
             references: 0,
         };
-        self.slots.insert(id, Slot { row, start })?;
+        self.rows.insert(id, row)?;
         Ok(())
     }
 
@@ -102,7 +114,7 @@ impl Objects {
     pub fn find(&self, id: ObjectId) -> Option<ObjectRow>
         ensures { result ≡ object_at self.now id.0 }
     {
-        Some(self.slots.get(&id)?.row)
+        self.rows.get(&id).copied()
     }
 
     /// Counts one more reference to an object.
@@ -114,7 +126,7 @@ impl Objects {
         ensures marks { SameMarks self.old self.new }
         ensures rooms { SameRooms self.old self.new }
     {
-        let row = &mut self.slots.get_mut(&id).unwrap().row;
+        let row = self.rows.get_mut(&id).unwrap();
         row.references += 1;
     }
 
@@ -128,7 +140,7 @@ impl Objects {
         ensures marks { SameMarks self.old self.new }
         ensures rooms { SameRooms self.old self.new }
     {
-        let row = &mut self.slots.get_mut(&id).unwrap().row;
+        let row = self.rows.get_mut(&id).unwrap();
         row.references -= 1;
         row.references
     }
@@ -144,7 +156,7 @@ impl Objects {
         ensures marks { SameMarks self.old self.new }
         ensures rooms { SameRooms self.old self.new }
     {
-        let row = &mut self.slots.get_mut(&id).unwrap().row;
+        let row = self.rows.get_mut(&id).unwrap();
         row.control += 1;
         row.live = true;
         row.state = PagerState::Sent;
@@ -159,7 +171,7 @@ impl Objects {
         ensures marks { SameMarks self.old self.new }
         ensures rooms { SameRooms self.old self.new }
     {
-        let row = &mut self.slots.get_mut(&id).unwrap().row;
+        let row = self.rows.get_mut(&id).unwrap();
         row.state = PagerState::Ready;
     }
 
@@ -172,7 +184,7 @@ impl Objects {
         ensures marks { SameMarks self.old self.new }
         ensures rooms { SameRooms self.old self.new }
     {
-        let row = &mut self.slots.get_mut(&id).unwrap().row;
+        let row = self.rows.get_mut(&id).unwrap();
         row.live = false;
         row.state = PagerState::Without;
     }
@@ -181,11 +193,14 @@ impl Objects {
     pub fn note_absent(&mut self, key: PageKey)
         requires there { IsSome (object_at self.old key.object.0) }
         requires inside { IfSome (object_at self.old key.object.0) (λ row. key.page.0 < row.pages) }
+        requires room { 0 < self.old.marks }
         ensures mark { PutsAbsent key.object.0 key.page.0 true self.old self.new }
         ensures objects { SameObjects self.old self.new }
-        ensures rooms { SameRooms self.old self.new }
+        ensures rows { self.new.rows ≡ self.old.rows }
+        ensures marks { self.old.marks ≤ self.new.marks + 1 }
     {
-        self.mark(key, true);
+        let _ = self.absent.insert(key);
+        self.promised -= 1;
     }
 
     /// The pager isn't known to lack a page any more.
@@ -196,7 +211,7 @@ impl Objects {
         ensures objects { SameObjects self.old self.new }
         ensures rooms { SameRooms self.old self.new }
     {
-        self.mark(key, false);
+        let _ = self.absent.swap_remove(&key);
     }
 
     /// Whether the pager is known not to have a page.
@@ -206,19 +221,6 @@ impl Objects {
         ensures past { IfSome (object_at self.now key.object.0) (λ row.
             row.pages ≤ key.page.0 → result ≡ false) }
     {
-        let slot = self.slots[&key.object];
-        key.page.0 < slot.row.pages && self.marks[slot.start + key.page.0 as usize]
-    }
-
-    // Notes whether a page is known to be absent.
-    fn mark(&mut self, key: PageKey, absent: bool)
-        requires there { IsSome (object_at self.old key.object.0) }
-        requires inside { IfSome (object_at self.old key.object.0) (λ row. key.page.0 < row.pages) }
-        ensures mark { PutsAbsent key.object.0 key.page.0 absent self.old self.new }
-        ensures objects { SameObjects self.old self.new }
-        ensures rooms { SameRooms self.old self.new }
-    {
-        let at = self.slots[&key.object].start + key.page.0 as usize;
-        self.marks[at] = absent;
+        self.absent.contains(&key)
     }
 }

@@ -9,6 +9,7 @@ ghost use Rattle.vm_pageout.specs.Reclaims.{IsUnchanged, ReclaimEffects, control
 ghost use Rattle.vm_parts.specs.Changes.{Discards};
 ghost use Rattle.vm_parts.specs.Controls.{AllLive, HasNumbers};
 ghost use Rattle.vm_parts.specs.Fits.{Fit};
+ghost use Rattle.vm_parts.specs.Listed.{listed_pages};
 ghost use Rattle.vm_queues.specs.Queues.{AllSkipped};
 ghost use Rattle.vm_resident.specs.Resident.{row_at};
 
@@ -45,13 +46,19 @@ pub fn reclaim(
     ensures buffers { parts.old.buffers.count ≤ parts.new.buffers.count + 1 }
     ensures log { log.old.room ≤ log.new.room + 2 }
     ensures spare { parts.old.resident.spare ≤ parts.new.resident.spare }
+    ensures kept { parts.old.objects.rows ≤ parts.new.objects.rows }
+    ensures listed { IfOk result (λ answer. (answer ≡ answers.Nothing → listed_pages parts.new.queues ≡ listed_pages parts.old.queues)
+        × ((answer ≡ answers.Nothing → ⊥) → listed_pages parts.new.queues + 1 ≡ listed_pages parts.old.queues)) }
     ensures succeeds { 2 ≤ log.old.room → 0 < parts.old.buffers.count → IsOk result }
+    ensures freed { IfOk result (λ answer. answer ≡ answers.Freed → log.old.room ≤ log.new.room + 1) }
+    ensures whole { IfOk result (λ answer. answer ≡ answers.Freed → parts.old.buffers.count ≤ parts.new.buffers.count) }
 {
     log.reserve(2)?;
     parts.buffers.reserve(1)?;
     let Some(frame) = parts.queues.victim(skip) else {
         return Ok(Reclaim::Nothing);
     };
+    parts.queues.stand_once();
     let Some(key) = parts.resident.page_of(frame) else {
         unreachable!()
     };

@@ -36,4 +36,5 @@ pub record IsStart (frames size : ℕ) (parts : HostParts) : Type 0 where
   pub rows : (o p : ℕ) → row_at parts.resident o p ≡ None
   pub queues : parts.queues ≡ record { active = []; inactive = []; frames = frames }
   pub objects : parts.objects.entries ≡ []
+  pub absent : parts.objects.absent ≡ []
   pub buffers : parts.buffers ≡ record { size = size; count = 0 }

@@ -1,5 +1,5 @@
 // The queues of the pages that are here.
-ghost use Rattle.std.specs.Prelude.{◌≡◌, ◌<◌, ◌++◌, ℕ, [], true, false, IfOk, MatchOption, if◌then◌else◌, length};
+ghost use Rattle.std.specs.Prelude.{◌≡◌, ◌+◌, ◌<◌, ◌++◌, ℕ, [], true, false, IfOk, MatchOption, if◌then◌else◌, length};
 ghost use Rattle.vm_queues.specs.Links.{along, first_frame, frames_of, link_in, link_of};
 ghost use Rattle.vm_queues.specs.Queues.{AllSkipped, EachOnce, GainsPage, IsEmpty, KeepsPages, LosesPage, Queues, added, balanced, is_queued, is_skipped, queues_except, spared, victim_frame, with_reference};
 
@@ -90,6 +90,13 @@ impl PageQueues {
         balance(&mut self.lists);
         spare(&mut self.lists);
         choose(&self.lists, skip)
+    }
+
+    /// How many pages are on the lists.
+    pub fn count(&self) -> usize
+        ensures { result ≡ length self.now.active + length self.now.inactive }
+    {
+        self.lists.active.count + self.lists.inactive.count
     }
 
     /// A law of the lists, which does nothing: each page stands there once.

@@ -59,6 +59,7 @@ impl Chains {
     /// alone.
     pub fn reserve(&mut self, rows: u32) -> Result<(), NoMemory>
         ensures same { (region_at self.new ≡ region_at self.old) × (shadow_at self.new ≡ shadow_at self.old) }
+        ensures lists { (self.new.regions ≡ self.old.regions) × (self.new.shadows ≡ self.old.shadows) }
         ensures room { OnOk result (rows ≤ self.new.spare) }
         ensures kept { self.old.spare ≤ self.new.spare }
         ensures succeeds { rows ≤ self.old.spare → IsOk result }

@@ -116,7 +116,7 @@ pub record Lacks (key : PageKey) (who : Woken) (old new : HostParts) (before aft
   pub page : Cancels key was old new
   pub absent : PutsAbsent key.object.0 key.page.0 true old.objects new.objects
   pub objects : SameObjects old.objects new.objects
-  pub rooms : SameRooms old.objects new.objects
+  pub rows : new.objects.rows ≡ old.objects.rows
   pub events : after ≡ before
 
 -- a page couldn't be given

@@ -1,5 +1,5 @@
 // The answers of a pager.
-ghost use Rattle.std.specs.Prelude.{◌≡◌, ℕ, ◌≤◌, ◌<◌, false, List, replicate, Some, IfOk, IfSome, IsOk, IsSome, IsSomeAnd, OnErr, OnOk, length};
+ghost use Rattle.std.specs.Prelude.{◌≡◌, ℕ, ◌+◌, ◌≤◌, ◌<◌, false, List, replicate, Some, IfOk, IfSome, IsOk, IsSome, IsSomeAnd, OnErr, OnOk, length};
 ghost use Rattle.vm_base.specs.declared.ids.HostId.{HostId};
 ghost use Rattle.vm_model.specs.declared.event.Event.{Event};
 ghost use Rattle.vm_objects.specs.Objects.{object_at};
@@ -43,7 +43,8 @@ macro_rules! by_table {
 /// Interfaces": memory_object_ready, data_supply, data_unavailable and data_error. It is this
 /// profile's that what the default pager doesn't have is noted and leaves no page behind.
 ///
-/// No memory is taken but for the event of a page of zeros; where there is none, nothing changed.
+/// No memory is taken but for the event of a page of zeros, and for the mark of a page that the default
+/// pager doesn't have; where there is none, nothing changed.
 pub fn answer(
     host: HostId,
     object: ObjectId,
@@ -59,7 +60,8 @@ pub fn answer(
     ensures spare { parts.old.resident.spare ≤ parts.new.resident.spare }
     ensures buffers { parts.new.buffers ≡ parts.old.buffers }
     ensures err { OnErr result ((parts.new ≡ parts.old) × (log.new.items ≡ log.old.items)) }
-    ensures succeeds { 0 < log.old.room → IsOk result }
+    ensures succeeds { 0 < log.old.room → 0 < parts.old.objects.marks → IsOk result }
+    ensures rooms { (parts.old.objects.rows ≤ parts.new.objects.rows) × (log.old.room ≤ log.new.room + 1) }
 {
     let Some(known) = parts.objects.find(object) else {
         return Ok(Woken::Nobody);
@@ -85,7 +87,7 @@ pub fn answer(
         Message::Unavailable { page } => by_table!(
             known, control, parts, object, MessageKind::Unavailable, *page;
             NoteAbsent => match known.kind {
-                ObjectKind::Temp => Ok(lack(parts, object, *page)),
+                ObjectKind::Temp => Ok(lack(parts, object, *page)?),
                 ObjectKind::File | ObjectKind::Shared | ObjectKind::Wild => {
                     Ok(zero(host, parts, object, *page, log)?)
                 },
@@ -106,6 +108,7 @@ fn ready(parts: &mut HostParts, object: ObjectId, state: PagerState) -> Woken
     ensures fit { Fit parts.new }
     ensures buffers { parts.new.buffers ≡ parts.old.buffers }
     ensures spare { parts.old.resident.spare ≤ parts.new.resident.spare }
+    ensures rows { parts.new.objects.rows ≡ parts.old.objects.rows }
     ensures answered { (host : HostId) (events : List Event) → AnswerEffects host object (ready_outcome state) result parts.old parts.new events events }
 {
     match state {
@@ -132,6 +135,7 @@ fn supply(
     ensures fit { Fit parts.new }
     ensures buffers { parts.new.buffers ≡ parts.old.buffers }
     ensures spare { parts.old.resident.spare ≤ parts.new.resident.spare }
+    ensures rows { parts.new.objects.rows ≡ parts.old.objects.rows }
     ensures answered { (host : HostId) (number : ℕ) (events : List Event) → lock ≡ lock_numbered number →
         AnswerEffects host object (Supplied page number precious bytes.now) result parts.old parts.new events events }
 {
@@ -153,9 +157,11 @@ fn zero(
     ensures fit { Fit parts.new }
     ensures buffers { parts.new.buffers ≡ parts.old.buffers }
     ensures spare { parts.old.resident.spare ≤ parts.new.resident.spare }
+    ensures rows { parts.new.objects.rows ≡ parts.old.objects.rows }
     ensures answered { IfOk result (λ woken. AnswerEffects host object (Zeroed page) woken parts.old parts.new log.old.items log.new.items) }
     ensures err { OnErr result ((parts.new ≡ parts.old) × (log.new.items ≡ log.old.items)) }
     ensures succeeds { 0 < log.old.room → IsOk result }
+    ensures room { log.old.room ≤ log.new.room + 1 }
 {
     let key = PageKey { object, page };
     log.push(Event::Zeroed { host, object, page })?;
@@ -164,19 +170,23 @@ fn zero(
 }
 
 // The pager of a temporary object doesn't have a page.
-fn lack(parts: &mut HostParts, object: ObjectId, page: PageNo) -> Woken
+fn lack(parts: &mut HostParts, object: ObjectId, page: PageNo) -> Result<Woken, NoMemory>
     requires fit { Fit parts.old }
     requires asked { IsSomeAnd (row_at parts.old.resident object.0 page.0) (λ was. was.here ≡ false) }
     ensures fit { Fit parts.new }
     ensures buffers { parts.new.buffers ≡ parts.old.buffers }
     ensures spare { parts.old.resident.spare ≤ parts.new.resident.spare }
-    ensures answered { (host : HostId) (events : List Event) →
-        AnswerEffects host object (Lacked page) result parts.old parts.new events events }
+    ensures rows { parts.new.objects.rows ≡ parts.old.objects.rows }
+    ensures answered { IfOk result (λ woken. (host : HostId) (events : List Event) →
+        AnswerEffects host object (Lacked page) woken parts.old parts.new events events) }
+    ensures err { OnErr result (parts.new ≡ parts.old) }
+    ensures succeeds { 0 < parts.old.objects.marks → IsOk result }
 {
+    parts.objects.reserve_marks(1)?;
     let key = PageKey { object, page };
     parts.cancel(key);
     parts.objects.note_absent(key);
-    Woken::Page { key }
+    Ok(Woken::Page { key })
 }
 
 // The pager can't give a page.
@@ -186,6 +196,7 @@ fn fail(parts: &mut HostParts, object: ObjectId, page: PageNo) -> Woken
     ensures fit { Fit parts.new }
     ensures buffers { parts.new.buffers ≡ parts.old.buffers }
     ensures spare { parts.old.resident.spare ≤ parts.new.resident.spare }
+    ensures rows { parts.new.objects.rows ≡ parts.old.objects.rows }
     ensures answered { (host : HostId) (events : List Event) →
         AnswerEffects host object (Failed page) result parts.old parts.new events events }
 {

@@ -3,7 +3,7 @@ use Rattle.vm_system.proofs.Common.{Event, Header, List, Outside}
 use Rattle.vm_hosts.proofs.Tables.{kernel_of}
 use Rattle.vm_hosts.specs.Hosts.{AllQueued, AllRest, HostTable}
 use Rattle.vm_kernel.proofs.Sleeping.{none_sleeps}
-use Rattle.vm_legal.specs.InTurn.{ComesToPage, NoneSleeps}
+use Rattle.vm_legal.specs.InTurn.{NoneSleeps}
 use Rattle.vm_legal.specs.Licences.{HasCause}
 use Rattle.vm_model.specs.Moments.{EachEvent}
 use Rattle.vm_returned.proofs.Returned.{only_returned}

@@ -105,8 +105,8 @@ told_asked header outside doing line asked events hosts s stands says went =
 
 -- the system stands for what was told
 pub stands_told : (header : Header) (outside : Outside) (line : ℕ) (events : List Event) (hosts : HostTable) (old new : State) → SystemStands header outside old → IsTold header outside line events hosts old
-    → SameHosts (record old { hosts = hosts }) new → Posts new new.history.items → new.history.items ≡ events ++ event.Line line ∷ old.history.items → SystemStands header outside new
-stands_told header outside line events hosts old new stands told same posts grown =
+    → SameHosts (record old { hosts = hosts; log = new.log }) new → Posts new new.history.items → new.history.items ≡ events ++ event.Line line ∷ old.history.items → new.log.items ≡ [] → SystemStands header outside new
+stands_told header outside line events hosts old new stands told same posts grown none =
     let h = old.history.items in
     let past = event.Line line ∷ h in
     let agrees = stands.agrees in
@@ -118,9 +118,9 @@ stands_told header outside line events hosts old new stands told same posts grow
       queues = rw (grown, same.hosts) told.queues;
       agrees = record {
         size = same.size ∙ agrees.size;
-        declared = same_declared (record old { hosts = hosts }) new same ∙ agrees.declared;
-        pagers = rw (grown, same_pagers (record old { hosts = hosts }) new same) serve;
-        files = rw (grown, same_files (record old { hosts = hosts }) new same) filed;
+        declared = same_declared (record old { hosts = hosts; log = new.log }) new same ∙ agrees.declared;
+        pagers = rw (grown, same_pagers (record old { hosts = hosts; log = new.log }) new same) serve;
+        files = rw (grown, same_files (record old { hosts = hosts; log = new.log }) new same) filed;
         server = rw (grown, same.server) (server_more header old.server events past told.silent (server_other header old.server (event.Line line) h tt agrees.server));
         posts = posts;
         orderly = rw grown told.orderly;
@@ -129,15 +129,16 @@ stands_told header outside line events hosts old new stands told same posts grow
       paid = rw grown (paid_inner header line h events told.inner (all_settled header hosts (events ++ past) told.rests));
       served = rw grown (served_more header events past told.silent (served_other header (event.Line line) h tt stands.served));
       recalled = rw grown (recalled_more header events past told.silent (recalled_other header (event.Line line) h tt stands.recalled));
+      log = none;
     }
 
 -- the step of a command is what was told behind the line
 pub makes_told : (header : Header) (outside : Outside) (numbered : Numbered) (events : List Event) (hosts : HostTable) (old new : State) → SystemStands header outside old → IsTold header outside numbered.line events hosts old
     → KeepsCanonical header outside numbered old.history.items (events ++ event.Line numbered.line ∷ old.history.items)
     → (Prompt header old.history.items → Prompt header (events ++ event.Line numbered.line ∷ old.history.items))
-    → SameHosts (record old { hosts = hosts }) new → Posts new new.history.items → new.history.items ≡ events ++ event.Line numbered.line ∷ old.history.items → Makes header outside numbered old new
-makes_told header outside numbered events hosts old new stands told legal prompt same posts grown = record {
-  stands = stands_told header outside numbered.line events hosts old new stands told same posts grown;
+    → SameHosts (record old { hosts = hosts; log = new.log }) new → Posts new new.history.items → new.history.items ≡ events ++ event.Line numbered.line ∷ old.history.items → new.log.items ≡ [] → Makes header outside numbered old new
+makes_told header outside numbered events hosts old new stands told legal prompt same posts grown none = record {
+  stands = stands_told header outside numbered.line events hosts old new stands told same posts grown none;
   legal = rw grown legal;
   prompt = λ before. rw grown (prompt before);
   grew = grew_begun numbered.line events old.history.items new.history.items grown told.inner;
@@ -177,15 +178,19 @@ spares_by header outside events old new spared pagers files grown = record {
 }
 
 -- so it is with what was told behind a line
-pub spares_told : (header : Header) (outside : Outside) (line : ℕ) (events : List Event) (hosts : HostTable) (old new : State) → IsTold header outside line events hosts old → SameHosts (record old { hosts = hosts }) new
+pub spares_told : (header : Header) (outside : Outside) (line : ℕ) (events : List Event) (hosts : HostTable) (old new : State) → IsTold header outside line events hosts old → SameHosts (record old { hosts = hosts; log = new.log }) new
     → new.history.items ≡ events ++ event.Line line ∷ old.history.items → Spares header outside old new
 spares_told header outside line events hosts old new told same grown =
-    spares_by header outside (events ++ event.Line line ∷ []) old new (of_both IsSpared events (event.Line line ∷ []) told.spared (tt, tt)) (same_pagers (record old { hosts = hosts }) new same) (same_files (record old { hosts = hosts }) new same)
+    spares_by header outside (events ++ event.Line line ∷ []) old new (of_both IsSpared events (event.Line line ∷ []) told.spared (tt, tt)) (same_pagers (record old { hosts = hosts; log = new.log }) new same) (same_files (record old { hosts = hosts; log = new.log }) new same)
     (grown ∙ sym (append_assoc events (event.Line line ∷ []) old.history.items))
 
--- nothing was told
-pub spares_same : (header : Header) (outside : Outside) (hosts : HostTable) (old new : State) → SameHosts (record old { hosts = hosts }) new → new.history.items ≡ old.history.items → Spares header outside old new
-spares_same header outside hosts old new same items = spares_by header outside [] old new tt (same_pagers (record old { hosts = hosts }) new same) (same_files (record old { hosts = hosts }) new same) items
+-- the log is what it was
+
+pub logged : (old new : State) → SameHosts old new → SameHosts (record old { log = new.log }) new
+logged old new same = record { size = same.size; hosts = same.hosts; pagers = same.pagers; declared = same.declared; files = same.files; server = same.server; log = refl }
+
+empty_log : (header : Header) (outside : Outside) (old new : State) → SystemStands header outside old → SameHosts old new → new.log.items ≡ []
+empty_log header outside old new stands same = rw same.log stands.log
 
 -- the code of a refusal, or nothing, follows the line
 
@@ -209,7 +214,7 @@ pub makes_refused : (header : Header) (outside : Outside) (numbered : Numbered) 
 makes_refused header outside numbered why old new stands refused same posts grown =
     makes_told header outside numbered (event.Refused why ∷ []) old.hosts old new stands (told_code header outside numbered.command why numbered.line old stands)
     (legal_refused header outside numbered why old.history.items (none_temporary header stands.built.ranged) refused)
-    (λ prompt. prompt_code header why (event.Line numbered.line ∷ old.history.items) (prompt_line header numbered.line old.history.items prompt)) same posts grown
+    (λ prompt. prompt_code header why (event.Line numbered.line ∷ old.history.items) (prompt_line header numbered.line old.history.items prompt)) (logged old new same) posts grown (empty_log header outside old new stands same)
 
 pub told_none : (header : Header) (outside : Outside) (doing : Command) (line : ℕ) (s : State) → SystemStands header outside s → IsTold header outside line [] s.hosts s
 told_none header outside doing line s stands =
@@ -220,12 +225,12 @@ pub makes_lined : (header : Header) (outside : Outside) (line count : ℕ) (old 
     → new.history.items ≡ event.Line line ∷ old.history.items → Makes header outside (record { line = line; command = command.Settle count }) old new
 makes_lined header outside line count old new stands same posts grown =
     makes_told header outside (record { line = line; command = command.Settle count }) [] old.hosts old new stands (told_none header outside (command.Settle count) line old stands)
-    (legal_settle header outside line count old.history.items (none_temporary header stands.built.ranged)) (λ prompt. prompt_line header line old.history.items prompt) same posts grown
+    (legal_settle header outside line count old.history.items (none_temporary header stands.built.ranged)) (λ prompt. prompt_line header line old.history.items prompt) (logged old new same) posts grown (empty_log header outside old new stands same)
 
 -- parts that are as they were are so behind two calls
 pub same_hosts : (old mid new : State) → SameHosts old mid → SameHosts mid new → SameHosts old new
 same_hosts old mid new one two =
-    record { size = two.size ∙ one.size; hosts = two.hosts ∙ one.hosts; pagers = two.pagers ∙ one.pagers; declared = two.declared ∙ one.declared; files = two.files ∙ one.files; server = two.server ∙ one.server }
+    record { size = two.size ∙ one.size; hosts = two.hosts ∙ one.hosts; pagers = two.pagers ∙ one.pagers; declared = two.declared ∙ one.declared; files = two.files ∙ one.files; server = two.server ∙ one.server; log = two.log ∙ one.log }
 
 -- one event more on top of a history
 pub one_more : (e : Event) (h old new : List Event) → old ≡ h → new ≡ e ∷ old → new ≡ e ∷ h

@@ -1,5 +1,5 @@
 -- What a file's pager says for a clean.
-use Rattle.vm_system.proofs.Common.{AllInner, AllInTurn, Bool, CanTellAll, CleanEvents, Command, EachIn, EachOf, Event, FileTable, FramesSuffice, Header, IsKnownAs, IsNobodys, IsOrderly, Known, KnownControl, List, MakesNoControl, MomentsIn, None, ObjectId, Option, Outside, OwnBytes, PageNo, Some, State, SystemStands, [], ap, arith, clean_head, false, head, home_for, inl, inr, is_file, is_idle, is_made, is_paged, known_below, known_control, length, named, nat_lt, none-some, not, or_known, refl, reverse, same_Some, slice_get, subst, suc, sym, true, up, zero, ℕ, ◌++◌, ◌<◌, ◌||◌, ◌∙◌, ◌∷◌, ◌≡◌, ◌⊎◌, is_shared, refusal, code_where, declared_pages, ◌==◌, ◌+◌}
+use Rattle.vm_system.proofs.Common.{AllInner, AllInTurn, Bool, CanTellAll, CleanEvents, Command, EachIn, EachOf, Event, FileTable, FramesSuffice, Header, IsKnownAs, IsNobodys, IsOrderly, Known, KnownControl, List, MakesNoControl, MomentsIn, None, ObjectId, Option, Outside, OwnBytes, PageNo, Some, State, SystemStands, [], ap, arith, clean_head, false, head, home_for, inl, inr, is_file, is_made, is_paged, known_below, known_control, length, nat_lt, none-some, not, or_known, refl, reverse, same_Some, slice_get, subst, suc, sym, true, up, zero, ℕ, ◌++◌, ◌<◌, ◌||◌, ◌∙◌, ◌∷◌, ◌≡◌, ◌≤◌, ◌⊎◌, refusal, code_where, declared_pages, ◌==◌, ◌+◌}
 use Rattle.vm_base.specs.declared.code.Code.TheVariants as code
 use Rattle.vm_legal.proofs.Served.{paged_sends}
 use Rattle.vm_legal.proofs.Unshared.{file_unshared}
@@ -133,3 +133,9 @@ cleaned_file header past object page count flush accepted = by (is_file header o
     by : (b c : Bool) → code_where (not b || c) code.InvalidArgument None ≡ None → b ≡ true
     by true c accepted = refl
     by false c accepted = absurd (let bad : Some code.InvalidArgument ≡ None = accepted in cc)
+
+-- what is asked is one event at most
+
+pub clean_few : (known : Option KnownControl) (object : ℕ) (page : PageNo) (count : ℕ) (flush : Bool) (events : List Event) → CleanEvents known object page count flush events → length events ≤ 1
+clean_few None object page count flush events is = rw is (omega arith)
+clean_few (Some control) object page count flush events is = rw is (omega arith)

@@ -41,7 +41,7 @@ pub use Rattle.vm_flat.proofs.Loads.{answers}
 pub use Rattle.vm_hosts.proofs.Nobodys.{MakesNoControl, all_lined, all_nobodys, all_refused, queued_lined, queued_refused}
 pub use Rattle.vm_hosts.proofs.Stretches.{stretch_none}
 pub use Rattle.vm_hosts.proofs.Tables.{all_suffice, common_all}
-pub use Rattle.vm_hosts.specs.Hosts.{AllQueued, AllRest, HostTable}
+pub use Rattle.vm_hosts.specs.Hosts.{AllQueued, AllRest, HostTable, IsReady}
 pub use Rattle.vm_hosts.specs.Steps.{Began, Going, HostsPart, Step, Stretch, Went}
 pub use Rattle.vm_kernel.proofs.Growing.{paid_of}
 pub use Rattle.vm_kernel.specs.Abroad.{IsNobodys}
@@ -107,13 +107,13 @@ pub use Rattle.vm_system.specs.Keeping.{FilesAreTold, FilesCarry, MayHave}
 pub use Rattle.vm_system.specs.Lawful.{Lawful}
 pub use Rattle.vm_system.specs.Making.{Makes, Spares, SparesFiles, SparesPaging}
 pub use Rattle.vm_system.specs.Orderly.{AllLetters, Ending, EndsLast, HasHeard, HasMade, IsHeard, IsHome, IsHostLetter, IsOrderly, IsSharedWord, IsWordUp, NoEnd, home_for, is_end, is_washed, stands_in, washed_in}
-pub use Rattle.vm_system.specs.Posts.{AreSame, CanSend, CanTell, CanTellAll, HasRoom, Posts, SameHosts}
-pub use Rattle.vm_system.specs.Refusing.{channel_code, code_at}
+pub use Rattle.vm_system.specs.Posts.{AreSame, CanSend, CanTell, CanTellAll, HasRoom, HavePagesOf, IsPrepared, IsSent, OnlyRoom, Posts, SameHosts}
+pub use Rattle.vm_system.specs.Refusing.{channel_code, code_at, queue_code}
 pub use Rattle.vm_system.specs.Sends.{AreFresh, Delivered, made_by, opened}
 pub use Rattle.vm_system.specs.Settling.{DevicesCounted, StaysOpen}
-pub use Rattle.vm_system.specs.Stands.{Agrees, AllFilesServe, AllServe, AllTold, AreEmpty, AreNamedApart, AreNumbered, FilesAreKept, IsServable, PagingIsKept, SystemStands}
-pub use Rattle.vm_system.specs.Steps.{DevicesHaveCause, EndsCut, GrowsWithinLimit, HasMore, IsBelowLimit, IsMemoryStop, KeepsCanonical, KeepsOpen, LeavesBacking, CanonicalCut, CanonicalOpen, MayBegin, MayCut, MayCutOpen, arms, devices, is_device, is_idle, is_kept_in, lined, settles, takes_any, takes_up, took_any, took_up}
-pub use Rattle.vm_system.specs.Takings.{Followed, MayBeCut, MayTakeFrom, PagerHasAnswered, TakesStep, Took}
+pub use Rattle.vm_system.specs.Stands.{Agrees, AllFilesServe, AllServe, AllTold, AreEmpty, AreNamedApart, AreNumbered, FilesAreKept, IsServable, PagingIsKept, StandsStill, SystemStands}
+pub use Rattle.vm_system.specs.Steps.{DevicesHaveCause, GrowsWithinLimit, HasMore, IsBelowLimit, KeepsCanonical, KeepsOpen, LeavesBacking, CanonicalOpen, MayBegin, arms, devices, is_device, is_idle, is_kept_in, lined, settles, takes_any, takes_up, took_up}
+pub use Rattle.vm_system.specs.Takings.{Followed, MayTakeFrom, PagerHasAnswered, TakesStep, Took}
 pub use Rattle.vm_system.specs.declared.state.State.{State}
 pub use Rattle.vm_system.specs.declared.stop.SystemStop.{SystemStop}
 pub use Rattle.vm_system.specs.declared.stop.SystemStop.TheVariants.{EventLimit, NoMemory}

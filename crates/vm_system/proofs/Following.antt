@@ -117,8 +117,8 @@ can_follow given host washed old hosts events answered passed =
 -- and is told
 pub followed : (given : Going) (host : HostId) (washed : Bool) (old new : State) (events : List Event) → PagerHasAnswered given host washed old
     → HostsPart given.header given.outside given.command (given.front ++ given.past) new.hosts events → new.size ≡ old.size → new.pagers.items ≡ old.pagers.items → new.files.items ≡ old.files.items → new.declared.items ≡ old.declared.items
-    → new.server ≡ old.server → new.history.items ≡ events ++ old.history.items → Posts new new.history.items → Followed given new
-followed given host washed old new events answered passed size pagers files declared server items posts =
+    → new.server ≡ old.server → new.history.items ≡ events ++ old.history.items → Posts new new.history.items → new.log.items ≡ [] → Followed given new
+followed given host washed old new events answered passed size pagers files declared server items posts none =
     let past = given.front ++ given.past in
     let header = given.header in
     let stretch = passed.follows.stretch in
@@ -145,6 +145,7 @@ followed given host washed old new events answered passed size pagers files decl
         paid = rw now (paid_more header events past stretch.inner owed (all_settled header new.hosts (events ++ past) passed.ended.rests));
         served = rw now (served_more header events past (others_said header events past stretch.said) served);
         recalled = rw now (recalled_more header events past (others_said header events past stretch.said) recalled);
+        log = none;
       };
       more = events;
       is = now;

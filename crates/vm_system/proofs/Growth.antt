@@ -1,5 +1,5 @@
 -- A step makes the history longer, and begins where it may.
-use Rattle.vm_system.proofs.Common.{AllInner, Bool, Device, Event, GrowsWithinLimit, IsBelowLimit, IsInner, List, MayBeCut, MayBegin, None, Option, Some, Step, TakesStep, [], ap, append_assoc, arith, before_last_line, before_more, before_step, devices, false, if◌then◌else◌, inl, inr, is_device, length, length-append, lined, most_events, refl, steps_whole, subst, sym, takings, takings_more, true, ℕ, ◌++◌, ◌+◌, ◌<◌, ◌∙◌, ◌∷◌, ◌≡◌, ◌≤◌}
+use Rattle.vm_system.proofs.Common.{AllInner, Bool, Device, Event, GrowsWithinLimit, IsBelowLimit, IsInner, List, MayBegin, None, Option, Some, Step, TakesStep, [], ap, append_assoc, arith, before_last_line, before_more, before_step, devices, false, if◌then◌else◌, inl, inr, is_device, length, lined, most_events, refl, steps_whole, subst, sym, takings, takings_more, true, ℕ, ◌++◌, ◌+◌, ◌<◌, ◌∙◌, ◌∷◌, ◌≡◌, ◌≤◌}
 use Rattle.vm_model.specs.declared.event.Event.TheVariants as event
 
 -- what stands in front of a line, or of a step, is the same behind events inside it
@@ -58,26 +58,6 @@ line_taken given line old new step past =
 
 pub takings_taken : (given : Step) (new : List Event) → TakesStep given new → takings new ≡ takings given.past + 1
 takings_taken given new step = ap takings step.is ∙ takings_more step.more (event.Taken step.channel step.m ∷ given.past) step.inner
-
--- whole or cut
-pub grew_cut : (given : Step) (line : Option ℕ) (old new : List Event) → MayBeCut given old new → given.past ≡ lined line old → GrowsWithinLimit old new
-grew_cut given line old new (inl same) past = grew_none old new same
-grew_cut given line old new (inr step) past = grew_taken given line old new step past
-
--- so it isn't what it was
-
-lined_long : (line : Option ℕ) (old : List Event) → length old ≤ length (lined line old)
-lined_long None old = omega arith
-lined_long (Some line) old = omega arith
-
-pub not_same : (line : Option ℕ) (events : List Event) (e : Event) (past old new : List Event) → past ≡ lined line old → new ≡ events ++ e ∷ past → new ≡ old → ⊥
-not_same line events e past old new front is same =
-    let long = lined_long line old in
-    let size : length past ≡ length (lined line old) = ap length front in
-    let grown : length new ≡ length (events ++ e ∷ past) = ap length is in
-    let more : length (events ++ e ∷ past) ≡ length events + length (e ∷ past) = length-append events (e ∷ past) in
-    let equal : length new ≡ length old = ap length same in
-    omega arith
 
 -- it grows further
 pub grew_more : (first old new : List Event) → GrowsWithinLimit first old → GrowsWithinLimit old new → length old < most_events → GrowsWithinLimit first new

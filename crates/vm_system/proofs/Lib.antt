@@ -23,6 +23,7 @@ pub mod Numbers
 pub mod Opening
 pub mod Posting
 pub mod Resting
+pub mod Roomed
 pub mod Sayings
 pub mod Sending
 pub mod Served

@@ -1,5 +1,5 @@
 -- A history stays legal with one message more taken.
-use Rattle.vm_system.proofs.Common.{AllInTurn, NoneIsTemporary, AllServed, AreSame, BeforeSteps, Channel, ChannelId, Command, EachEvent, EachIn, EachMoment, Event, FollowsSoFarInTurn, FramesSuffice, HasCause, HasMore, Header, Holds, IsConsequence, IsGroupInTurn, IsPaid, KeepsOpen, CanonicalOpen, Letter, List, MayBeCut, MayCutOpen, MayTakeFrom, Message, None, Numbered, Outside, OwnBytes, Prompt, Some, State, Step, SystemStands, TakesStep, Took, [], ap, append-nil, append_assoc, channel_number, channel_of_first, each_both, each_whole, false, inl, inr, is_some, licensed_both, messages_on, moments_whole, oldest_channel, queue, queue_is, refl, so_far, steps_whole, subst, sym, takings, takings_more, true, undelivered, ℕ, ◌++◌, ◌∙◌, ◌∷◌, ◌≡◌}
+use Rattle.vm_system.proofs.Common.{AllInTurn, NoneIsTemporary, AllServed, AreSame, BeforeSteps, Channel, ChannelId, Command, EachEvent, EachIn, EachMoment, Event, FollowsSoFarInTurn, FramesSuffice, HasCause, HasMore, Header, Holds, IsConsequence, IsGroupInTurn, IsPaid, KeepsOpen, CanonicalOpen, Letter, List, MayTakeFrom, None, Numbered, Outside, OwnBytes, Prompt, Some, State, Step, SystemStands, TakesStep, Took, [], ap, append-nil, append_assoc, channel_number, channel_of_first, each_both, each_whole, false, is_some, licensed_both, messages_on, moments_whole, oldest_channel, queue, queue_is, refl, so_far, steps_whole, subst, sym, takings, takings_more, true, undelivered, ℕ, ◌++◌, ◌∙◌, ◌∷◌, ◌≡◌}
 use Rattle.vm_model.specs.declared.command.Command.TheVariants as command
 use Rattle.vm_model.specs.declared.event.Event.TheVariants as event
 use Rattle.vm_ports.specs.Ports.{oldest as oldest_on}
@@ -8,8 +8,7 @@ use Rattle.vm_system.proofs.Numbers.{is_same}
 use Rattle.vm_system.proofs.Sharing.{none_temporary, writers as one_writer}
 use Rattle.vm_shared.proofs.Pages.{legal as pages_legal}
 use Rattle.vm_system.proofs.Legal.{flat_of}
-use Rattle.vm_legal.proofs.Turns.{cut_in_turn, so_far_of as weak_so_far}
-use Rattle.vm_legal.specs.Follows.{FollowsSoFar}
+use Rattle.vm_legal.proofs.Turns.{so_far_of as weak_so_far}
 use Rattle.vm_legal.specs.InTurn.{AllRecalled, StepIsInTurn}
 use Rattle.vm_system.proofs.Awake.{awake_of}
 
@@ -117,20 +116,6 @@ keeps_open header outside count s new stands took line run legal =
       more = ap takings step.is ∙ takings_more step.more (event.Taken step.channel step.m ∷ s.history.items) step.inner;
     }
 
-pub cuts_open : (header : Header) (outside : Outside) (count : ℕ) (s : State) (new : List Event) → SystemStands header outside s → MayBeCut (settling header outside count s.history.items) s.history.items new → MayCutOpen header outside (command.Settle count) s.history.items new
-cuts_open header outside count s new stands (inl same) = inl same
-cuts_open header outside count s new stands (inr step) = inr (λ line run legal.
-    let given = settling header outside count s.history.items in
-    let numbered : Numbered = record { line = line; command = command.Settle count } in
-    let follows : FollowsSoFarInTurn header outside (numbered ∷ run) new = follows_open header outside count line run s.history.items new step legal.follows in
-    let weak : FollowsSoFar header outside (numbered ∷ run) new = weak_so_far header outside (numbered ∷ run) new follows in
-    record {
-      follows = cut_in_turn header outside (numbered ∷ run) new follows;
-      holds = holds_taken given new step (so_far header outside (numbered ∷ run) new weak) (up_to_open header outside (numbered ∷ run) s stands legal);
-      ended = steps_taken (StepIsInTurn header) given new step (legal.last, legal.ended);
-      recalled = steps_taken (AllRecalled header) given new step (legal.recalls, legal.recalled);
-    })
-
 -- the oldest letter of all has its channel
 pub record Foremost (made : List Channel) (number : ChannelId) (letters : List Letter) : Type 0 where
   pub letter : Letter
@@ -138,13 +123,19 @@ pub record Foremost (made : List Channel) (number : ChannelId) (letters : List L
   pub is : letters ≡ letter ∷ more
   pub at : channel_number letter.channel made ≡ Some number.0
 
-foremost : (made : List Channel) (posted : List (Posted Message)) (letters : List Letter) (number : ChannelId) → AreSame made posted letters → oldest_on posted ≡ Some number → Foremost made number letters
-foremost made [] [] number same is = absurd (let bad : false ≡ true = ap is_some is in cc)
-foremost made [] (letter ∷ letters) number same is = absurd same
-foremost made (p ∷ posted) [] number same is = absurd same
-foremost made (p ∷ posted) (letter ∷ letters) number same is =
+foremost : (made : List Channel) (posted : List (Posted ℕ)) (letters : List Letter) (past : List Event) (number : ChannelId) → AreSame made posted letters past → oldest_on posted ≡ Some number → Foremost made number letters
+foremost made [] [] past number same is = absurd (let bad : false ≡ true = ap is_some is in cc)
+foremost made [] (letter ∷ letters) past number same is = absurd same
+foremost made (p ∷ posted) [] past number same is = absurd same
+foremost made (p ∷ posted) (letter ∷ letters) past number same is =
     let one : p.channel ≡ number = cc in
     record { letter = letter; more = letters; is = refl; at = same.0 ∙ ap (λ (z : ChannelId). Some z.0) one }
+
+-- where no letter stands in the ports, nothing is undelivered
+pub none_left : (made : List Channel) (posted : List (Posted ℕ)) (letters : List Letter) (past : List Event) → AreSame made posted letters past → posted ≡ [] → letters ≡ []
+none_left made [] [] past same none = refl
+none_left made [] (letter ∷ letters) past same none = absurd same
+none_left made (p ∷ posted) letters past same none = absurd (cc)
 
 first_on : (letter : Letter) (letters : List Letter) → messages_on letter.channel (letter ∷ letters) ≡ letter.message ∷ messages_on letter.channel letters
 first_on letter letters = rw (is_same letter.channel) refl
@@ -153,7 +144,7 @@ pub may_settle : (given : Step) (number : ChannelId) (s : State) → SystemStand
     → (channel : Channel) × MayTakeFrom given None number channel s
 may_settle given number s stands past more is =
     let items = s.history.items in
-    let f = foremost s.channels.made s.ports.letters (undelivered items) number stands.agrees.posts.letters is in
+    let f = foremost s.channels.made s.ports.letters (undelivered items) items number stands.agrees.posts.letters is in
     let channel = f.letter.channel in
     let ahead : oldest_channel given.past ≡ Some channel = ap oldest_channel past ∙ ap channel_of_first f.is in
     let queued : queue channel items ≡ f.letter.message ∷ messages_on channel f.more = queue_is channel items ∙ ap (λ (z : List Letter). messages_on channel z) f.is ∙ first_on f.letter f.more in (
@@ -175,10 +166,3 @@ keeps_settle given s new stands past more took =
     let same : Took (settling given.header given.outside more.count s.history.items) new = subst (λ (z : Command). Took (record { header = given.header; outside = given.outside; command = z; past = s.history.items }) new) more.is
     (subst (λ (z : List Event). Took (record { header = given.header; outside = given.outside; command = given.command; past = z }) new) past took) in
     subst (λ (z : Command). KeepsOpen given.header given.outside z s.history.items new.history.items) (sym more.is) (keeps_open given.header given.outside more.count s new stands same)
-
-pub cuts_settle : (given : Step) (s : State) (new : List Event) → SystemStands given.header given.outside s → given.past ≡ s.history.items → HasMore given.command s.history.items → MayBeCut given s.history.items new
-    → MayCutOpen given.header given.outside given.command s.history.items new
-cuts_settle given s new stands past more cut =
-    let same : MayBeCut (settling given.header given.outside more.count s.history.items) s.history.items new = subst (λ (z : Command). MayBeCut (record { header = given.header; outside = given.outside; command = z; past = s.history.items }) s.history.items new) more.is
-    (subst (λ (z : List Event). MayBeCut (record { header = given.header; outside = given.outside; command = given.command; past = z }) s.history.items new) past cut) in
-    subst (λ (z : Command). MayCutOpen given.header given.outside z s.history.items new) (sym more.is) (cuts_open given.header given.outside more.count s new stands same)

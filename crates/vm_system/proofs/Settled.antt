@@ -1,22 +1,11 @@
 -- A settle goes on being legal with each message that it takes.
-use Rattle.vm_system.proofs.Common.{Bool, Command, CountRises, Device, DevicesCounted, DevicesHaveCause, EndsCut, Err, Event, GrowsWithinLimit, Header, IsErrOf, KeepsOpen, CanonicalCut, CanonicalOpen, Letter, List, MayCutOpen, Numbered, Ok, Outside, StaysOpen, SystemStop, [], ap, arith, devices, false, inl, inr, length, most_events, refl, subst, sym, undelivered, ℕ, ◌+◌, ◌<◌, ◌∙◌, ◌∷◌, ◌≡◌, ◌≢◌, ◌≤◌, ◌⊎◌}
+use Rattle.vm_system.proofs.Common.{Bool, Command, CountRises, Device, DevicesCounted, DevicesHaveCause, Err, Event, GrowsWithinLimit, Header, IsErrOf, KeepsOpen, Letter, List, Ok, Outside, StaysOpen, SystemStop, [], ap, arith, devices, false, inl, inr, length, most_events, refl, subst, sym, undelivered, ℕ, ◌+◌, ◌<◌, ◌∙◌, ◌∷◌, ◌≡◌, ◌≢◌, ◌≤◌, ◌⊎◌}
 use Rattle.std.proofs.Common.{Result}
 use Rattle.vm_system.specs.declared.stop.SystemStop.TheVariants as stops
 use Rattle.vm_system.proofs.Growth.{devices_grow, grew_more}
-use Rattle.vm_legal.proofs.Turns.{cut_in_turn}
 
 pub stays_more : (header : Header) (outside : Outside) (doing : Command) (first old new : List Event) → StaysOpen header outside doing first old → KeepsOpen header outside doing old new → StaysOpen header outside doing first new
 stays_more header outside doing first old new stays keeps = λ line run legal. (keeps line run (stays line run legal)).so_far
-
--- what is legal so far is so where its last step may be cut
-pub may_be_cut : (header : Header) (outside : Outside) (run : List Numbered) (history : List Event) → CanonicalOpen header outside run history → CanonicalCut header outside run history
-may_be_cut header outside run history legal = record { follows = cut_in_turn header outside run history legal.follows; holds = legal.holds; ended = legal.ended; recalled = legal.recalled }
-
-pub cut_more : (header : Header) (outside : Outside) (doing : Command) (first old new : List Event) → StaysOpen header outside doing first old → MayCutOpen header outside doing old new → EndsCut header outside doing first new
-cut_more header outside doing first old new stays (inl same) = λ line run legal.
-    let commands : List Numbered = record { line = line; command = doing } ∷ run in
-    subst (λ (z : List Event). CanonicalCut header outside commands z) (sym same) (may_be_cut header outside commands old (stays line run legal))
-cut_more header outside doing first old new stays (inr cuts) = λ line run legal. cuts line run (stays line run legal)
 
 -- memory ends in a taking only where one may begin
 pub below_of : (result : Result Bool SystemStop) (letters : List Letter) (n : ℕ) → (letters ≡ [] → result ≡ Ok false) → ((most_events ≤ n) × (letters ≢ []) → result ≡ Err stops.EventLimit) → result ≡ Err stops.NoMemory
@@ -60,3 +49,8 @@ same_err {A} {E} x e is = let both : ◌≡◌ {A = Result A E} (Err x) (Err e) 
 
 pub other_err : {A B E : Type 0} (x e : E) → IsErrOf {T = A} (Err x) e → IsErrOf {T = B} (Err x) e
 other_err x e is = ap Err (same_err x e is)
+
+-- a step stops at the limit, or for want of memory
+pub by_stop : (stop : SystemStop) (result : Result Bool SystemStop) (P : Type 0) → result ≡ Err stop → (result ≡ Err stops.EventLimit → P) → (result ≡ Err stops.NoMemory → P) → P
+by_stop stops.EventLimit result P is full none = full is
+by_stop stops.NoMemory result P is full none = none is

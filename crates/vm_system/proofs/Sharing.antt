@@ -1,11 +1,11 @@
 -- What the laws of shared memory say of a system's history, and of the server that stands for it.
-use Rattle.vm_system.proofs.Common.{BeforeSteps, NoneIsTemporary, Bool, EachEvent, EachMoment, Event, HasCause, HasOneWriter, Header, IsPaid, List, MeetsProtocol, Message, ObjectId, Outside, OwnBytes, [], arith, false, is_shared, named, nat_lt, nat_tests, never, page_part, queue, refl, subst, sym, true, up, up_word, ℕ, ◌&&◌, ◌∷◌, ◌≡◌, first, if◌then◌else◌, AllServed, IsRanged, ap, kind_of, ◌≤◌, ◌==◌, ◌≢◌, ◌∙◌}
+use Rattle.vm_system.proofs.Common.{BeforeSteps, NoneIsTemporary, Bool, EachEvent, EachMoment, Event, HasCause, HasOneWriter, Header, IsPaid, List, MeetsProtocol, Message, ObjectId, Outside, OwnBytes, [], arith, false, is_shared, named, nat_lt, nat_tests, never, page_part, queue, refl, subst, sym, true, up, up_word, ℕ, ◌∷◌, ◌≡◌, first, if◌then◌else◌, AllServed, IsRanged, ap, kind_of, ◌≤◌, ◌==◌, ◌≢◌, ◌∙◌}
 use Rattle.vm_base.specs.declared.ids.ObjectKind.TheVariants as kinds
 use Rattle.vm_legal.specs.Outside.{kind_in}
 use Rattle.vm_model.proofs.Names.{each_declared}
 use Rattle.vm_model.specs.Named.{declared}
 use Rattle.vm_model.specs.declared.script.Declared.{Declared}
-use Rattle.std.proofs.Common.{Option, Some, None}
+use Rattle.std.proofs.Common.{Option, Some}
 use Rattle.vm_model.specs.Side.{side}
 use Rattle.vm_model.specs.Words.{Asking, Doing, OtherUp, Returning, Unlocking, in_range}
 use Rattle.vm_model.specs.declared.message.Message.TheVariants as message

@@ -1,6 +1,5 @@
 -- What a command that is no host's asks: what a file's pager says for a clean, and what a script says for a wild object.
-use Rattle.vm_system.proofs.Common.{Bool, Command, Event, clean_head, inl, inr, ◌≤◌, ◌⊎◌, HasPageOf, Header, HostId, IsWord, List, MakesNoControl, Message, None, ObjectId, Option, Outside, Some, arith, code_where, false, head, is_idle, is_none, is_some, is_wild, kind_of, known_below, length, live_control, never, not, refl, refusal, same_Some, subst, true, ℕ, [], ◌<◌, ◌∷◌, ◌≡◌}
-use Rattle.vm_base.specs.declared.code.Code.{Code}
+use Rattle.vm_system.proofs.Common.{Bool, Command, Event, clean_head, inl, inr, ◌≤◌, ◌⊎◌, HasPageOf, Header, HostId, IsWord, List, MakesNoControl, Message, None, ObjectId, Option, Outside, Some, arith, code_where, false, head, is_idle, is_none, is_wild, kind_of, known_below, length, live_control, never, not, refl, refusal, same_Some, subst, true, ℕ, [], ◌<◌, ◌∷◌, ◌≡◌}
 use Rattle.vm_base.specs.declared.code.Code.TheVariants as code
 use Rattle.vm_base.specs.declared.ids.ObjectKind.{ObjectKind}
 use Rattle.vm_base.specs.declared.ids.ObjectKind.TheVariants as kinds

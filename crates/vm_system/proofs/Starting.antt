@@ -28,12 +28,14 @@ pub record IsNew (header : Header) (s : State) : Type 0 where
   pub made : s.channels.made ≡ []
   pub buffers : s.buffers ≡ record { size = s.size; count = 0 }
   pub history : s.history.items ≡ []
+  pub log : s.log.items ≡ []
 
 new_posts : (header : Header) (s : State) → IsNew header s → Posts s s.history.items
 new_posts header s new = record {
   channels = λ c. rw (new.made, new.history) refl;
   count = rw (new.made, new.channels) refl;
   letters = rw (new.letters, new.history) tt;
+  pages = rw new.history tt;
   buffers = rw new.buffers refl;
 }
 
@@ -58,6 +60,7 @@ new_stands header outside s new = record {
   paid = rw new.history (paid_start header);
   served = rw new.history (served_start header);
   recalled = rw new.history (recalled_start header);
+  log = new.log;
 }
 
 -- an empty table fits where nothing was stored
@@ -99,12 +102,12 @@ last_cases (y ∷ xs) last x zero is = inl is
 last_cases (y ∷ xs) last x (suc n) is = elim (last_cases xs last x n is) [ inl was ↦ inl was | inr end ↦ inr (ap (λ (k : ℕ). suc k) end.0, end.1) ]
 
 -- one of them is still there
-last_before : {A : Type 0} (xs : List A) (last x : A) (n : ℕ) → slice_get xs n ≡ Some x → slice_get (xs ++ last ∷ []) n ≡ Some x
+pub last_before : {A : Type 0} (xs : List A) (last x : A) (n : ℕ) → slice_get xs n ≡ Some x → slice_get (xs ++ last ∷ []) n ≡ Some x
 last_before [] last x n is = absurd (none-some x is)
 last_before (y ∷ xs) last x zero is = is
 last_before (y ∷ xs) last x (suc n) is = last_before xs last x n is
 
-last_there : {A : Type 0} (xs : List A) (last : A) → slice_get (xs ++ last ∷ []) (length xs) ≡ Some last
+pub last_there : {A : Type 0} (xs : List A) (last : A) → slice_get (xs ++ last ∷ []) (length xs) ≡ Some last
 last_there [] last = refl
 last_there (x ∷ xs) last = last_there xs last
 

@@ -1,62 +1,18 @@
 -- A message is taken: what stands in front of that, and its cause.
-use Rattle.vm_system.proofs.Common.{AllFilesServe, AllInner, AllInTurn, AllQueued, AllRest, AllServe, AllServed, AreSame, Bool, Channel, ChannelId, Command, Device, Down, EachIn, Event, FileTable, FilesCarry, FramesSuffice, Gives, Header, HostTable, IfSome, IsConsequence, IsServable, IsOrderly, IsPaid, Lawful, Letter, LicensedInTurn, List, MayTake, MayTakeFrom, Message, MomentsIn, None, Option, Outside, OwnBytes, ServerStands, ServerTable, SlotTable, Some, State, Step, TakesStep, Told, Up, [], all_lined, all_suffice, ap, arith, change_where, channel_number, content_of, devices, each_both, false, first, frames_after, frames_held, frames_used, if◌then◌else◌, is_channel, is_control, length, licensed_both, lined, live_control, local, messages_on, moments_both, nat_tests, owed, queue, queue_is, queued_lined, refl, reverse, same_channel, slice_get, subst, suc, sym, taken_down_change, taken_up_change, true, undelivered, zero, ℕ, ◌++◌, ◌<◌, ◌∙◌, ◌∷◌, ◌≡◌, ◌≤◌}
+use Rattle.vm_system.proofs.Common.{AllFilesServe, AllInner, AllInTurn, AllQueued, AllRest, AllServe, AllServed, Bool, Channel, ChannelId, Command, Device, Down, EachIn, Event, FileTable, FilesCarry, FramesSuffice, Gives, Header, HostTable, IfSome, IsConsequence, IsServable, IsOrderly, IsPaid, IsSent, Lawful, LicensedInTurn, List, MayTake, MayTakeFrom, Message, MomentsIn, None, Option, Outside, OwnBytes, ServerStands, ServerTable, SlotTable, Some, State, Step, TakesStep, Told, Up, [], all_lined, all_suffice, ap, arith, change_where, content_of, devices, each_both, false, first, frames_after, frames_held, frames_used, is_control, length, licensed_both, lined, live_control, local, moments_both, owed, queue, queued_lined, refl, reverse, slice_get, subst, suc, sym, taken_down_change, taken_up_change, true, zero, ℕ, ◌++◌, ◌<◌, ◌∙◌, ◌∷◌, ◌≡◌, ◌≤◌}
 use Rattle.vm_legal.proofs.Owing.{behind_none}
 use Rattle.std.proofs.Common.{◌==◌, ◌&&◌}
 use Rattle.vm_model.specs.declared.event.Event.TheVariants as event
 use Rattle.vm_model.specs.declared.message.Message.TheVariants as message
 use Rattle.vm_ports.specs.Ports.{queue as queue_on}
-use Rattle.vm_ports.specs.declared.letter.Letter.{Letter as Posted}
 use Rattle.vm_system.proofs.Agreeing.{carry_other, files_other, serve_other}
 use Rattle.sms_server.proofs.Acting.{others_recall as recalled_other, others_serve as served_other, others_stand as server_other}
 use Rattle.vm_system.proofs.Lawfulness.{lawful_line}
 use Rattle.vm_system.proofs.Silent.{all_settled, paid_inner}
 use Rattle.vm_system.proofs.Letters.{orderly_line}
 use Rattle.vm_system.proofs.Numbers.{number_read}
+use Rattle.vm_system.proofs.Sending.{AreQueued, queue_same, queued_first, queued_none, sent_one}
 use Rattle.vm_legal.specs.InTurn.{AllRecalled}
-
--- the numbers of channels
-
-itself : (n : ℕ) → (n == n) ≡ true
-itself n = grind (arith, nat_tests)
-
-pub is_itself : (c : Channel) → is_channel c c ≡ true
-is_itself (Up host object) = rw (itself host.0, itself object.0) refl
-is_itself (Down host object control) = rw (itself host.0, itself object.0, itself control) refl
-
--- two channels with one number are the same
-same_number : (c d : Channel) (made : List Channel) (n : ℕ) → channel_number c made ≡ Some n → channel_number d made ≡ Some n → d ≡ c
-same_number c d made n one two =
-    let both : Some d ≡ Some c = sym (number_read d made n two) ∙ number_read c made n one in
-    cc
-
--- the letters of a number are those of its channel
-pub posted_queue : (made : List Channel) (posted : List (Posted Message)) (letters : List Letter) (c : Channel) (n : ℕ) → channel_number c made ≡ Some n → AreSame made posted letters → queue_on n posted ≡ messages_on c letters
-posted_queue made [] [] c n is same = refl
-posted_queue made [] (letter ∷ letters) c n is same = absurd same
-posted_queue made (p ∷ posted) [] c n is same = absurd same
-posted_queue made (p ∷ posted) (letter ∷ letters) c n is same = by (p.channel.0 == n) (is_channel c letter.channel) refl refl (posted_queue made posted letters c n is same.2)
-  where
-    by : (a b : Bool) → (p.channel.0 == n) ≡ a → is_channel c letter.channel ≡ b → queue_on n posted ≡ messages_on c letters
-        → (if a then p.message ∷ queue_on n posted else queue_on n posted) ≡ (if b then letter.message ∷ messages_on c letters else messages_on c letters)
-    by true true here there rest = ap (λ (z : Message). z ∷ queue_on n posted) same.1 ∙ ap (λ (z : List Message). letter.message ∷ z) rest
-    by false false here there rest = rest
-    by true false here there rest =
-        let at : p.channel.0 ≡ n = grind (arith, nat_tests, here) in
-        let on : letter.channel ≡ c = same_number c letter.channel made n is (same.0 ∙ ap (λ (z : ℕ). Some z) at) in
-        absurd (let bad : true ≡ false = sym (is_itself c) ∙ ap (λ (z : Channel). is_channel c z) (sym on) ∙ there in cc)
-    by false true here there rest =
-        let on : letter.channel ≡ c = same_channel c letter.channel there in
-        let equal : Some p.channel.0 ≡ Some n = sym same.0 ∙ ap (λ (z : Channel). channel_number z made) on ∙ is in
-        let at : p.channel.0 ≡ n = cc in
-        absurd (let bad : true ≡ false = sym (itself n) ∙ ap (λ (z : ℕ). z == n) (sym at) ∙ here in cc)
-
-pub head_is : (made : List Channel) (posted : List (Posted Message)) (c : Channel) (n : ℕ) (past : List Event) → channel_number c made ≡ Some n → AreSame made posted (undelivered past) → queue_on n posted ≡ queue c past
-head_is made posted c n past is same = posted_queue made posted (undelivered past) c n is same ∙ sym (queue_is c past)
-
--- the first of a list is what stands at its place 0
-pub first_at : {A : Type 0} → (xs : List A) → slice_get xs 0 ≡ first xs
-first_at [] = refl
-first_at (x ∷ xs) = refl
 
 -- a line in front changes nothing
 
@@ -226,18 +182,31 @@ pub front_carry : (given : Step) (line : Option ℕ) (number : ChannelId) (chann
 front_carry given line number channel s may start areas carry = rw may.past (carry_lined given.header start areas line s.history.items carry)
 
 -- the channel's queue is that of its number
-may_queue : (given : Step) (line : Option ℕ) (number : ChannelId) (channel : Channel) (s : State) → MayTakeFrom given line number channel s → queue_on number.0 s.ports.letters ≡ queue channel s.history.items
-may_queue given line number channel s may = head_is s.channels.made s.ports.letters channel number.0 s.history.items may.made may.stands.agrees.posts.letters
+may_queue : (given : Step) (line : Option ℕ) (number : ChannelId) (channel : Channel) (s : State) → MayTakeFrom given line number channel s
+    → AreQueued channel (queue_on number.0 s.ports.letters) (queue channel s.history.items) s.history.items
+may_queue given line number channel s may = queue_same s.channels.made s.ports.letters channel number.0 s.history.items may.stands.agrees.posts.letters may.made
 
 pub may_some : (given : Step) (line : Option ℕ) (number : ChannelId) (channel : Channel) (s : State) → MayTakeFrom given line number channel s → queue_on number.0 s.ports.letters ≡ [] → ⊥
-may_some given line number channel s may none = may.some (sym (may_queue given line number channel s may) ∙ none)
+may_some given line number channel s may none =
+    may.some (queued_none channel (queue_on number.0 s.ports.letters) (queue channel s.history.items) s.history.items (may_queue given line number channel s may) none)
 
-pub may_head : (given : Step) (line : Option ℕ) (number : ChannelId) (channel : Channel) (m : Message) (s : State) → MayTakeFrom given line number channel s → slice_get (queue_on number.0 s.ports.letters) 0 ≡ Some m
-    → first (queue channel given.past) ≡ Some m
-may_head given line number channel m s may head =
+-- the message in front, by the index of its event
+may_first : (given : Step) (line : Option ℕ) (number : ChannelId) (channel : Channel) (index : ℕ) (s : State) → MayTakeFrom given line number channel s → slice_get (queue_on number.0 s.ports.letters) 0 ≡ Some index
+    → (m : Message) × (first (queue channel s.history.items) ≡ Some m) × IsSent s.history.items index channel m
+may_first given line number channel index s may head =
+    queued_first channel (queue_on number.0 s.ports.letters) (queue channel s.history.items) s.history.items index (may_queue given line number channel s may) head
+
+pub may_read : (given : Step) (line : Option ℕ) (number : ChannelId) (channel : Channel) (index : ℕ) (s : State) → MayTakeFrom given line number channel s → slice_get (queue_on number.0 s.ports.letters) 0 ≡ Some index
+    → (c : Channel) × (m : Message) × IsSent s.history.items index c m
+may_read given line number channel index s may head = let f = may_first given line number channel index s may head in (channel, f.0, f.2)
+
+pub may_head : (given : Step) (line : Option ℕ) (number : ChannelId) (channel : Channel) (index : ℕ) (m : Message) (s : State) → MayTakeFrom given line number channel s → slice_get (queue_on number.0 s.ports.letters) 0 ≡ Some index
+    → (c : Channel) × IsSent s.history.items index c m → first (queue channel given.past) ≡ Some m
+may_head given line number channel index m s may head read =
     let items = s.history.items in
-    let same : queue channel given.past ≡ queue_on number.0 s.ports.letters = ap (λ (z : List Event). queue channel z) may.past ∙ queue_lined channel line items ∙ sym (may_queue given line number channel s may) in
-    ap (λ (z : List Message). first z) same ∙ sym (first_at (queue_on number.0 s.ports.letters)) ∙ head
+    let f = may_first given line number channel index s may head in
+    let same : queue channel given.past ≡ queue channel items = ap (λ (z : List Event). queue channel z) may.past ∙ queue_lined channel line items in
+    ap (λ (z : List Message). first z) same ∙ f.1 ∙ ap (λ (z : Message). Some z) (sym (sent_one items index channel read.0 f.0 m f.2 read.1))
 
 inside : {A : Type 0} → (xs : List A) (n : ℕ) (x : A) → slice_get xs n ≡ Some x → n < length xs
 inside [] n x is = absurd (cc)

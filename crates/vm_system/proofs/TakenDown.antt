@@ -1,5 +1,5 @@
 -- An answer of a pager is taken by its host.
-use Rattle.vm_system.proofs.Common.{AllFilesServe, AllInner, AllServe, Bool, CanTellAll, Channel, ChannelId, Device, Down, EndsAll, Event, Header, HostId, HostTable, HostsPart, IsAbsencePaid, IsErrorPaid, IsLockPaid, IsPaid, IsWord, Letter, LicensedInTurn, List, MayTakeFrom, Message, None, ObjectId, Option, Posts, ServerStands, Some, Spares, State, Step, Took, Up, ap, devices, false, first, length, owed, queue, sym, taken_letter, taken_more, true, up, ℕ, ◌++◌, ◌<◌, ◌∙◌, ◌∷◌, ◌≡◌, ServerTable, subst}
+use Rattle.vm_system.proofs.Common.{[], AllFilesServe, AllInner, AllServe, Bool, CanTellAll, Channel, ChannelId, Device, Down, EndsAll, Event, Header, HostId, HostTable, HostsPart, IsAbsencePaid, IsErrorPaid, IsLockPaid, IsPaid, IsWord, Letter, LicensedInTurn, List, MayTakeFrom, Message, None, ObjectId, Option, Posts, ServerStands, Some, Spares, State, Step, Took, Up, ap, devices, false, first, length, owed, queue, sym, taken_letter, taken_more, true, up, ℕ, ◌++◌, ◌<◌, ◌∙◌, ◌∷◌, ◌≡◌, ServerTable, subst}
 use Rattle.vm_system.proofs.Served.{served_down}
 use Rattle.vm_model.specs.declared.event.Device.TheVariants.{Files, Paging}
 use Rattle.vm_model.specs.declared.event.Event.TheVariants as event
@@ -76,8 +76,8 @@ pub took_down : (given : Step) (line : Option ℕ) (number : ChannelId) (host : 
     → first (queue (Down host object control) given.past) ≡ Some m → HostsPart given.header given.outside given.command (event.Taken (Down host object control) m ∷ given.past) new.hosts events
     → IsErrorPaid given.header (events ++ event.Taken (Down host object control) m ∷ given.past) → IsAbsencePaid given.header (events ++ event.Taken (Down host object control) m ∷ given.past)
     → IsLockPaid given.header (events ++ event.Taken (Down host object control) m ∷ given.past) → EndsAll given.header (events ++ event.Taken (Down host object control) m ∷ given.past) → new.size ≡ s.size
-    → new.pagers.items ≡ s.pagers.items → new.files.items ≡ s.files.items → new.declared.items ≡ s.declared.items → new.server ≡ s.server → new.history.items ≡ events ++ event.Taken (Down host object control) m ∷ given.past → Posts new new.history.items → Took given new
-took_down given line number host object control m s new events may head passed failed zeroed locked ended size pagers files declared server items posts =
+    → new.pagers.items ≡ s.pagers.items → new.files.items ≡ s.files.items → new.declared.items ≡ s.declared.items → new.server ≡ s.server → new.history.items ≡ events ++ event.Taken (Down host object control) m ∷ given.past → Posts new new.history.items → new.log.items ≡ [] → Took given new
+took_down given line number host object control m s new events may head passed failed zeroed locked ended size pagers files declared server items posts none =
     let header = given.header in
     let outside = given.outside in
     let doing = given.command in
@@ -101,6 +101,7 @@ took_down given line number host object control m s new events may head passed f
         paid = owed;
         served = rw items (served_more header events past (others_said header events past stretch.said) (served_other header (event.Taken channel m) given.past tt front.served));
         recalled = rw items (recalled_more header events past (others_said header events past stretch.said) (recalled_other header (event.Taken channel m) given.past tt front.recalled));
+        log = none;
       };
       step = takes_step given channel m events new.history.items items head may.may (front_settled given s front) (front_suffice given s front) passed.follows.follows stretch.licensed stretch.own_bytes stretch.frames stretch.inner;
       prompt = rw items passed.ended.prompt;

@@ -1,5 +1,5 @@
 -- A message about a declared object is taken by the pager of its file, which answers.
-use Rattle.vm_system.proofs.Common.{AllFilesServe, AllInTurn, AllServe, AnswersKept, Bool, CanTellAll, CarriesFile, ChannelId, Content, DevicesHaveCause, EachIn, Err, Event, FileAnswer, FileKept, FileTable, FilesAreKept, FilesCarry, Followed, FramesSuffice, Header, HostId, IsConsequence, LeavesFile, List, Listed, MayHave, MayTake, MayTakeFrom, Message, MomentsIn, None, ObjectId, Ok, Option, Outside, OwnBytes, PagerHasAnswered, PagingIsKept, Posts, SameAreas, SlotTable, SlotsFit, Some, SparesPaging, State, Step, TakesStep, TellsPage, Told, Took, Up, [], ap, append_assoc, arith, content_of, devices, each_both, first, gives_frame, home_of, inl, inner_both, inr, is_file, length, length-set, licensed_both, moments_both, name_of, nat_tests, none-some, others, others_carry, queue, refl, same_Some, set, slice_get, slice_get_within, subst, sym, tells, true, false, ℕ, ◌++◌, ◌<◌, ◌==◌, ◌∙◌, ◌∷◌, ◌≡◌, ◌≢◌, ◌⊎◌, reverse}
+use Rattle.vm_system.proofs.Common.{AllFilesServe, AllInTurn, AllServe, AnswersKept, Bool, CanTellAll, CarriesFile, ChannelId, Content, DevicesHaveCause, EachIn, Err, Event, FileAnswer, FileKept, FileTable, FilesAreKept, FilesCarry, Followed, FramesSuffice, Header, HostId, IsConsequence, LeavesFile, List, Listed, MayHave, MayTake, MayTakeFrom, Message, MomentsIn, None, ObjectId, Ok, Option, Outside, OwnBytes, PagerHasAnswered, PagingIsKept, Posts, SameAreas, SlotTable, SlotsFit, Some, SparesPaging, State, Step, TellsPage, Told, Took, Up, [], ap, append_assoc, arith, content_of, devices, each_both, first, gives_frame, home_of, inl, inner_both, inr, is_file, length, length-set, licensed_both, moments_both, name_of, nat_tests, none-some, others, others_carry, queue, refl, same_Some, set, slice_get, slice_get_within, subst, sym, tells, true, false, ℕ, ◌++◌, ◌<◌, ◌==◌, ◌∙◌, ◌∷◌, ◌≡◌, ◌≢◌, ◌⊎◌, reverse}
 use Rattle.pg_file.proofs.Carrying.{carries, others_carry as carries_apart}
 use Rattle.pg_file.proofs.Causes.{causes}
 use Rattle.pg_file.proofs.Debts.{paid}
@@ -271,8 +271,8 @@ filed_failed header outside m table s now before after e files leaves items kept
 -- the hosts' part begins
 pub answered_filed : (given : Step) (host : HostId) (object : ObjectId) (m : Message) (s now : State) (old new : FileTable) (events : List Event) → Filed given host object m s old new events → now.pagers.items ≡ s.pagers.items
     → now.files.items ≡ set s.files.items object.0 new → now.declared.items ≡ reverse given.header.objects.items → now.server ≡ s.server → now.hosts ≡ s.hosts → now.size ≡ given.header.size
-    → now.history.items ≡ events ++ event.Taken (Up host object) m ∷ given.past → Posts now now.history.items → PagerHasAnswered (going given host object m events) host (gives_frame m) now
-answered_filed given host object m s now old new events filed pagers files declared server hosts size items posts =
+    → now.history.items ≡ events ++ event.Taken (Up host object) m ∷ given.past → Posts now now.history.items → now.log.items ≡ [] → PagerHasAnswered (going given host object m events) host (gives_frame m) now
+answered_filed given host object m s now old new events filed pagers files declared server hosts size items posts none =
     let header = given.header in
     let front = filed.front in
     let taken = event.Taken (Up host object) m in
@@ -302,6 +302,7 @@ answered_filed given host object m s now old new events filed pagers files decla
       paid = rw items (paid header host.0 given.past object.0 m old new events filed.serves);
       served = rw items (served_more header events past silent (served_other header taken given.past plain front.served));
       recalled = rw items (recalled_more header events past silent (recalled_other header taken given.past plain front.recalled));
+      log = none;
       answers = record {
         known = letter.0;
         object = object;
@@ -315,18 +316,6 @@ answered_filed given host object m s now old new events filed pagers files decla
         licensed = licensed_both header given.outside given.command events (taken ∷ []) given.past filed.licensed (licence, tt);
       };
     }
-
--- where memory ends now, the step is cut
-pub cut_filed : (given : Step) (host : HostId) (object : ObjectId) (m : Message) (s : State) (old table : FileTable) (events new : List Event) → Filed given host object m s old table events
-    → new ≡ events ++ event.Taken (Up host object) m ∷ given.past → TakesStep given new
-cut_filed given host object m s old table events new filed items =
-    let header = given.header in
-    let front = filed.front in
-    let past = event.Taken (Up host object) m ∷ given.past in
-    let told = (filed_events given host object m s old table events past filed).replies in
-    let suffice = front_suffice given s front in
-    takes_step given (Up host object) m events new items filed.head filed.may (front_settled given s front) suffice (reply_consequences Files events past told) filed.licensed (reply_own header Files events past told)
-    (reply_frames header Files events past told (taken_suffice header (Up host object) m given.past suffice)) (reply_inner Files events told)
 
 -- the hosts went on behind the answer
 pub took_filed : (given : Step) (host : HostId) (object : ObjectId) (m : Message) (s new : State) (old table : FileTable) (events : List Event) → Filed given host object m s old table events

@@ -1,12 +1,11 @@
 -- A `take` is run.
-use Rattle.vm_system.proofs.Common.{Channel, EachIn, Event, FollowsInTurn, FollowsSoFarInTurn, FramesSuffice, Header, Holds, IsAtRest, IsConsequence, IsGroupInTurn, IsPaid, IsRunInTurn, IsWholeInTurn, KeepsCanonical, CanonicalFor, List, MayBeCut, MayCut, None, Numbered, Outside, Some, State, Step, SystemStands, TakesStep, Took, [], ap, false, first, head, inl, inr, is_some, licensed_front, moment_last, no_request, queue, refl, refusal, so_far, subst, sym, take_head, true, ℕ, ◌++◌, ◌∷◌, ◌≡◌}
+use Rattle.vm_system.proofs.Common.{Channel, EachIn, Event, FollowsInTurn, FollowsSoFarInTurn, FramesSuffice, Header, Holds, IsAtRest, IsConsequence, IsGroupInTurn, IsPaid, IsRunInTurn, IsWholeInTurn, KeepsCanonical, CanonicalFor, List, None, Numbered, Outside, Some, State, Step, SystemStands, TakesStep, Took, [], ap, false, first, head, inr, is_some, licensed_front, moment_last, no_request, queue, refl, refusal, so_far, subst, sym, take_head, true, ℕ, ◌++◌, ◌∷◌, ◌≡◌}
 use Rattle.vm_model.specs.declared.command.Command.TheVariants as command
 use Rattle.vm_model.specs.declared.event.Event.TheVariants as event
 use Rattle.vm_system.proofs.Opening.{HoldsUpTo, holds_taken, step_is, steps_taken}
 use Rattle.sms_server.proofs.Acting.{others_recall as recalled_other, others_serve as served_other}
 use Rattle.vm_system.proofs.Silent.{ends_lined, prompt_line}
-use Rattle.vm_legal.proofs.Turns.{cut_in_turn, open_in_turn, so_far_of as weak_so_far}
-use Rattle.vm_legal.specs.Follows.{FollowsSoFar}
+use Rattle.vm_legal.proofs.Turns.{open_in_turn, so_far_of as weak_so_far}
 use Rattle.vm_legal.specs.InTurn.{AllRecalled, StepIsInTurn}
 use Rattle.vm_legal.proofs.Serving.{one_served}
 use Rattle.vm_model.specs.Moments.{BeforeSteps}
@@ -96,18 +95,3 @@ keeps_taken header outside line channel s new stands fine took run legal =
       whole = λ none. record { follows = follows; holds = holds; rests = rests; ended = ended; last = last; recalled = recalled; recalls = took.stands.recalled };
       none = inr refl;
     }
-
-pub cuts_taken : (header : Header) (outside : Outside) (line : ℕ) (channel : Channel) (s : State) (new : List Event) → SystemStands header outside s → refusal header s.history.items (command.Take channel) ≡ None
-    → MayBeCut (taking_of header outside line channel s.history.items) s.history.items new → MayCut header outside (record { line = line; command = command.Take channel }) s.history.items new
-cuts_taken header outside line channel s new stands fine (inl same) = inl same
-cuts_taken header outside line channel s new stands fine (inr step) = inr (λ run legal.
-    let given = taking_of header outside line channel s.history.items in
-    let numbered : Numbered = record { line = line; command = command.Take channel } in
-    let opened : FollowsSoFarInTurn header outside (numbered ∷ run) new = open_in_turn header outside (numbered ∷ run) new (follows_take header outside line channel run s.history.items new fine step legal.follows) in
-    let weak : FollowsSoFar header outside (numbered ∷ run) new = weak_so_far header outside (numbered ∷ run) new opened in
-    record {
-      follows = cut_in_turn header outside (numbered ∷ run) new opened;
-      holds = holds_taken given new step (so_far header outside (numbered ∷ run) new weak) (up_to_line header outside line run s stands legal);
-      ended = steps_taken (StepIsInTurn header) given new step (lined header line s.history.items legal.last.awake, (legal.last, legal.ended));
-      recalled = steps_taken (AllRecalled header) given new step (recalled_other header (event.Line line) s.history.items tt legal.recalls, (legal.recalls, legal.recalled));
-    })

@@ -1,5 +1,5 @@
 -- A message about a shared object is taken by its server, which answers.
-use Rattle.vm_system.proofs.Common.{SameHosts, AllFilesServe, AllInner, AllInTurn, AllServe, AreServerWords, Bool, CanTellAll, Channel, ChannelId, Command, Content, Device, Down, EachIn, EachOf, Event, Followed, FramesSuffice, Header, HostId, IsConsequence, IsHostLetter, IsOrderly, IsServerWord, IsSharedWord, IsToServer, IsWord, IsWordUp, List, LicensedInTurn, MayTake, MayTakeFrom, Message, MomentsIn, None, ObjectId, Option, Outside, OwnBytes, PagerHasAnswered, PagingIsKept, Posts, ServerAnswer, ServerServes, ServerTable, SlotTable, SlotsFit, Some, Spares, State, Step, TakesStep, Told, Took, Up, [], ap, append_assoc, arith, content_of, devices, each_both, false, first, gives_frame, host_id, inl, inner_both, inr, is_file, is_made, is_shared, kind_of, length, licensed_both, moments_both, named, never, nat_lt, others, others_carry, page_part, queue, refl, reverse, slice_get, subst, sym, taken_letter, taken_more, true, up, ℕ, ◌++◌, ◌<◌, ◌∙◌, ◌∷◌, ◌≡◌, ◌⊎◌, Letter, same_Some}
+use Rattle.vm_system.proofs.Common.{AllFilesServe, AllInner, AllInTurn, AllServe, AreServerWords, Bool, CanTellAll, Channel, ChannelId, Command, Content, Device, Down, EachIn, EachOf, Event, Followed, FramesSuffice, Header, HostId, IsConsequence, IsHostLetter, IsOrderly, IsServerWord, IsSharedWord, IsToServer, IsWord, IsWordUp, List, LicensedInTurn, MayTake, MayTakeFrom, Message, MomentsIn, None, ObjectId, Option, Outside, OwnBytes, PagerHasAnswered, PagingIsKept, Posts, ServerAnswer, ServerServes, ServerTable, SlotTable, SlotsFit, Some, Spares, State, Step, Told, Took, Up, [], ap, append_assoc, arith, content_of, devices, each_both, false, first, gives_frame, host_id, inl, inner_both, inr, is_file, is_made, is_shared, kind_of, length, licensed_both, moments_both, named, never, nat_lt, others, others_carry, page_part, queue, refl, reverse, slice_get, subst, sym, taken_letter, taken_more, true, up, ℕ, ◌++◌, ◌<◌, ◌∙◌, ◌∷◌, ◌≡◌, ◌⊎◌, Letter, same_Some}
 use Rattle.vm_model.specs.declared.event.Device.TheVariants.{Files, Paging}
 use Rattle.vm_model.specs.declared.event.Event.TheVariants as event
 use Rattle.vm_model.specs.declared.message.Message.TheVariants as message
@@ -26,7 +26,7 @@ use Rattle.vm_system.proofs.Lawfulness.{lawful_more, lawful_taken}
 use Rattle.vm_system.proofs.Letters.{letter_first, orderly_taken, washed_out}
 use Rattle.vm_system.proofs.Sayings.{AllTold, page_of_answer, sent_down, told_none}
 use Rattle.vm_system.proofs.Taken.{Front, devices_lined, front_carry, front_content, front_of, front_settled, front_suffice, taken_licensed, takes_step, taken_suffice}
-use Rattle.vm_system.proofs.TakenUp.{going, may_reserved, up_letter}
+use Rattle.vm_system.proofs.TakenUp.{going, up_letter}
 use Rattle.vm_system.proofs.Silent.{ends_up}
 
 -- a shared object is declared, and no file
@@ -288,8 +288,8 @@ uncreated given host object m s front shared head = by m ((letter_first given.he
 -- the hosts' part begins
 pub answered_shared : (given : Step) (host : HostId) (object : ObjectId) (m : Message) (s now : State) (old new : ServerTable) (events : List Event) → Shared given host object m s old new events → now.pagers.items ≡ s.pagers.items
     → now.files.items ≡ s.files.items → now.declared.items ≡ reverse given.header.objects.items → now.server ≡ new → now.hosts ≡ s.hosts → now.size ≡ given.header.size
-    → now.history.items ≡ events ++ event.Taken (Up host object) m ∷ given.past → Posts now now.history.items → PagerHasAnswered (going given host object m events) host (gives_frame m) now
-answered_shared given host object m s now old new events said pagers files declared server hosts size items posts =
+    → now.history.items ≡ events ++ event.Taken (Up host object) m ∷ given.past → Posts now now.history.items → now.log.items ≡ [] → PagerHasAnswered (going given host object m events) host (gives_frame m) now
+answered_shared given host object m s now old new events said pagers files declared server hosts size items posts none =
     let header = given.header in
     let front = said.front in
     let taken = event.Taken (Up host object) m in
@@ -315,6 +315,7 @@ answered_shared given host object m s now old new events said pagers files decla
       paid = rw items (server_paid header host.0 given.past object m old new events said.serves (uncreated given host object m s front said.serves.shared said.head));
       served = rw items (server_served header host.0 given.past object m old new events said.serves front.served);
       recalled = rw items (server_recalled header host.0 given.past object m old new events said.serves front.recalled);
+      log = none;
       answers = record {
         known = letter.0;
         object = object;
@@ -328,18 +329,6 @@ answered_shared given host object m s now old new events said pagers files decla
         licensed = licensed_both header given.outside given.command events (taken ∷ []) given.past said.licensed (licence, tt);
       };
     }
-
--- where memory ends now, the step is cut
-pub cut_shared : (given : Step) (host : HostId) (object : ObjectId) (m : Message) (s : State) (old table : ServerTable) (events new : List Event) → Shared given host object m s old table events
-    → new ≡ events ++ event.Taken (Up host object) m ∷ given.past → TakesStep given new
-cut_shared given host object m s old table events new said items =
-    let header = given.header in
-    let front = said.front in
-    let past = event.Taken (Up host object) m ∷ given.past in
-    let replies = shared_replies header.size object events said.words in
-    let suffice = front_suffice given s front in
-    takes_step given (Up host object) m events new items said.head said.may (front_settled given s front) suffice (reply_consequences Files events past replies) said.licensed (reply_own header Files events past replies)
-    (reply_frames header Files events past replies (taken_suffice header (Up host object) m given.past suffice)) (reply_inner Files events replies)
 
 -- the hosts went on behind the answer
 pub took_shared : (given : Step) (host : HostId) (object : ObjectId) (m : Message) (s new : State) (old table : ServerTable) (events : List Event) → Shared given host object m s old table events
@@ -369,11 +358,3 @@ took_shared given host object m s new old table events said followed =
       ended = rw (items ∙ sym (append_assoc more events past)) (ends_up header host object m (more ++ events) given.past (inner_both more events stretch.inner (reply_inner Files events replies)));
       turns = followed.turns;
     }
-
--- with room made behind the server's answer, all but the server is as it was
-pub may_answered : (given : Step) (line : Option ℕ) (number : ChannelId) (channel : Channel) (s t : State) (table : ServerTable) → MayTakeFrom given line number channel s → SameHosts (record s { server = table }) t
-    → t.history.items ≡ s.history.items → t.channels.made ≡ s.channels.made → t.ports.channels ≡ s.ports.channels → t.ports.letters ≡ s.ports.letters → t.buffers.size ≡ s.buffers.size
-    → MayTakeFrom given line number channel (record t { server = s.server })
-may_answered given line number channel s t table may same items made numbers letters buffers =
-    may_reserved given line number channel s (record t { server = s.server }) may
-    (record { size = same.size; hosts = same.hosts; pagers = same.pagers; declared = same.declared; files = same.files; server = refl }) items made numbers letters buffers

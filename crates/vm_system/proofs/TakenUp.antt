@@ -1,5 +1,5 @@
 -- A message about a temporary object is taken by the default pager of a host, which answers.
-use Rattle.vm_system.proofs.Common.{AllFilesServe, AllInTurn, AllServe, AnswerHasCause, AreNumbered, CanTellAll, CarriesContent, Channel, ChannelId, Content, CountRises, Device, DevicesHaveCause, EachIn, Err, Event, Followed, FramesSuffice, Going, HasRoom, Header, HostId, IsAreaTold, IsConsequence, IsHostLetter, IsToPager, KeepsShape, LeavesAreas, List, Listed, MayTake, MayTakeFrom, Message, MomentsIn, ObjectId, Ok, Option, Outside, OwnBytes, PagerHasAnswered, PagerServes, PagerStands, PagingIsKept, Posts, ReturnsWhole, SameAreas, SameHosts, SlotTable, SlotsFit, Some, SparesFiles, State, Step, SuppliesStored, TakesStep, TellsFault, Told, Took, Up, [], after_message, ap, append_assoc, area_name, arith, carries, causes, content_of, devices, each_both, first, get_or, gives_frame, inl, inner_both, inr, is_heard_elsewhere, length, length-append, length-set, licensed_both, lined, moments_both, named, others, others_carry, paid, queue, refl, same_Some, set, slice_get, slice_get-get_or, slice_get_within, stands, subst, suc, sym, take, true, zero, ℕ, ◌++◌, ◌+◌, ◌<◌, ◌∙◌, ◌∷◌, ◌≡◌, ◌≤◌, ◌⊎◌, reverse}
+use Rattle.vm_system.proofs.Common.{AllFilesServe, AllInTurn, AllServe, AnswerHasCause, AreNumbered, CanTellAll, CarriesContent, ChannelId, Content, CountRises, Device, DevicesHaveCause, EachIn, Err, Event, Followed, FramesSuffice, Going, Header, HostId, IsAreaTold, IsConsequence, IsHostLetter, IsToPager, KeepsShape, LeavesAreas, List, Listed, MayTake, MayTakeFrom, Message, MomentsIn, ObjectId, Ok, Option, Outside, OwnBytes, PagerHasAnswered, PagerServes, PagerStands, PagingIsKept, Posts, ReturnsWhole, SameAreas, SlotTable, SlotsFit, Some, SparesFiles, State, Step, SuppliesStored, TellsFault, Told, Took, Up, [], after_message, ap, append_assoc, area_name, arith, carries, causes, content_of, devices, each_both, first, get_or, gives_frame, inl, inner_both, inr, is_heard_elsewhere, length, length-append, length-set, licensed_both, moments_both, named, others, others_carry, paid, queue, refl, same_Some, set, slice_get, slice_get-get_or, slice_get_within, stands, subst, suc, sym, take, true, zero, ℕ, ◌++◌, ◌+◌, ◌<◌, ◌∙◌, ◌∷◌, ◌≡◌, ◌≤◌, ◌⊎◌, reverse}
 use Rattle.std.proofs.Common.{◌≢◌}
 use Rattle.pg_default.specs.Answers.{PagerAnswer as Answers}
 use Rattle.vm_base.specs.declared.failure.NoMemory.{NoMemory}
@@ -15,7 +15,7 @@ use Rattle.sms_server.proofs.Acting.{others_recall as recalled_other, others_ser
 use Rattle.vm_system.proofs.Lawfulness.{lawful_more, lawful_taken, others_about, recalled_more, served_more, server_more}
 use Rattle.vm_system.proofs.Letters.{elsewhere_first, home_first, letter_first, orderly_taken, unended_first, washed_out}
 use Rattle.vm_system.proofs.Sayings.{can_answer, orderly_answered}
-use Rattle.vm_system.proofs.Following.{filed_spares, kept_at, same_declared, same_files, same_pagers}
+use Rattle.vm_system.proofs.Following.{filed_spares, kept_at}
 use Rattle.vm_system.proofs.Taken.{Front, devices_lined, front_carry, front_content, front_of, front_settled, front_suffice, taken_licensed, takes_step, taken_suffice}
 use Rattle.vm_system.proofs.Silent.{ends_up}
 
@@ -152,8 +152,8 @@ abbrev pub going : Step → HostId → ObjectId → Message → List Event → G
 going given host object m events = record { header = given.header; outside = given.outside; command = given.command; past = given.past; front = events ++ event.Taken (Up host object) m ∷ [] }
 
 pub answered_up : (given : Step) (host : HostId) (object : ObjectId) (m : Message) (s now : State) (old new : SlotTable) (events : List Event) → Reply given host object m s old new events → now.pagers.items ≡ set s.pagers.items host.0 new
-    → now.files.items ≡ s.files.items → now.declared.items ≡ reverse given.header.objects.items → now.server ≡ s.server → now.hosts ≡ s.hosts → now.size ≡ given.header.size → now.history.items ≡ events ++ event.Taken (Up host object) m ∷ given.past → Posts now now.history.items → PagerHasAnswered (going given host object m events) host (gives_frame m) now
-answered_up given host object m s now old new events reply pagers files declared server hosts size items posts =
+    → now.files.items ≡ s.files.items → now.declared.items ≡ reverse given.header.objects.items → now.server ≡ s.server → now.hosts ≡ s.hosts → now.size ≡ given.header.size → now.history.items ≡ events ++ event.Taken (Up host object) m ∷ given.past → Posts now now.history.items → now.log.items ≡ [] → PagerHasAnswered (going given host object m events) host (gives_frame m) now
+answered_up given host object m s now old new events reply pagers files declared server hosts size items posts none =
     let header = given.header in
     let front = reply.front in
     let told = replies m object old new events reply.answered in
@@ -183,6 +183,7 @@ answered_up given host object m s now old new events reply pagers files declared
       paid = rw items (paid header host.0 given.past object m old new events (reply_serves given host object m s old new events reply));
       served = rw items (served_more header events past silent (served_other header taken given.past plain front.served));
       recalled = rw items (recalled_more header events past silent (recalled_other header taken given.past plain front.recalled));
+      log = none;
       answers = record {
         known = letter.0;
         object = object;
@@ -196,18 +197,6 @@ answered_up given host object m s now old new events reply pagers files declared
         licensed = licensed_both header given.outside given.command events (taken ∷ []) given.past reply.licensed (licence, tt);
       };
     }
-
--- where memory ends now, the step is cut
-pub cut_up : (given : Step) (host : HostId) (object : ObjectId) (m : Message) (s : State) (old slots : SlotTable) (events new : List Event) → Reply given host object m s old slots events
-    → new ≡ events ++ event.Taken (Up host object) m ∷ given.past → TakesStep given new
-cut_up given host object m s old slots events new reply items =
-    let header = given.header in
-    let front = reply.front in
-    let told = replies m object old slots events reply.answered in
-    let past = event.Taken (Up host object) m ∷ given.past in
-    let suffice = front_suffice given s front in
-    takes_step given (Up host object) m events new items reply.head reply.may (front_settled given s front) suffice (reply_consequences Paging events past told) reply.licensed (reply_own header Paging events past told)
-    (reply_frames header Paging events past told (taken_suffice header (Up host object) m given.past suffice)) (reply_inner Paging events told)
 
 -- the hosts went on behind the answer
 pub took_up : (given : Step) (host : HostId) (object : ObjectId) (m : Message) (s new : State) (old slots : SlotTable) (events : List Event) → Reply given host object m s old slots events
@@ -338,52 +327,7 @@ front_is n events e past history count is =
     let more : n ≡ suc (length events) = omega (arith, count) in
     ap (λ (z : List Event). take n z) is ∙ ap (λ (z : ℕ). take z (events ++ e ∷ past)) more ∙ front_at events e past
 
-pub fewer_room : (n m : ℕ) (s : State) → n ≤ m → HasRoom m s → HasRoom n s
-fewer_room n m s less room = record {
-  history = omega (arith, less, room.history);
-  channels = omega (arith, less, room.channels);
-  numbers = omega (arith, less, room.numbers);
-  letters = omega (arith, less, room.letters);
-  buffers = omega (arith, less, room.buffers);
-}
-
 -- with room made all is as it was
-
-pub may_reserved : (given : Step) (line : Option ℕ) (number : ChannelId) (channel : Channel) (s t : State) → MayTakeFrom given line number channel s → SameHosts s t → t.history.items ≡ s.history.items → t.channels.made ≡ s.channels.made
-    → t.ports.channels ≡ s.ports.channels → t.ports.letters ≡ s.ports.letters → t.buffers.size ≡ s.buffers.size → MayTakeFrom given line number channel t
-may_reserved given line number channel s t may same items made numbers letters buffers =
-    let stands = may.stands in
-    let agrees = stands.agrees in
-    let posts = agrees.posts in
-    record {
-      stands = record {
-        built = stands.built;
-        rests = rw (same.hosts, items) stands.rests;
-        queues = rw (same.hosts, items) stands.queues;
-        agrees = record {
-          size = same.size ∙ agrees.size;
-          declared = same_declared s t same ∙ agrees.declared;
-          pagers = rw (same_pagers s t same, items) agrees.pagers;
-          files = rw (same_files s t same, items) agrees.files;
-          posts = record {
-            channels = λ c. rw (made, items) (posts.channels c);
-            count = rw (made, numbers) posts.count;
-            letters = rw (made, letters, items) posts.letters;
-            buffers = buffers ∙ posts.buffers ∙ sym same.size;
-          };
-          server = rw (same.server, items) agrees.server;
-          orderly = rw items agrees.orderly;
-          lawful = rw items agrees.lawful;
-        };
-        paid = rw items stands.paid;
-        served = rw items stands.served;
-        recalled = rw items stands.recalled;
-      };
-      past = may.past ∙ ap (λ (z : List Event). lined line z) (sym items);
-      made = rw made may.made;
-      may = may.may;
-      some = rw items may.some;
-    }
 
 pub front_length : (n : ℕ) (history events : List Event) (e : Event) → take n history ≡ events ++ e ∷ [] → n ≡ length events + 1 → length (take n history) ≡ n
 front_length n history events e is count = ap length is ∙ length-append events (e ∷ []) ∙ sym count

@@ -1,5 +1,5 @@
 -- A message about a wild object is taken, and nobody answers: what its pager says is the script's.
-use Rattle.vm_system.proofs.Common.{AllFilesServe, AllServe, Bool, Channel, Down, ChannelId, Content, Device, Event, Followed, Header, HostId, IsPaid, Letter, LicensedInTurn, List, MayTake, MayTakeFrom, Message, None, ObjectId, Option, PagerHasAnswered, PagingIsKept, Posts, SlotTable, SlotsFit, Some, Spares, State, Step, TakesStep, Told, Took, Up, [], ap, append-nil, arith, content_of, devices, each_both, false, first, gives_frame, if◌then◌else◌, inl, is_file, is_paged, is_shared, is_wild, named, nat_lt, nat_tests, never, no_request, none-some, not, others, others_carry, queue, refl, reverse, same_Some, slice_get, subst, sym, true, ℕ, ◌&&◌, ◌++◌, ◌<◌, ◌∙◌, ◌∷◌, ◌≡◌, ◌||◌}
+use Rattle.vm_system.proofs.Common.{AllFilesServe, AllServe, Bool, Channel, Down, ChannelId, Content, Device, Event, Followed, Header, HostId, IsPaid, Letter, LicensedInTurn, List, MayTake, MayTakeFrom, Message, None, ObjectId, Option, PagerHasAnswered, PagingIsKept, Posts, SlotTable, SlotsFit, Some, Spares, State, Step, Told, Took, Up, [], ap, arith, content_of, devices, false, first, gives_frame, if◌then◌else◌, inl, is_file, is_paged, is_shared, is_wild, named, nat_lt, nat_tests, never, no_request, none-some, not, others, others_carry, queue, refl, reverse, slice_get, subst, sym, true, ℕ, ◌&&◌, ◌<◌, ◌∙◌, ◌∷◌, ◌≡◌, ◌||◌}
 use Rattle.vm_base.specs.declared.ids.ObjectKind.{ObjectKind}
 use Rattle.vm_base.specs.declared.ids.ObjectKind.TheVariants as kinds
 use Rattle.vm_legal.specs.Outside.{is_file_kept, is_file_kind, is_shared_kind, is_wild_kind, kind_in}
@@ -137,8 +137,8 @@ spares_wild given line number host object m s now may heard pagers files items =
 -- the hosts' part begins
 pub answered_wild : (given : Step) (host : HostId) (object : ObjectId) (m : Message) (s now : State) → Heard given host object m s → now.pagers.items ≡ s.pagers.items → now.files.items ≡ s.files.items
     → now.declared.items ≡ reverse given.header.objects.items → now.server ≡ s.server → now.hosts ≡ s.hosts → now.size ≡ given.header.size → now.history.items ≡ event.Taken (Up host object) m ∷ given.past
-    → Posts now now.history.items → PagerHasAnswered (going given host object m []) host (gives_frame m) now
-answered_wild given host object m s now heard pagers files declared server hosts size items posts =
+    → Posts now now.history.items → now.log.items ≡ [] → PagerHasAnswered (going given host object m []) host (gives_frame m) now
+answered_wild given host object m s now heard pagers files declared server hosts size items posts none =
     let header = given.header in
     let front = heard.front in
     let taken = event.Taken (Up host object) m in
@@ -161,6 +161,7 @@ answered_wild given host object m s now heard pagers files declared server hosts
       paid = rw items (paid_wild given host object m s heard);
       served = rw items (served_other header taken given.past plain front.served);
       recalled = rw items (recalled_other header taken given.past plain front.recalled);
+      log = none;
       answers = record {
         known = (letter_first header (Up host object) m given.past front.orderly heard.head).0;
         object = object;
@@ -174,11 +175,6 @@ answered_wild given host object m s now heard pagers files declared server hosts
         licensed = (licence, tt);
       };
     }
-
--- where memory ends now, the step is cut
-pub cut_wild : (given : Step) (host : HostId) (object : ObjectId) (m : Message) (s : State) (new : List Event) → Heard given host object m s → new ≡ event.Taken (Up host object) m ∷ given.past → TakesStep given new
-cut_wild given host object m s new heard items =
-    takes_step given (Up host object) m [] new items heard.head heard.may (front_settled given s heard.front) (front_suffice given s heard.front) tt tt tt tt tt
 
 -- the hosts went on
 pub took_wild : (given : Step) (host : HostId) (object : ObjectId) (m : Message) (s new : State) → Heard given host object m s → Followed (going given host object m []) new → Took given new

@@ -1,5 +1,5 @@
 -- The ports of a system stand for the channels and the letters of a history.
-use Rattle.std.specs.Prelude.{ℕ, ◌≡◌, ◌*◌, ◌≤◌, true, false, List, [], ◌∷◌, ◌++◌, length, Some, is_some}
+use Rattle.std.specs.Prelude.{ℕ, ◌≡◌, ◌*◌, ◌+◌, ◌<◌, ◌≤◌, true, false, List, [], ◌∷◌, ◌++◌, length, reverse, slice_get, Some, is_some}
 use Rattle.vm_model.specs.declared.event.Event.{Event}
 use Rattle.vm_model.specs.declared.event.Event.TheVariants as event
 use Rattle.vm_model.specs.declared.message.Channel.{Channel}
@@ -11,20 +11,33 @@ use Rattle.vm_legal.specs.Steps.{Letter}
 use Rattle.vm_legal.specs.Undelivered.{is_made, undelivered}
 use Rattle.vm_ports.specs.Ports.{spare_channels}
 use Rattle.vm_ports.specs.declared.letter.Letter.{Letter as Posted}
+use Rattle.vm_hosts.specs.Hosts.{AllQueued, AllRest, IsReady}
+use Rattle.vm_model.specs.declared.script.Header.{Header}
 use Rattle.vm_system.specs.Channels.{channel_number}
 use Rattle.vm_system.specs.declared.state.State.{State}
 
--- the letters of the ports are these, by the numbers of their channels
-abbrev pub AreSame : List Channel → List (Posted Message) → List Letter → Type 0
-AreSame made [] [] = Unit {0}
-AreSame made (posted ∷ more) (letter ∷ letters) = (channel_number letter.channel made ≡ Some posted.channel.0) × (posted.message ≡ letter.message) × AreSame made more letters
-AreSame made posted letters = ⊥
+-- the event with this index, counted from the oldest, sends this message on this channel
+abbrev pub IsSent : List Event → ℕ → Channel → Message → Type 0
+IsSent history index channel m = slice_get (reverse history) index ≡ Some (event.Sent channel m)
+
+-- the letters of the ports are these, by the numbers of their channels and the indices of the events that sent them
+abbrev pub AreSame : List Channel → List (Posted ℕ) → List Letter → List Event → Type 0
+AreSame made [] [] history = Unit {0}
+AreSame made (posted ∷ more) (letter ∷ letters) history =
+    (channel_number letter.channel made ≡ Some posted.channel.0) × IsSent history posted.message letter.channel letter.message × AreSame made more letters history
+AreSame made posted letters history = ⊥
+
+-- each page among the letters has so many bytes
+abbrev pub HavePagesOf : ℕ → List Letter → Type 0
+HavePagesOf size [] = Unit {0}
+HavePagesOf size (letter ∷ letters) = HasPageOf size letter.message × HavePagesOf size letters
 
 -- channels and letters are those of the history
 pub record Posts (s : State) (past : List Event) : Type 0 where
   pub channels : (c : Channel) → is_some (channel_number c s.channels.made) ≡ is_made c past
   pub count : length s.channels.made ≡ s.ports.channels
-  pub letters : AreSame s.channels.made s.ports.letters (undelivered past)
+  pub letters : AreSame s.channels.made s.ports.letters (undelivered past) past
+  pub pages : HavePagesOf s.size (undelivered past)
   pub buffers : s.buffers.size ≡ s.size
 
 -- there is room for so many further events, with their messages and channels
@@ -33,7 +46,6 @@ pub record HasRoom (n : ℕ) (s : State) : Type 0 where
   pub channels : 2 * n ≤ s.channels.room
   pub numbers : 2 * n ≤ spare_channels s.ports
   pub letters : n ≤ s.ports.room
-  pub buffers : n ≤ s.buffers.count
 
 -- a message can be sent: an init or a create makes the channel of its control, and the one up where it isn't there; any other has a channel
 abbrev pub CanSend : Channel → Message → List Event → Type 0
@@ -60,3 +72,27 @@ pub record SameHosts (old new : State) : Type 0 where
   pub declared : new.declared ≡ old.declared
   pub files : new.files ≡ old.files
   pub server : new.server ≡ old.server
+  pub log : new.log ≡ old.log
+
+-- nothing but room has changed
+pub record OnlyRoom (old new : State) : Type 0 where
+  pub rests : (header : Header) (past : List Event) → AllRest header old.hosts past → AllRest header new.hosts past
+  pub queues : (header : Header) (past : List Event) → AllRest header old.hosts past → AllQueued header old.hosts past → AllQueued header new.hosts past
+  pub history : new.history.items ≡ old.history.items
+  pub made : new.channels.made ≡ old.channels.made
+  pub numbers : new.ports.channels ≡ old.ports.channels
+  pub letters : new.ports.letters ≡ old.ports.letters
+  pub buffers : new.buffers.size ≡ old.buffers.size
+  pub log : new.log.items ≡ old.log.items
+  pub size : new.size ≡ old.size
+  pub pagers : new.pagers ≡ old.pagers
+  pub declared : new.declared ≡ old.declared
+  pub files : new.files ≡ old.files
+  pub server : new.server ≡ old.server
+
+-- there is room for a step in which the hosts do so many events at most, and for so many more
+pub record IsPrepared (most more : ℕ) (s : State) : Type 0 where
+  pub hosts : IsReady most s.hosts s.log.room
+  pub log : most + more ≤ s.log.room
+  pub room : HasRoom (most + more) s
+  pub buffer : 0 < s.buffers.count

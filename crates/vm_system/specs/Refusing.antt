@@ -1,5 +1,5 @@
 -- Why a taking is refused, from what a system keeps.
-use Rattle.std.specs.Prelude.{ℕ, ◌+◌, ◌==◌, ◌||◌, not, nat_lt, List, Option, Some, None}
+use Rattle.std.specs.Prelude.{ℕ, ◌+◌, ◌==◌, ◌||◌, not, nat_lt, List, [], ◌∷◌, Option, Some, None}
 use Rattle.vm_base.specs.declared.code.Code.{Code}
 use Rattle.vm_base.specs.declared.code.Code.TheVariants.{EmptyPort, InvalidArgument, NoSuchName}
 use Rattle.vm_base.specs.declared.ids.ObjectId.{ObjectId}
@@ -7,19 +7,23 @@ use Rattle.vm_base.specs.declared.ids.PageNo.{PageNo}
 use Rattle.vm_model.specs.declared.script.Header.{Header}
 use Rattle.vm_model.specs.Named.{declared_pages}
 use Rattle.vm_legal.specs.Outside.{is_file}
-use Rattle.vm_legal.specs.Refusal.{code_where, is_empty}
+use Rattle.vm_legal.specs.Refusal.{code_where}
 use Rattle.vm_model.specs.declared.message.Channel.{Channel}
-use Rattle.vm_model.specs.declared.message.Message.{Message}
 use Rattle.vm_ports.specs.Ports.{queue}
 use Rattle.vm_ports.specs.declared.letter.Letter.{Letter as Posted}
 use Rattle.vm_system.specs.Channels.{channel_number}
 
--- the code of a taking from a channel with this number, if it was made, where the letters are these
-abbrev pub code_at : Option ℕ → List (Posted Message) → Option Code
-code_at None letters = Some NoSuchName
-code_at (Some number) letters = code_where (is_empty (queue number letters)) EmptyPort None
+-- the code of a taking from a channel with these letters
+abbrev pub queue_code : List ℕ → Option Code
+queue_code [] = Some EmptyPort
+queue_code (index ∷ more) = None
 
-abbrev pub channel_code : Channel → List Channel → List (Posted Message) → Option Code
+-- the code of a taking from a channel with this number, if it was made, where the letters are these
+abbrev pub code_at : Option ℕ → List (Posted ℕ) → Option Code
+code_at None letters = Some NoSuchName
+code_at (Some number) letters = queue_code (queue number letters)
+
+abbrev pub channel_code : Channel → List Channel → List (Posted ℕ) → Option Code
 channel_code channel made letters = code_at (channel_number channel made) letters
 
 -- the code of a clean of pages of a declared object

@@ -1,5 +1,5 @@
 -- What a sending makes of channels and letters.
-use Rattle.std.specs.Prelude.{◌≡◌, ◌≤◌, ◌+◌, Bool, true, false, is_some, List, [], ◌∷◌, ◌++◌, length, Some, None}
+use Rattle.std.specs.Prelude.{ℕ, ◌≡◌, ◌≤◌, ◌+◌, Bool, true, false, is_some, List, [], ◌∷◌, ◌++◌, length, Some, None}
 use Rattle.vm_base.specs.declared.ids.ChannelId.{ChannelId}
 use Rattle.vm_model.specs.declared.message.Channel.{Channel}
 use Rattle.vm_model.specs.declared.message.Channel.TheVariants.{Up, Down}
@@ -36,11 +36,11 @@ pub record Added (channels : List Channel) (old new : State) : Type 0 where
   pub history : new.history ≡ old.history
   pub hosts : SameHosts old new
 
--- a message was sent, and nothing else was changed
-pub record HasSent (channel : Channel) (m : Message) (old new : State) : Type 0 where
+-- the message of the event with this index was sent, and nothing else was changed
+pub record HasSent (channel : Channel) (index : ℕ) (old new : State) : Type 0 where
   pub number : ChannelId
   pub is : channel_number channel old.channels.made ≡ Some number.0
-  pub letters : new.ports.letters ≡ old.ports.letters ++ record { channel = number; message = m } ∷ []
+  pub letters : new.ports.letters ≡ old.ports.letters ++ record { channel = number; message = index } ∷ []
   pub room : old.ports.room ≤ new.ports.room + 1
   pub count : new.ports.channels ≡ old.ports.channels
   pub channels : new.channels ≡ old.channels
@@ -48,17 +48,16 @@ pub record HasSent (channel : Channel) (m : Message) (old new : State) : Type 0 
   pub history : new.history ≡ old.history
   pub hosts : SameHosts old new
 
--- a message was sent with the channels that it makes
+-- a message, of which the next event tells, was sent with the channels that it makes
 pub record Delivered (channel : Channel) (m : Message) (old new : State) : Type 0 where
   pub made : new.channels.made ≡ old.channels.made ++ made_by old.channels.made channel m
   pub count : new.ports.channels ≡ old.ports.channels + length (made_by old.channels.made channel m)
   pub room : old.channels.room ≤ new.channels.room + length (made_by old.channels.made channel m)
   pub number : ChannelId
   pub is : channel_number channel new.channels.made ≡ Some number.0
-  pub letters : new.ports.letters ≡ old.ports.letters ++ record { channel = number; message = m } ∷ []
+  pub letters : new.ports.letters ≡ old.ports.letters ++ record { channel = number; message = length old.history.items } ∷ []
   pub letter_room : old.ports.room ≤ new.ports.room + 1
-  pub size : new.buffers.size ≡ old.buffers.size
-  pub buffers : old.buffers.count ≤ new.buffers.count + 1
+  pub buffers : new.buffers ≡ old.buffers
   pub history : new.history ≡ old.history
   pub hosts : SameHosts old new
 

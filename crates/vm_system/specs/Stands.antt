@@ -65,7 +65,7 @@ pub record Agrees (header : Header) (outside : Outside) (s : State) : Type 0 whe
   pub orderly : IsOrderly header s.history.items
   pub lawful : Lawful header outside s.history.items
 
--- and so are the kernels, at a step's end, which owes nothing, and where the server keeps nobody waiting in vain
+-- and so are the kernels, at a step's end, which owes nothing, and where the server keeps nobody waiting in vain; the log is empty
 pub record SystemStands (header : Header) (outside : Outside) (s : State) : Type 0 where
   pub built : IsServable header
   pub rests : AllRest header s.hosts s.history.items
@@ -74,6 +74,11 @@ pub record SystemStands (header : Header) (outside : Outside) (s : State) : Type
   pub paid : IsPaid header s.history.items
   pub served : AllServed header s.history.items
   pub recalled : AllRecalled header s.history.items
+  pub log : s.log.items ≡ []
+
+-- nothing was done: the system stands for the history that it had
+abbrev pub StandsStill : Header → Outside → State → State → Type 0
+StandsStill header outside old new = SystemStands header outside new × (new.history.items ≡ old.history.items)
 
 -- The pagers stand for the history; and where the paging areas tell, each page that was returned and not lost stands at its slot. This holds
 -- inside a step too.

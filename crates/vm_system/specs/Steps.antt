@@ -13,7 +13,7 @@ use Rattle.vm_model.specs.declared.message.Channel.TheVariants.{Up}
 use Rattle.vm_model.specs.declared.script.Header.{Header}
 use Rattle.vm_model.specs.Limits.{most_events}
 use Rattle.vm_model.specs.Moments.{BeforeSteps}
-use Rattle.vm_legal.specs.InTurn.{AllRecalled, FollowsCutInTurn, FollowsSoFarInTurn, StepIsInTurn}
+use Rattle.vm_legal.specs.InTurn.{AllRecalled, FollowsSoFarInTurn, StepIsInTurn}
 use Rattle.vm_legal.specs.Legal.{Holds, IsAtRest, CanonicalFor}
 use Rattle.vm_legal.specs.Outside.{Outside, is_file}
 use Rattle.vm_legal.specs.Steps.{takings}
@@ -35,13 +35,6 @@ pub record CanonicalOpen (header : Header) (outside : Outside) (run : List Numbe
   pub recalled : BeforeSteps (AllRecalled header) history
   pub recalls : AllRecalled header history
 
--- canonical for them, where the last step may be cut: that it did all, what it owes, and who waits then, is not claimed
-pub record CanonicalCut (header : Header) (outside : Outside) (run : List Numbered) (history : List Event) : Type 0 where
-  pub follows : FollowsCutInTurn header outside run history
-  pub holds : Holds header outside history
-  pub ended : BeforeSteps (StepIsInTurn header) history
-  pub recalled : BeforeSteps (AllRecalled header) history
-
 -- the number of messages that a settle is to take
 abbrev pub settles : Command → Option ℕ
 settles (command.Settle count) = Some count
@@ -56,10 +49,6 @@ pub record IsNextCanonical (header : Header) (outside : Outside) (numbered : Num
 abbrev pub KeepsCanonical : Header → Outside → Numbered → List Event → List Event → Type 0
 KeepsCanonical header outside numbered old new = (run : List Numbered) → CanonicalFor header outside run old → IsNextCanonical header outside numbered run new
 
--- where memory ended in the step of a command, the history is as it was, or its last step is cut
-abbrev pub MayCut : Header → Outside → Numbered → List Event → List Event → Type 0
-MayCut header outside numbered old new = (new ≡ old) ⊎ ((run : List Numbered) → CanonicalFor header outside run old → CanonicalCut header outside (numbered ∷ run) new)
-
 -- a settle that has more to take goes on being canonical with one message more taken
 pub record TakesMore (header : Header) (outside : Outside) (numbered : Numbered) (run : List Numbered) (old new : List Event) : Type 0 where
   pub so_far : CanonicalOpen header outside (numbered ∷ run) new
@@ -68,13 +57,6 @@ pub record TakesMore (header : Header) (outside : Outside) (numbered : Numbered)
 abbrev pub KeepsOpen : Header → Outside → Command → List Event → List Event → Type 0
 KeepsOpen header outside doing old new = (line : ℕ) (run : List Numbered) → CanonicalOpen header outside (record { line = line; command = doing } ∷ run) old
     → TakesMore header outside (record { line = line; command = doing }) run old new
-
--- memory ended, and the last step may be cut
-abbrev pub EndsCut : Header → Outside → Command → List Event → List Event → Type 0
-EndsCut header outside doing old new = (line : ℕ) (run : List Numbered) → CanonicalOpen header outside (record { line = line; command = doing } ∷ run) old → CanonicalCut header outside (record { line = line; command = doing } ∷ run) new
-
-abbrev pub MayCutOpen : Header → Outside → Command → List Event → List Event → Type 0
-MayCutOpen header outside doing old new = (new ≡ old) ⊎ EndsCut header outside doing old new
 
 -- a settle has more to take
 pub record HasMore (doing : Command) (history : List Event) : Type 0 where
@@ -131,14 +113,6 @@ took_up header who (event.Taken (Up host object) m ∷ past) = is_kept_in header
 took_up header who (event.Taken channel m ∷ past) = false
 took_up header who (e ∷ past) = took_up header who past
 
--- it began with a message that some pager took
-abbrev pub took_any : List Event → Bool
-took_any [] = false
-took_any (event.Line line ∷ past) = false
-took_any (event.Taken (Up host object) m ∷ past) = true
-took_any (event.Taken channel m ∷ past) = false
-took_any (e ∷ past) = took_any past
-
 -- the command takes a message that goes to a pager of this backing
 abbrev pub takes_up : Header → Device → Command → Bool
 takes_up header who (command.Take (Up host object)) = is_kept_in header who object
@@ -159,11 +133,6 @@ arms who other = None
 pub record LeavesBacking {B : Type 0} (header : Header) (who : Device) (doing : Command) (old new : Arming B) : Type 0 where
   pub armed : (count : ℕ) → arms who doing ≡ Some count → new ≡ record { inner = old.inner; left = count; reached = old.reached }
   pub same : arms who doing ≡ None → takes_up header who doing ≡ false → new ≡ old
-
--- memory ended in a step, before which the front stands: nothing was told, and the backing's arming has come no nearer; or a pager took a message, and the
--- backing is as it was unless that was a pager of its own
-abbrev pub IsMemoryStop : {B : Type 0} → Header → Device → (List Event → List Event) → List Event → List Event → Arming B → Arming B → Type 0
-IsMemoryStop header who front old new before after = ((new ≡ old) × (after.left ≡ before.left)) ⊎ ((front new ≡ old) × (took_any new ≡ true) × (took_up header who new ≡ false → after ≡ before))
 
 -- the command is no host's
 abbrev pub is_idle : Command → Bool

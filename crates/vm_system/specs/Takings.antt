@@ -1,5 +1,5 @@
 -- Messages are taken, each in a step of its own.
-use Rattle.std.specs.Prelude.{ℕ, ◌≡◌, ◌≢◌, ◌⊎◌, Bool, List, [], ◌∷◌, ◌++◌, Option, Some}
+use Rattle.std.specs.Prelude.{ℕ, ◌≡◌, ◌≢◌, Bool, List, [], ◌∷◌, ◌++◌, Option, Some}
 use Rattle.vm_base.specs.declared.ids.ChannelId.{ChannelId}
 use Rattle.vm_base.specs.declared.ids.HostId.{HostId}
 use Rattle.vm_model.specs.declared.event.Event.{Event}
@@ -52,10 +52,6 @@ pub record Took (given : Step) (new : State) : Type 0 where
   pub ended : EndsAll given.header new.history.items
   pub turns : HostsServed given.header new.history.items
 
--- memory ended: nothing was told, or a part of the step
-abbrev pub MayBeCut : Step → List Event → List Event → Type 0
-MayBeCut given old new = (new ≡ old) ⊎ TakesStep given new
-
 -- the pager of a host took a message and answered, and no kernel did anything yet
 pub record PagerHasAnswered (given : Going) (host : HostId) (washed : Bool) (s : State) : Type 0 where
   pub built : IsServable given.header
@@ -65,6 +61,7 @@ pub record PagerHasAnswered (given : Going) (host : HostId) (washed : Bool) (s :
   pub paid : IsPaid given.header s.history.items
   pub served : AllServed given.header s.history.items
   pub recalled : AllRecalled given.header s.history.items
+  pub log : s.log.items ≡ []
   pub answers : PagerStep given.header given.outside given.command host washed given.past given.front
 
 -- the hosts went on behind that

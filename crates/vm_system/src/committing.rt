@@ -5,19 +5,30 @@ ghost use Rattle.vm_model.specs.Channels.{queue};
 ghost use Rattle.vm_model.specs.Server.{first};
 ghost use Rattle.vm_model.specs.declared.message.Channel.{Channel};
 ghost use Rattle.vm_model.specs.declared.message.Message.{Message};
-ghost use Rattle.vm_model.specs.Copies.{HasPageOf};
 ghost use Rattle.vm_ports.specs.Ports.{spare_channels};
 ghost use Rattle.vm_system.specs.Channels.{channel_number};
-ghost use Rattle.vm_system.specs.Posts.{CanTell, CanTellAll, HasRoom, Posts, SameHosts};
+ghost use Rattle.vm_system.specs.Posts.{CanTell, CanTellAll, HasRoom, IsPrepared, IsSent, OnlyRoom, Posts, SameHosts};
 ghost use Rattle.vm_system.specs.Sends.{Added, AreFresh, Delivered, HasSent, SameLetters, made_by};
 ghost use Rattle.vm_system.specs.Steps.{lined};
 
 use crate::state::State;
-use vm_base::{ChannelId, NoMemory};
-use vm_model::{Channel, Event, Events, Message};
+use std::mem;
+use vm_base::{ChannelId, Listing, NoMemory};
+use vm_model::{Channel, Event, Events, History, Message};
+
+// The message of a letter, which stands in the event that sent it.
+pub fn sent(history: &History, index: u32) -> &Message
+    requires { (channel : Channel) × (m : Message) × IsSent history.now.items index channel m }
+    ensures { (channel : Channel) × IsSent history.now.items index channel result.now }
+{
+    let Event::Sent { message, .. } = history.at(index) else {
+        unreachable!()
+    };
+    message
+}
 
 impl State {
-    // Makes room for so many events, with their messages and channels.
+    // Makes room for so many events, with their letters and channels, and for the copy of one message.
     pub fn reserve(&mut self, count: u32) -> Result<(), NoMemory>
         ensures room { OnOk result (HasRoom count self.new) }
         ensures hosts { SameHosts self.old self.new }
@@ -26,6 +37,7 @@ impl State {
         ensures numbers { self.new.ports.channels ≡ self.old.ports.channels }
         ensures letters { self.new.ports.letters ≡ self.old.ports.letters }
         ensures buffers { self.new.buffers.size ≡ self.old.buffers.size }
+        ensures buffer { OnOk result (0 < self.new.buffers.count) }
     {
         let Some(channels) = count.checked_mul(2) else {
             return Err(NoMemory);
@@ -33,17 +45,46 @@ impl State {
         self.history.reserve(count)?;
         self.channels.reserve(channels)?;
         self.ports.reserve(channels, count)?;
-        self.buffers.reserve(count)
+        self.buffers.reserve(1)
     }
 
-    // Tells these events, oldest first.
-    pub fn commit(&mut self, mut events: Events)
+    // Takes the memory of a step of the hosts, and of so many further events; nothing but room changes.
+    pub fn prepare(&mut self, more: u32) -> Result<(), NoMemory>
+        ensures same { OnlyRoom self.old self.new }
+        ensures ready { OnOk result ((most : ℕ) × IsPrepared most more self.new) }
+    {
+        let most = self.hosts.reserve(more, &mut self.log)?;
+        let Some(count) = most.checked_add(more) else {
+            return Err(NoMemory);
+        };
+        self.reserve(count)
+    }
+
+    // Tells what stands in the log, oldest first, and leaves it empty.
+    pub fn commit_log(&mut self)
         requires posts { Posts self.old self.old.history.items }
-        requires can { CanTellAll self.old.size events.items self.old.history.items }
-        requires room { HasRoom (length events.items) self.old }
+        requires can { CanTellAll self.old.size self.old.log.items self.old.history.items }
+        requires room { HasRoom (length self.old.log.items) self.old }
+        ensures posts { Posts self.new self.new.history.items }
+        ensures hosts { SameHosts (record self.old { log = self.new.log }) self.new }
+        ensures history { self.new.history.items ≡ self.old.log.items ++ self.old.history.items }
+        ensures log { self.new.log.items ≡ [] }
+    {
+        let mut events = mem::replace(&mut self.log, Listing::new(self.alloc));
+        self.commit(&mut events);
+        self.log = events;
+    }
+
+    // Tells these events, oldest first, and leaves their list empty.
+    pub fn commit(&mut self, events: &mut Events)
+        requires posts { Posts self.old self.old.history.items }
+        requires can { CanTellAll self.old.size events.old.items self.old.history.items }
+        requires room { HasRoom (length events.old.items) self.old }
         ensures posts { Posts self.new self.new.history.items }
         ensures hosts { SameHosts self.old self.new }
-        ensures history { self.new.history.items ≡ events.items ++ self.old.history.items }
+        ensures history { self.new.history.items ≡ events.old.items ++ self.old.history.items }
+        ensures empty { events.new.items ≡ [] }
+        ensures room { (n : ℕ) → HasRoom (n + length events.old.items) self.old → HasRoom n self.new }
     {
         'all: while let Some(event) = events.take_first() {
             self.tell(event);
@@ -83,18 +124,17 @@ impl State {
         self.deliver(*channel, message);
     }
 
-    // Sends a message once more, on its channel, which it may make if it is an init or a create.
+    // Sends the message of the next event on its channel, which it may make if it is an init or a create.
     fn deliver(&mut self, channel: Channel, message: &Message)
         requires fresh { AreFresh (made_by self.old.channels.made channel message.now) self.old.channels.made }
         requires known { is_some (channel_number channel (self.old.channels.made ++ made_by self.old.channels.made channel message.now)) ≡ true }
         requires count { length self.old.channels.made ≡ self.old.ports.channels }
-        requires size { HasPageOf self.old.buffers.size message.now }
         requires room { HasRoom 1 self.old }
         ensures { Delivered channel message.now self.old self.new }
     {
         self.open(channel, message);
-        let copy = message.copy(&mut self.buffers);
-        self.send(channel, copy);
+        let index = self.history.len();
+        self.send(channel, index);
     }
 
     // An init and a create make the channel of their control, and the one up where it isn't there.
@@ -134,17 +174,17 @@ impl State {
         self.channels.add(channel);
     }
 
-    // Sends a message on a channel that was made.
-    fn send(&mut self, channel: Channel, message: Message)
+    // Sends the message of the event with an index on a channel that was made.
+    fn send(&mut self, channel: Channel, index: u32)
         requires known { is_some (channel_number channel self.old.channels.made) ≡ true }
         requires count { length self.old.channels.made ≡ self.old.ports.channels }
         requires room { 0 < self.old.ports.room }
-        ensures { HasSent channel message self.old self.new }
+        ensures { HasSent channel index self.old self.new }
     {
         let Some(number) = self.channels.number(channel) else {
             unreachable!()
         };
-        self.ports.send_spare(number, message);
+        self.ports.send_spare(number, index);
     }
 
     // Takes the first message of a channel, and tells that, behind a line if the step begins with one.
@@ -153,6 +193,7 @@ impl State {
         requires there { number.0 < length self.old.channels.made }
         requires some { (channel : Channel) → slice_get self.old.channels.made number.0 ≡ Some channel → queue channel self.old.history.items ≢ [] }
         requires room { HasRoom 2 self.old }
+        requires buffer { 0 < self.old.buffers.count }
         ensures posts { Posts self.new self.new.history.items }
         ensures hosts { SameHosts self.old self.new }
         ensures history { (channel : Channel) → slice_get self.old.channels.made number.0 ≡ Some channel
@@ -160,9 +201,10 @@ impl State {
         ensures room { (n : ℕ) → HasRoom (n + 2) self.old → HasRoom n self.new }
     {
         let channel = self.channels.channel(number);
-        let Some(message) = self.ports.take(number) else {
+        let Some(index) = self.ports.take(number) else {
             unreachable!()
         };
+        let message = sent(&self.history, index).copy(&mut self.buffers);
         self.start(line);
         let Ok(()) = self.history.push(Event::Taken { channel, message }) else {
             unreachable!()

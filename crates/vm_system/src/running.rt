@@ -1,5 +1,5 @@
 // Steps of commands that take no message.
-ghost use Rattle.std.specs.Prelude.{◌≡◌, ◌∷◌, ◌++◌, ◌<◌, ℕ, List, None, Some, OnOk, OnErr, true, false, [], IfOk, is_some, length};
+ghost use Rattle.std.specs.Prelude.{◌≡◌, ◌∷◌, ◌++◌, ◌+◌, ◌<◌, ◌≤◌, ℕ, List, None, Some, OnOk, OnErr, true, false, [], IfOk, is_some, length};
 ghost use Rattle.vm_base.specs.declared.code.Code.{Code};
 ghost use Rattle.vm_model.specs.declared.command.Numbered.{Numbered};
 ghost use Rattle.vm_model.specs.declared.event.Event.TheVariants as event;
@@ -10,14 +10,29 @@ ghost use Rattle.vm_legal.specs.Refusal.{refusal};
 ghost use Rattle.vm_hosts.specs.Steps.{Step};
 ghost use Rattle.vm_kernel.specs.Built.{kernel_runs as is_run};
 ghost use Rattle.vm_model.specs.declared.command.Command.TheVariants as command;
-ghost use Rattle.vm_system.specs.Posts.{CanTellAll, Posts, SameHosts};
 ghost use Rattle.vm_system.specs.Making.{Makes, Spares};
-ghost use Rattle.vm_system.specs.Stands.{SystemStands};
+ghost use Rattle.vm_system.specs.Stands.{StandsStill, SystemStands};
 ghost use Rattle.vm_system.specs.Steps.{Setting, is_idle};
 
 use crate::state::State;
 use vm_base::{Buffers, Code, HostId, NoMemory, ObjectId};
 use vm_model::{Channel, Command, Event, Events, Message};
+
+// Puts what is asked, one event at most, into an empty list that has room for it.
+fn put(mut asked: Events, log: &mut Events)
+    requires few { length asked.items ≤ 1 }
+    requires empty { log.old.items ≡ [] }
+    requires room { 0 < log.old.room }
+    ensures items { log.new.items ≡ asked.items }
+    ensures room { log.old.room ≤ log.new.room + 1 }
+{
+    let Some(event) = asked.take_first() else {
+        return;
+    };
+    let Ok(()) = log.push(event) else {
+        unreachable!()
+    };
+}
 
 impl State {
     // A command of a host that isn't refused.
@@ -30,10 +45,13 @@ impl State {
         requires accepted { refusal given.header self.old.history.items command.now ≡ None }
         ensures made { OnOk result (Makes given.header given.outside (record { line = line; command = command.now }) self.old self.new) }
         ensures spares { Spares given.header given.outside self.old self.new }
-        ensures err { OnErr result (self.new.history.items ≡ self.old.history.items) }
+        ensures err { OnErr result (StandsStill given.header given.outside self.old self.new) }
     {
-        let events = self.hosts.begin(command)?;
-        self.append(line, events)
+        self.prepare(1)?;
+        self.hosts.begin(command, &mut self.log)?;
+        self.tell(Event::Line { line });
+        self.commit_log();
+        Ok(())
     }
 
     // A command that is no host's: a file's pager says what a clean asks of it, or a wild object's what the
@@ -47,14 +65,18 @@ impl State {
         requires accepted { refusal given.header self.old.history.items command.now ≡ None }
         ensures made { OnOk result (Makes given.header given.outside (record { line = line; command = command.now }) self.old self.new) }
         ensures spares { Spares given.header given.outside self.old self.new }
-        ensures err { OnErr result (self.new.history.items ≡ self.old.history.items) }
+        ensures err { OnErr result (StandsStill given.header given.outside self.old self.new) }
     {
-        let mut events = self.asked(command)?;
-        self.hosts.serve(&mut events)?;
-        self.append(line, events)
+        self.prepare(2)?;
+        let asked = self.asked(command)?;
+        put(asked, &mut self.log);
+        self.hosts.serve(&mut self.log);
+        self.tell(Event::Line { line });
+        self.commit_log();
+        Ok(())
     }
 
-    // What a file's pager says for a clean, and what is said for a wild object.
+    // What a file's pager says for a clean, and what is said for a wild object: one event at most.
     fn asked(&self, command: &Command) -> Result<Events, NoMemory>
         ghost given: { Step }
         requires stands { SystemStands given.header given.outside self.now }
@@ -62,7 +84,8 @@ impl State {
         requires range { InRange given.header command.now }
         requires idle { is_idle command.now ≡ true }
         requires accepted { refusal given.header self.now.history.items command.now ≡ None }
-        ensures { IfOk result (λ events. head given.header given.past command.now ≡ Some events.items) }
+        ensures head { IfOk result (λ events. head given.header given.past command.now ≡ Some events.items) }
+        ensures few { IfOk result (λ events. length events.items ≤ 1) }
     {
         match command {
             Command::Clean {
@@ -88,7 +111,8 @@ impl State {
         requires known { host.0 < length given.header.frames.items }
         requires said { IsSaid self.now.size message.now }
         requires lives { is_some (live_control host.0 object.0 self.now.history.items) ≡ true }
-        ensures { IfOk result (λ events. say_head host object message.now (live_control host.0 object.0 self.now.history.items) ≡ Some events.items) }
+        ensures head { IfOk result (λ events. say_head host object message.now (live_control host.0 object.0 self.now.history.items) ≡ Some events.items) }
+        ensures few { IfOk result (λ events. length events.items ≤ 1) }
     {
         let Some(control) = self.hosts.control(host, object) else {
             unreachable!()
@@ -106,24 +130,6 @@ impl State {
         Ok(events)
     }
 
-    // A line, and the events behind it.
-    fn append(&mut self, line: u32, events: Events) -> Result<(), NoMemory>
-        requires posts { Posts self.old self.old.history.items }
-        requires can { CanTellAll self.old.size events.items (event.Line line ∷ self.old.history.items) }
-        ensures posts { OnOk result (Posts self.new self.new.history.items) }
-        ensures history { OnOk result (self.new.history.items ≡ events.items ++ event.Line line ∷ self.old.history.items) }
-        ensures hosts { SameHosts self.old self.new }
-        ensures err { OnErr result (self.new.history.items ≡ self.old.history.items) }
-    {
-        let Some(count) = events.len().checked_add(1) else {
-            return Err(NoMemory);
-        };
-        self.reserve(count)?;
-        self.tell(Event::Line { line });
-        self.commit(events);
-        Ok(())
-    }
-
     // A command that is refused.
     pub fn refuse(&mut self, line: u32, command: &Command, code: Code) -> Result<(), NoMemory>
         ghost given: { Setting }
@@ -131,7 +137,7 @@ impl State {
         requires refused { refusal given.header self.old.history.items command.now ≡ Some code }
         ensures made { OnOk result (Makes given.header given.outside (record { line = line; command = command.now }) self.old self.new) }
         ensures spares { Spares given.header given.outside self.old self.new }
-        ensures err { OnErr result (self.new.history.items ≡ self.old.history.items) }
+        ensures err { OnErr result (StandsStill given.header given.outside self.old self.new) }
     {
         self.reserve(2)?;
         self.tell(Event::Line { line });
@@ -146,7 +152,7 @@ impl State {
         ensures line { OnOk result (self.new.history.items ≡ event.Line line ∷ self.old.history.items) }
         ensures made { OnOk result (Makes given.header given.outside (record { line = line; command = command.Settle count }) self.old self.new) }
         ensures spares { Spares given.header given.outside self.old self.new }
-        ensures err { OnErr result (self.new.history.items ≡ self.old.history.items) }
+        ensures err { OnErr result (StandsStill given.header given.outside self.old self.new) }
     {
         self.reserve(1)?;
         self.tell(Event::Line { line });

@@ -1,5 +1,5 @@
 // A settle's takings.
-ghost use Rattle.std.specs.Prelude.{◌≡◌, ◌≢◌, ◌+◌, ◌<◌, ◌≤◌, ℕ, List, [], IfOk, IsErrOf, OnOk, length};
+ghost use Rattle.std.specs.Prelude.{◌≡◌, ◌≢◌, ◌+◌, ◌<◌, ◌≤◌, ℕ, List, [], IfOk, IsErrOf, OnErr, OnOk, length};
 ghost use Rattle.vm_model.specs.Limits.{most_events};
 ghost use Rattle.vm_model.specs.declared.event.Device.TheVariants as device;
 ghost use Rattle.vm_outside.specs.Areas.{Told};
@@ -10,7 +10,7 @@ ghost use Rattle.vm_hosts.specs.Steps.{Step};
 ghost use Rattle.vm_system.specs.Resting.{LeavesAtRest};
 ghost use Rattle.vm_system.specs.Settling.{DevicesCounted, HasLeft, StaysOpen};
 ghost use Rattle.vm_system.specs.Stands.{FilesAreKept, PagingIsKept, SystemStands};
-ghost use Rattle.vm_system.specs.Steps.{EndsCut, GrowsWithinLimit};
+ghost use Rattle.vm_system.specs.Steps.{GrowsWithinLimit};
 
 use crate::stop::SystemStop;
 use crate::system::System;
@@ -20,7 +20,8 @@ use vm_outside::{Armed, Backing};
 /// settle, and gives how many it took: fewer than `n` only where nothing is undelivered any more.
 ///
 /// `EventLimit` comes exactly where fewer than `n` were taken, something is undelivered and the
-/// history has 200,000 events or more; the takings in front of that stand. After `NoMemory` the system is asked for its history alone.
+/// history has 200,000 events or more. At an error the takings in front of it stand: after `NoMemory` the system is as before
+/// the taking that wanted memory, and may be settled further.
 pub fn settle<F: Backing, P: Backing>(
     system: &mut System,
     n: u32,
@@ -41,8 +42,7 @@ pub fn settle<F: Backing, P: Backing>(
     ensures grew { GrowsWithinLimit system.old.history.items system.new.history.items }
     ensures full { IsErrOf result SystemStop.EventLimit → (most_events ≤ length system.new.history.items) × (undelivered system.new.history.items ≢ []) }
     ensures left { IsErrOf result SystemStop.EventLimit → takings system.new.history.items < takings system.old.history.items + n }
-    ensures stood { IsErrOf result SystemStop.EventLimit → SystemStands given.header given.outside system.new × StaysOpen given.header given.outside given.command system.old.history.items system.new.history.items × LeavesAtRest given.header system.old.history.items system.new.history.items }
-    ensures memory { IsErrOf result SystemStop.NoMemory → EndsCut given.header given.outside given.command system.old.history.items system.new.history.items }
+    ensures stood { OnErr result (SystemStands given.header given.outside system.new × StaysOpen given.header given.outside given.command system.old.history.items system.new.history.items × LeavesAtRest given.header system.old.history.items system.new.history.items) }
     ensures kept { PagingIsKept given.header given.outside (P.area paging.new.inner) system.new }
     ensures files_kept { FilesAreKept given.header given.outside (F.area files.new.inner) system.new }
     ensures carried { (start : List ℕ → Told) → FilesCarry given.header start (F.area files.old.inner) system.old.history.items → FilesCarry given.header start (F.area files.new.inner) system.new.history.items }

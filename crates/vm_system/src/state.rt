@@ -7,7 +7,7 @@ use sms_server::Server;
 use std::alloc::Global;
 use vm_base::{Buffers, PageSize};
 use vm_hosts::Hosts;
-use vm_model::{Declared, History, Message};
+use vm_model::{Declared, Events, History};
 use vm_ports::Ports;
 
 #[derive(Drop)]
@@ -23,8 +23,11 @@ pub struct State {
     pub files: Vec<FilePager>,
     // Of all shared objects.
     pub server: Server,
-    pub ports: Ports<Message>,
+    // A letter is the index of the event that sent it, counted from the oldest.
+    pub ports: Ports<u32>,
     pub channels: Channels,
     pub buffers: Buffers,
     pub history: History,
+    // Of the step that is made, and empty between steps: what the hosts did.
+    pub log: Events,
 }

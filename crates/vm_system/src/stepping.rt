@@ -1,6 +1,5 @@
 // One command's step.
 ghost use Rattle.std.specs.Prelude.{◌≡◌, ◌∷◌, ℕ, List, false, true, None, Some, OnErr, OnOk};
-ghost use Rattle.vm_model.specs.Moments.{before_last_line};
 ghost use Rattle.vm_model.specs.Ranges.{InRange};
 ghost use Rattle.vm_model.specs.declared.event.Device.TheVariants as device;
 ghost use Rattle.vm_outside.specs.Areas.{Told};
@@ -11,8 +10,9 @@ ghost use Rattle.vm_model.specs.declared.command.Command.TheVariants as command;
 ghost use Rattle.vm_model.specs.declared.event.Event.TheVariants as event;
 ghost use Rattle.vm_hosts.specs.Steps.{Step};
 ghost use Rattle.vm_system.specs.Making.{Makes};
-ghost use Rattle.vm_system.specs.Stands.{FilesAreKept, PagingIsKept, SystemStands};
-ghost use Rattle.vm_system.specs.Steps.{DevicesHaveCause, GrowsWithinLimit, IsMemoryStop, LeavesBacking, MayCut, Setting, arms, takes_any, takes_up, took_up};
+ghost use Rattle.vm_outside.specs.Arming.{KeepsArming};
+ghost use Rattle.vm_system.specs.Stands.{FilesAreKept, PagingIsKept, StandsStill, SystemStands};
+ghost use Rattle.vm_system.specs.Steps.{DevicesHaveCause, GrowsWithinLimit, LeavesBacking, Setting, arms, takes_any, takes_up, took_up};
 
 use crate::state::State;
 use vm_base::NoMemory;
@@ -35,7 +35,8 @@ impl State {
         requires range { InRange given.header command.now }
         ensures made { OnOk result (Makes given.header given.outside (record { line = line; command = command.now }) self.old self.new) }
         ensures grew { GrowsWithinLimit self.old.history.items self.new.history.items }
-        ensures memory { OnErr result (MayCut given.header given.outside (record { line = line; command = command.now }) self.old.history.items self.new.history.items) }
+        ensures err { OnErr result (StandsStill given.header given.outside self.old self.new) }
+        ensures unmoved { OnErr result (KeepsArming files.old files.new × KeepsArming paging.old paging.new) }
         ensures kept { PagingIsKept given.header given.outside (P.area paging.new.inner) self.new }
         ensures files_kept { FilesAreKept given.header given.outside (F.area files.new.inner) self.new }
         ensures carried { (start : List ℕ → Told) → FilesCarry given.header start (F.area files.old.inner) self.old.history.items → FilesCarry given.header start (F.area files.new.inner) self.new.history.items }
@@ -47,8 +48,6 @@ impl State {
         ensures files_later { arms device.Files command.now ≡ None → ⟦<Armed<F> as Backing>⟧.later files.old files.new }
         ensures later { arms device.Paging command.now ≡ None → ⟦<Armed<P> as Backing>⟧.later paging.old paging.new }
         ensures calm { OnErr result (takes_any command.now ≡ false → (self.new.history.items ≡ self.old.history.items) × (files.new ≡ files.old) × (paging.new ≡ paging.old)) }
-        ensures files_stops { OnErr result (IsMemoryStop given.header device.Files before_last_line self.old.history.items self.new.history.items files.old files.new) }
-        ensures stops { OnErr result (IsMemoryStop given.header device.Paging before_last_line self.old.history.items self.new.history.items paging.old paging.new) }
         ensures devices { DevicesHaveCause device.Paging (⟦<Armed<P> as Backing>⟧.faults paging.old) (⟦<Armed<P> as Backing>⟧.faults paging.new) self.old.history.items self.new.history.items }
         ensures files_devices { DevicesHaveCause device.Files (⟦<Armed<F> as Backing>⟧.faults files.old) (⟦<Armed<F> as Backing>⟧.faults files.new) self.old.history.items self.new.history.items }
     {
@@ -90,7 +89,8 @@ impl State {
         requires accepted { refusal given.header self.old.history.items (command.Take channel) ≡ None }
         ensures made { OnOk result (Makes given.header given.outside (record { line = line; command = command.Take channel }) self.old self.new) }
         ensures grew { GrowsWithinLimit self.old.history.items self.new.history.items }
-        ensures memory { OnErr result (MayCut given.header given.outside (record { line = line; command = command.Take channel }) self.old.history.items self.new.history.items) }
+        ensures err { OnErr result (StandsStill given.header given.outside self.old self.new) }
+        ensures unmoved { OnErr result (KeepsArming files.old files.new × KeepsArming paging.old paging.new) }
         ensures kept { PagingIsKept given.header given.outside (P.area paging.new.inner) self.new }
         ensures files_kept { FilesAreKept given.header given.outside (F.area files.new.inner) self.new }
         ensures carried { (start : List ℕ → Told) → FilesCarry given.header start (F.area files.old.inner) self.old.history.items → FilesCarry given.header start (F.area files.new.inner) self.new.history.items }
@@ -101,8 +101,6 @@ impl State {
         ensures files_later { ⟦<Armed<F> as Backing>⟧.later files.old files.new }
         ensures later { ⟦<Armed<P> as Backing>⟧.later paging.old paging.new }
         ensures calm { OnErr result (takes_any (command.Take channel) ≡ false → (self.new.history.items ≡ self.old.history.items) × (files.new ≡ files.old) × (paging.new ≡ paging.old)) }
-        ensures files_stops { OnErr result (IsMemoryStop given.header device.Files before_last_line self.old.history.items self.new.history.items files.old files.new) }
-        ensures stops { OnErr result (IsMemoryStop given.header device.Paging before_last_line self.old.history.items self.new.history.items paging.old paging.new) }
         ensures devices { DevicesHaveCause device.Paging (⟦<Armed<P> as Backing>⟧.faults paging.old) (⟦<Armed<P> as Backing>⟧.faults paging.new) self.old.history.items self.new.history.items }
         ensures files_devices { DevicesHaveCause device.Files (⟦<Armed<F> as Backing>⟧.faults files.old) (⟦<Armed<F> as Backing>⟧.faults files.new) self.old.history.items self.new.history.items }
     {

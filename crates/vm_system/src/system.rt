@@ -11,7 +11,7 @@ ghost use Rattle.vm_legal.specs.Undelivered.{undelivered};
 ghost use Rattle.vm_model.specs.declared.event.Device.TheVariants as device;
 ghost use Rattle.vm_outside.specs.Areas.{Told};
 ghost use Rattle.vm_system.specs.Keeping.{FilesAreTold, FilesCarry};
-ghost use Rattle.vm_outside.specs.Arming.{ReachesOne};
+ghost use Rattle.vm_outside.specs.Arming.{KeepsArming, ReachesOne};
 ghost use Rattle.vm_model.specs.declared.event.Event.TheVariants as event;
 ghost use Rattle.vm_legal.specs.Steps.{before_step, takings};
 ghost use Rattle.vm_model.specs.Moments.{before_last_line};
@@ -20,7 +20,7 @@ ghost use Rattle.vm_model.specs.Named.{named};
 ghost use Rattle.vm_hosts.specs.Steps.{Step};
 ghost use Rattle.vm_system.specs.Resting.{LeavesAtRest};
 ghost use Rattle.vm_system.specs.Stands.{AllFilesServe, AllTold, AreEmpty, AreNumbered, FilesAreKept, IsServable, PagingIsKept, SystemStands};
-ghost use Rattle.vm_system.specs.Steps.{DevicesHaveCause, GrowsWithinLimit, HasMore, IsMemoryStop, KeepsCanonical, KeepsOpen, LeavesBacking, MayCut, MayCutOpen, Setting, arms, takes_any, took_up};
+ghost use Rattle.vm_system.specs.Steps.{DevicesHaveCause, GrowsWithinLimit, HasMore, KeepsCanonical, KeepsOpen, LeavesBacking, Setting, arms, takes_any, took_up};
 
 use crate::channels::Channels;
 use crate::state::State;
@@ -30,7 +30,7 @@ use pg_file::FilePager;
 use sms_server::Server;
 use std::alloc::Global;
 use std::marker::Model;
-use vm_base::{Buffers, Code, HostId, NoMemory, ObjectId};
+use vm_base::{Buffers, Code, HostId, Listing, NoMemory, ObjectId};
 use vm_hosts::Hosts;
 use vm_model::limits::MOST_EVENTS;
 use vm_model::{Command, Declared, Header, History};
@@ -81,6 +81,7 @@ impl System {
             channels: Channels::new(alloc),
             buffers: Buffers::new(alloc, header.size),
             history: History::new(alloc),
+            log: Listing::new(alloc),
         };
         Ok(System { state })
     }
@@ -99,7 +100,7 @@ impl System {
     /// is its line alone.
     ///
     /// `EventLimit` comes exactly where the history has 200,000 events or more, and then nothing has
-    /// changed. After `NoMemory` the system is asked for its history alone.
+    /// changed. After `NoMemory` the system is as before, and the same call may be made again.
     pub fn step<F: Backing, P: Backing>(
         &mut self,
         line: u32,
@@ -121,13 +122,13 @@ impl System {
         ensures grew { GrowsWithinLimit self.old.history.items self.new.history.items }
         ensures front { OnOk result (before_last_line self.new.history.items ≡ self.old.history.items) }
         ensures unchanged { IsErrOf result SystemStop.EventLimit → (self.new ≡ self.old) × (files.new ≡ files.old) × (paging.new ≡ paging.old) }
-        ensures memory { IsErrOf result SystemStop.NoMemory → MayCut given.header given.outside (record { line = line; command = command.now }) self.old.history.items self.new.history.items }
+        ensures refused { IsErrOf result SystemStop.NoMemory → SystemStands given.header given.outside self.new × ((self.new.history.items ≡ self.old.history.items) × (KeepsArming files.old files.new × KeepsArming paging.old paging.new)) }
         ensures kept { PagingIsKept given.header given.outside (P.area paging.new.inner) self.new }
         ensures files_kept { FilesAreKept given.header given.outside (F.area files.new.inner) self.new }
         ensures carried { (start : List ℕ → Told) → FilesCarry given.header start (F.area files.old.inner) self.old.history.items → FilesCarry given.header start (F.area files.new.inner) self.new.history.items }
         ensures alone { OnOk result ((count : ℕ) → command.now ≡ Command.Settle count → self.new.history.items ≡ event.Line line ∷ self.old.history.items) }
 
-        // The backings; at an error all is as it was, unless the command takes a message that goes to a pager.
+        // The backings; at an error all is as it was, unless the command takes a message that goes to a pager, which may have asked its own.
         ensures files { OnOk result (LeavesBacking given.header device.Files command.now files.old files.new) }
         ensures paging { OnOk result (LeavesBacking given.header device.Paging command.now paging.old paging.new) }
         ensures files_unasked { OnOk result (arms device.Files command.now ≡ None → took_up given.header device.Files self.new.history.items ≡ false → files.new ≡ files.old) }
@@ -137,8 +138,6 @@ impl System {
         ensures files_reached { ReachesOne files.old files.new }
         ensures reached { ReachesOne paging.old paging.new }
         ensures calm { OnErr result (takes_any command.now ≡ false → (self.new.history.items ≡ self.old.history.items) × (files.new ≡ files.old) × (paging.new ≡ paging.old)) }
-        ensures files_stops { OnErr result (IsMemoryStop given.header device.Files before_last_line self.old.history.items self.new.history.items files.old files.new) }
-        ensures stops { OnErr result (IsMemoryStop given.header device.Paging before_last_line self.old.history.items self.new.history.items paging.old paging.new) }
         ensures devices { DevicesHaveCause device.Paging (⟦<Armed<P> as Backing>⟧.faults paging.old) (⟦<Armed<P> as Backing>⟧.faults paging.new) self.old.history.items self.new.history.items }
         ensures files_devices { DevicesHaveCause device.Files (⟦<Armed<F> as Backing>⟧.faults files.old) (⟦<Armed<F> as Backing>⟧.faults files.new) self.old.history.items self.new.history.items }
     {
@@ -154,7 +153,7 @@ impl System {
     /// nothing is undelivered.
     ///
     /// `EventLimit` comes exactly where something is undelivered and the history has 200,000 events or
-    /// more, and then nothing has changed. After `NoMemory` the system is asked for its history alone.
+    /// more, and then nothing has changed. After `NoMemory` the system is as before, and the same call may be made again.
     pub fn take_oldest<F: Backing, P: Backing>(
         &mut self,
         files: &mut Armed<F>,
@@ -180,7 +179,7 @@ impl System {
         ensures unasked { IfOk result (λ took. took ≡ true → took_up given.header device.Paging self.new.history.items ≡ false → paging.new ≡ paging.old) }
         ensures full { IsErrOf result SystemStop.EventLimit ↔ ((most_events ≤ length self.old.history.items) × (undelivered self.old.history.items ≢ [])) }
         ensures unchanged { IsErrOf result SystemStop.EventLimit → (self.new ≡ self.old) × (files.new ≡ files.old) × (paging.new ≡ paging.old) }
-        ensures memory { IsErrOf result SystemStop.NoMemory → MayCutOpen given.header given.outside given.command self.old.history.items self.new.history.items }
+        ensures refused { IsErrOf result SystemStop.NoMemory → SystemStands given.header given.outside self.new × ((self.new.history.items ≡ self.old.history.items) × (KeepsArming files.old files.new × KeepsArming paging.old paging.new)) }
         ensures kept { PagingIsKept given.header given.outside (P.area paging.new.inner) self.new }
         ensures files_kept { FilesAreKept given.header given.outside (F.area files.new.inner) self.new }
         ensures carried { (start : List ℕ → Told) → FilesCarry given.header start (F.area files.old.inner) self.old.history.items → FilesCarry given.header start (F.area files.new.inner) self.new.history.items }
@@ -188,8 +187,6 @@ impl System {
         ensures later { ⟦<Armed<P> as Backing>⟧.later paging.old paging.new }
         ensures files_reached { ReachesOne files.old files.new }
         ensures reached { ReachesOne paging.old paging.new }
-        ensures files_stops { IsErrOf result SystemStop.NoMemory → IsMemoryStop given.header device.Files before_step self.old.history.items self.new.history.items files.old files.new }
-        ensures stops { IsErrOf result SystemStop.NoMemory → IsMemoryStop given.header device.Paging before_step self.old.history.items self.new.history.items paging.old paging.new }
         ensures devices { DevicesHaveCause device.Paging (⟦<Armed<P> as Backing>⟧.faults paging.old) (⟦<Armed<P> as Backing>⟧.faults paging.new) self.old.history.items self.new.history.items }
         ensures files_devices { DevicesHaveCause device.Files (⟦<Armed<F> as Backing>⟧.faults files.old) (⟦<Armed<F> as Backing>⟧.faults files.new) self.old.history.items self.new.history.items }
     {

@@ -9,13 +9,21 @@ ghost use Rattle.vm_system.specs.Keeping.{FilesCarry};
 ghost use Rattle.vm_model.specs.Channels.{queue};
 ghost use Rattle.vm_model.specs.Named.{named};
 ghost use Rattle.vm_system.specs.Making.{Spares, SparesFiles, SparesPaging};
-ghost use Rattle.vm_system.specs.Stands.{FilesAreKept, PagingIsKept};
+ghost use Rattle.sms_server.specs.Answers.{IsToServer, most_told};
+ghost use Rattle.sms_server.specs.Table.{IsSameTable};
+ghost use Rattle.vm_hosts.specs.Hosts.{IsReady};
+ghost use Rattle.vm_model.specs.declared.message.Message.{Message};
+ghost use Rattle.vm_outside.specs.Arming.{KeepsArming};
+ghost use Rattle.vm_ports.specs.Ports.{queue as queue_on};
+ghost use Rattle.vm_system.specs.Posts.{HasRoom, IsSent};
+ghost use Rattle.vm_system.specs.Stands.{FilesAreKept, PagingIsKept, StandsStill};
 ghost use Rattle.vm_legal.specs.Homes.{gives_frame};
 ghost use Rattle.vm_legal.specs.Outside.{is_file, is_shared, is_wild, kind_of};
 ghost use Rattle.vm_hosts.specs.Steps.{Going, Step};
-ghost use Rattle.vm_system.specs.Steps.{DevicesHaveCause, takes_any, takes_up};
-ghost use Rattle.vm_system.specs.Takings.{Followed, MayBeCut, MayTakeFrom, PagerHasAnswered, Took};
+ghost use Rattle.vm_system.specs.Steps.{DevicesHaveCause, takes_up};
+ghost use Rattle.vm_system.specs.Takings.{Followed, MayTakeFrom, PagerHasAnswered, Took};
 
+use crate::committing::sent;
 use crate::state::State;
 use vm_base::{ChannelId, HostId, NoMemory, ObjectId, ObjectKind};
 use vm_model::{Channel, Message};
@@ -45,7 +53,7 @@ impl State {
         requires kept { PagingIsKept given.header given.outside (P.area paging.old.inner) self.old }
         requires files { FilesAreKept given.header given.outside (F.area files.old.inner) self.old }
         ensures took { OnOk result (Took given self.new) }
-        ensures cut { OnErr result (MayBeCut given self.old.history.items self.new.history.items) }
+        ensures err { OnErr result (StandsStill given.header given.outside self.old self.new) }
         ensures kept { PagingIsKept given.header given.outside (P.area paging.new.inner) self.new }
         ensures files_kept { FilesAreKept given.header given.outside (F.area files.new.inner) self.new }
         ensures carried { (start : List ℕ → Told) → FilesCarry given.header start (F.area files.old.inner) self.old.history.items → FilesCarry given.header start (F.area files.new.inner) self.new.history.items }
@@ -53,8 +61,7 @@ impl State {
         ensures files_devices { DevicesHaveCause device.Files (⟦<Armed<F> as Backing>⟧.faults files.old) (⟦<Armed<F> as Backing>⟧.faults files.new) self.old.history.items self.new.history.items }
         ensures paging { (channel : Channel) → slice_get self.old.channels.made number.0 ≡ Some channel → takes_up given.header device.Paging (command.Take channel) ≡ false → paging.new ≡ paging.old }
         ensures files { (channel : Channel) → slice_get self.old.channels.made number.0 ≡ Some channel → takes_up given.header device.Files (command.Take channel) ≡ false → files.new ≡ files.old }
-        ensures down { OnErr result ((channel : Channel) → slice_get self.old.channels.made number.0 ≡ Some channel → takes_any (command.Take channel) ≡ false → self.new.history.items ≡ self.old.history.items) }
-        ensures unmoved { OnErr result (self.new.history.items ≡ self.old.history.items → (paging.new.left ≡ paging.old.left) × (files.new.left ≡ files.old.left)) }
+        ensures unmoved { OnErr result (KeepsArming files.old files.new × KeepsArming paging.old paging.new) }
         ensures later { ⟦<Armed<P> as Backing>⟧.later paging.old paging.new }
         ensures files_later { ⟦<Armed<F> as Backing>⟧.later files.old files.new }
     {
@@ -81,19 +88,18 @@ impl State {
         ghost given: { Step }
         requires { MayTakeFrom given line number (channels.Down host object control) self.old }
         ensures took { OnOk result (Took given self.new) }
-        ensures err { OnErr result (self.new.history.items ≡ self.old.history.items) }
+        ensures err { OnErr result (StandsStill given.header given.outside self.old self.new) }
         ensures spares { Spares given.header given.outside self.old self.new }
     {
-        let Some(message) = self.ports.head(number) else {
+        self.prepare(2)?;
+        let Some(index) = self.ports.head(number) else {
             unreachable!()
         };
-        let events = self.hosts.take(host, object, control, message)?;
-        let Some(count) = events.len().checked_add(2) else {
-            return Err(NoMemory);
-        };
-        self.reserve(count)?;
+        let message = sent(&self.history, *index);
+        self.hosts
+            .take(host, object, control, message, &mut self.log)?;
         self.take_first(line, number);
-        self.commit(events);
+        self.commit_log();
         Ok(())
     }
 
@@ -113,7 +119,7 @@ impl State {
         requires kept { PagingIsKept given.header given.outside (P.area paging.old.inner) self.old }
         requires files { FilesAreKept given.header given.outside (F.area files.old.inner) self.old }
         ensures took { OnOk result (Took given self.new) }
-        ensures cut { OnErr result (MayBeCut given self.old.history.items self.new.history.items) }
+        ensures err { OnErr result (StandsStill given.header given.outside self.old self.new) }
         ensures kept { PagingIsKept given.header given.outside (P.area paging.new.inner) self.new }
         ensures files_kept { FilesAreKept given.header given.outside (F.area files.new.inner) self.new }
         ensures carried { (start : List ℕ → Told) → FilesCarry given.header start (F.area files.old.inner) self.old.history.items → FilesCarry given.header start (F.area files.new.inner) self.new.history.items }
@@ -121,7 +127,7 @@ impl State {
         ensures files_devices { DevicesHaveCause device.Files (⟦<Armed<F> as Backing>⟧.faults files.old) (⟦<Armed<F> as Backing>⟧.faults files.new) self.old.history.items self.new.history.items }
         ensures paging { takes_up given.header device.Paging (command.Take (channels.Up host object)) ≡ false → paging.new ≡ paging.old }
         ensures files { takes_up given.header device.Files (command.Take (channels.Up host object)) ≡ false → files.new ≡ files.old }
-        ensures unmoved { OnErr result (self.new.history.items ≡ self.old.history.items → (paging.new.left ≡ paging.old.left) × (files.new.left ≡ files.old.left)) }
+        ensures unmoved { OnErr result (KeepsArming files.old files.new × KeepsArming paging.old paging.new) }
         ensures later { ⟦<Armed<P> as Backing>⟧.later paging.old paging.new }
         ensures files_later { ⟦<Armed<F> as Backing>⟧.later files.old files.new }
     {
@@ -159,23 +165,25 @@ impl State {
         requires temporary { named given.header ≤ object.0 }
         requires kept { PagingIsKept given.header given.outside (P.area paging.old.inner) self.old }
         ensures took { OnOk result (Took given self.new) }
-        ensures cut { OnErr result (MayBeCut given self.old.history.items self.new.history.items) }
+        ensures err { OnErr result (StandsStill given.header given.outside self.old self.new) }
         ensures kept { PagingIsKept given.header given.outside (P.area paging.new.inner) self.new }
         ensures devices { DevicesHaveCause device.Paging (⟦<Armed<P> as Backing>⟧.faults paging.old) (⟦<Armed<P> as Backing>⟧.faults paging.new) self.old.history.items self.new.history.items }
         ensures spares { SparesFiles given.header given.outside self.old self.new }
-        ensures unmoved { OnErr result (self.new.history.items ≡ self.old.history.items → paging.new.left ≡ paging.old.left) }
+        ensures unmoved { OnErr result (KeepsArming paging.old paging.new) }
         ensures later { ⟦<Armed<P> as Backing>⟧.later paging.old paging.new }
     {
-        self.reserve(4)?;
-        let Some(message) = self.ports.head(number) else {
+        self.prepare(4)?;
+        let Some(index) = self.ports.head(number) else {
             unreachable!()
         };
+        let message = sent(&self.history, *index);
         let washed = gives_frame(message);
-        let answers = self.pagers[host.0 as usize].answer(object, message, paging)?;
+        let mut answers = self.pagers[host.0 as usize].answer(object, message, paging)?;
         let fresh = answers.len() + 1;
         self.take_first(line, number);
-        self.commit(answers);
-        self.follow(host, fresh, washed)
+        self.commit(&mut answers);
+        self.follow(host, fresh, washed);
+        Ok(())
     }
 
     // The pager of a file takes a message.
@@ -192,24 +200,26 @@ impl State {
         requires file { is_file given.header object.0 ≡ true }
         requires files { FilesAreKept given.header given.outside (F.area files.old.inner) self.old }
         ensures took { OnOk result (Took given self.new) }
-        ensures cut { OnErr result (MayBeCut given self.old.history.items self.new.history.items) }
+        ensures err { OnErr result (StandsStill given.header given.outside self.old self.new) }
         ensures files_kept { FilesAreKept given.header given.outside (F.area files.new.inner) self.new }
         ensures carried { (start : List ℕ → Told) → FilesCarry given.header start (F.area files.old.inner) self.old.history.items → FilesCarry given.header start (F.area files.new.inner) self.new.history.items }
         ensures files_devices { DevicesHaveCause device.Files (⟦<Armed<F> as Backing>⟧.faults files.old) (⟦<Armed<F> as Backing>⟧.faults files.new) self.old.history.items self.new.history.items }
         ensures spares { SparesPaging given.header given.outside self.old self.new }
-        ensures unmoved { OnErr result (self.new.history.items ≡ self.old.history.items → files.new.left ≡ files.old.left) }
+        ensures unmoved { OnErr result (KeepsArming files.old files.new) }
         ensures files_later { ⟦<Armed<F> as Backing>⟧.later files.old files.new }
     {
-        self.reserve(4)?;
-        let Some(message) = self.ports.head(number) else {
+        self.prepare(4)?;
+        let Some(index) = self.ports.head(number) else {
             unreachable!()
         };
+        let message = sent(&self.history, *index);
         let washed = gives_frame(message);
-        let replies = self.files[object.0 as usize].answer(host, message, files)?;
+        let mut replies = self.files[object.0 as usize].answer(host, message, files)?;
         let fresh = replies.len() + 1;
         self.take_first(line, number);
-        self.commit(replies);
-        self.follow(host, fresh, washed)
+        self.commit(&mut replies);
+        self.follow(host, fresh, washed);
+        Ok(())
     }
 
     // What is sent to a wild object's pager is taken, and nobody answers.
@@ -224,16 +234,18 @@ impl State {
         requires may { MayTakeFrom given line number (channels.Up host object) self.old }
         requires wild { is_wild given.header object.0 ≡ true }
         ensures took { OnOk result (Took given self.new) }
-        ensures cut { OnErr result (MayBeCut given self.old.history.items self.new.history.items) }
+        ensures err { OnErr result (StandsStill given.header given.outside self.old self.new) }
         ensures spares { Spares given.header given.outside self.old self.new }
     {
-        self.reserve(2)?;
-        let Some(message) = self.ports.head(number) else {
+        self.prepare(2)?;
+        let Some(index) = self.ports.head(number) else {
             unreachable!()
         };
+        let message = sent(&self.history, *index);
         let washed = gives_frame(message);
         self.take_first(line, number);
-        self.follow(host, 1, washed)
+        self.follow(host, 1, washed);
+        Ok(())
     }
 
     // The server of shared memory takes a message.
@@ -248,38 +260,57 @@ impl State {
         requires may { MayTakeFrom given line number (channels.Up host object) self.old }
         requires shared { is_shared given.header object.0 ≡ true }
         ensures took { OnOk result (Took given self.new) }
-        ensures cut { OnErr result (MayBeCut given self.old.history.items self.new.history.items) }
+        ensures err { OnErr result (StandsStill given.header given.outside self.old self.new) }
         ensures spares { Spares given.header given.outside self.old self.new }
     {
-        let Some(message) = self.ports.head(number) else {
-            unreachable!()
-        };
-        let washed = gives_frame(message);
-        let words = self.server.answer(host, object, message)?;
-        let Some(count) = words.len().checked_add(2) else {
+        let most = self.expect(number, object)?;
+        let Some(more) = most.checked_add(2) else {
             return Err(NoMemory);
         };
-        self.reserve(count)?;
+        self.prepare(more)?;
+        let Some(index) = self.ports.head(number) else {
+            unreachable!()
+        };
+        let message = sent(&self.history, *index);
+        let washed = gives_frame(message);
+        let mut words = self.server.answer(host, object, message)?;
         let fresh = words.len() + 1;
         self.take_first(line, number);
-        self.commit(words);
-        self.follow(host, fresh, washed)
+        self.commit(&mut words);
+        self.follow(host, fresh, washed);
+        Ok(())
+    }
+
+    // The most events that the server of shared memory answers to the first message of a channel, for which it takes its memory.
+    fn expect(&mut self, number: ChannelId, object: ObjectId) -> Result<u32, NoMemory>
+        requires channel { number.0 < self.old.ports.channels }
+        requires first { (index : ℕ) → slice_get (queue_on number.0 self.old.ports.letters) 0 ≡ Some index
+            → (channel : Channel) × (m : Message) × (IsSent self.old.history.items index channel m × IsToServer m) }
+        requires some { queue_on number.0 self.old.ports.letters ≢ [] }
+        ensures same { self.new ≡ record self.old { server = self.new.server } }
+        ensures table { IsSameTable self.old.server self.new.server }
+        ensures most { IfOk result (λ most. (index : ℕ) (channel : Channel) (m : Message) → slice_get (queue_on number.0 self.old.ports.letters) 0 ≡ Some index
+            → IsSent self.old.history.items index channel m → most ≡ most_told object.0 m self.new.server) }
+    {
+        let Some(index) = self.ports.head(number) else {
+            unreachable!()
+        };
+        let message = sent(&self.history, *index);
+        self.server.most(object, message)
     }
 
     // The hosts go on behind the taking of a message by a pager of one, of which so many events were told.
-    fn follow(&mut self, host: HostId, fresh: u32, washed: bool) -> Result<(), NoMemory>
+    fn follow(&mut self, host: HostId, fresh: u32, washed: bool)
         ghost given: { Going }
         requires front { length given.front ≡ fresh }
         requires answered { PagerHasAnswered given host washed self.old }
-        ensures followed { OnOk result (Followed given self.new) }
-        ensures err { OnErr result (self.new.history.items ≡ self.old.history.items) }
+        requires ready { (most : ℕ) × (IsReady most self.old.hosts self.old.log.room × HasRoom most self.old) }
+        ensures followed { Followed given self.new }
         ensures pagers { self.new.pagers ≡ self.old.pagers }
         ensures files { self.new.files ≡ self.old.files }
         ensures spares { Spares given.header given.outside self.old self.new }
     {
-        let events = self.hosts.follow(host, washed)?;
-        self.reserve(events.len())?;
-        self.commit(events);
-        Ok(())
+        self.hosts.follow(host, washed, &mut self.log);
+        self.commit_log();
     }
 }

@@ -1,5 +1,6 @@
 mod Found
 mod Leaving
+pub mod Living
 mod Rooms
 mod Under
 mod Walking

@@ -1,69 +1,105 @@
--- An object's end has room for what it tells.
-use Rattle.std.proofs.Common.{◌≡◌, ◌∙◌, ℕ, suc, ◌+◌, ◌<◌, ◌≤◌, Some, refl, sym, ap, subst, arith}
-use Rattle.vm_base.proofs.Options.{none_of}
+-- What an object's end uses of the room.
+use Rattle.std.proofs.Common.{◌≡◌, ◌∙◌, ℕ, suc, ◌+◌, ◌<◌, ◌≤◌, Bool, true, false, Option, if◌then◌else◌, length, refl, ap, arith}
 use Rattle.vm_base.specs.declared.ids.HostId.{HostId}
 use Rattle.vm_base.specs.declared.ids.ObjectId.{ObjectId}
-use Rattle.vm_objects.specs.Objects.{ObjectTable, object_at}
+use Rattle.vm_base.specs.declared.ids.PageKey.{PageKey}
 use Rattle.vm_objects.specs.declared.row.ObjectRow.{ObjectRow}
 use Rattle.vm_parts.specs.Listed.{listed_pages}
 use Rattle.vm_parts.specs.declared.parts.HostParts.{HostParts}
-use Rattle.vm_shadow.specs.Chains.{ChainTable, shadow_at}
-use Rattle.vm_shadow.specs.declared.shadow_row.ShadowRow.{ShadowRow}
-use Rattle.vm_terminate.proofs.Walking.{GoesOn, HasComeTo, IsBare, queues_are, shadow_stood, under_stood}
-use Rattle.vm_terminate.specs.Counts.{EndsSoMany, NothingUnder, UnderEnds, UnderStays}
-use Rattle.vm_terminate.specs.Finishes.{FinishState}
+use Rattle.vm_resident.specs.declared.page_row.PageRow.{PageRow}
+use Rattle.vm_shadow.specs.Chains.{ChainTable}
+use Rattle.vm_terminate.proofs.Leaving.{has_gone}
+use Rattle.vm_terminate.proofs.Living.{ending_takes, leaving_keeps, same_below}
+use Rattle.vm_terminate.proofs.Walking.{IsBare, control_has_ended, pages_have_left, still_known}
+use Rattle.vm_terminate.specs.Counts.{UsesRoom, is_live_row, live_below}
+use Rattle.vm_terminate.specs.Finishes.{ControlEnds, FinishState, GoesBack, IsDropped, IsTold, Next, NoControl, NoMore, PageLeaves, PagesLeave}
+use Rattle.vm_terminate.specs.Steps.{Ends, LeavesUnder, Nothing, Stays}
 
--- so many objects are to end yet, and there is room for what that tells
-pub record HasRoom (start : FinishState) (parts : HostParts) (room o : ℕ) : Type 0 where
-  pub left : ℕ
-  pub many : EndsSoMany start.chains start.parts.objects o left
-  pub events : listed_pages parts.queues + left ≤ room
-  pub pages : listed_pages parts.queues ≤ parts.buffers.count
+pub uses_none : (n : ℕ) (parts : HostParts) (chains : ChainTable) (room : ℕ) → UsesRoom n parts parts chains chains room room
+uses_none n parts chains room =
+    record { log = omega arith; buffers = omega arith; rows = omega arith; objects = omega arith; shadows = omega arith; fewer = omega arith; live = omega arith }
 
-pub some_end : (chains : ChainTable) (objects : ObjectTable) (o n : ℕ) → EndsSoMany chains objects o n → 0 < n
-some_end chains objects _ _ (NothingUnder o none) = omega arith
-some_end chains objects _ _ (UnderStays o row known is there more) = omega arith
-some_end chains objects _ _ (UnderEnds o n row known is there one under) = omega arith
+-- What the calls of a turn say of the room: the pages of an object leave, its control ends, and what stood under it loses a reference.
+pub record TakesTurn (known : ObjectRow) (now bare new : FinishState) (room room_bare room_quiet : ℕ) : Type 0 where
+  pub log : room + listed_pages bare.parts.queues ≤ room_bare + listed_pages now.parts.queues
+  pub told : room_bare ≤ room_quiet + 1
+  pub silent : known.live ≡ false → room_bare ≤ room_quiet
+  pub buffers : now.parts.buffers.count + listed_pages bare.parts.queues ≤ new.parts.buffers.count + listed_pages now.parts.queues
+  pub rows : now.parts.resident.spare ≤ new.parts.resident.spare
+  pub objects : now.parts.objects.rows ≤ new.parts.objects.rows
+  pub shadows : now.chains.spare ≤ new.chains.spare
+  pub fewer : listed_pages bare.parts.queues ≤ listed_pages now.parts.queues
 
--- those that end under an object
-record IsOneMore (chains : ChainTable) (objects : ObjectTable) (o n : ℕ) : Type 0 where
-  under : ℕ
-  is : n ≡ suc under
-  many : EndsSoMany chains objects o under
+leaving_queues : (object : ObjectId) (next : Option ObjectId) (old new : FinishState) → LeavesUnder object next old new → new.parts.queues ≡ old.parts.queues
+leaving_queues object next old new (Nothing none no_shadow same) = ap (λ z. z.parts.queues) same
+leaving_queues object next old new (Stays row known left none loses some) = ap (λ z. z.parts.queues) loses.rest
+leaving_queues object next old new (Ends row known goes loses less) = ap (λ z. z.parts.queues) loses.rest
 
-same_shadow : (chains : ChainTable) (o : ℕ) (row row2 : ShadowRow) → shadow_at chains o ≡ Some row → shadow_at chains o ≡ Some row2 → row2 ≡ row
-same_shadow chains o row row2 is is2 = let both : Some row2 ≡ Some row = sym is2 ∙ is in cc
+-- the controls that live when the pages of an object have left
+pub leaving_lives : (host : HostId) (object : ObjectId) (known : ObjectRow) (now bare quiet : FinishState) → IsBare host object known now bare quiet → (n : ℕ) → live_below bare.parts.objects n ≡ live_below now.parts.objects n
+leaving_lives host object known now bare quiet ends n =
+    let left = pages_have_left host object known 0 now bare ends.pages in
+    same_below now.parts.objects bare.parts.objects n (λ o less. ap is_live_row (left.objects o))
 
-same_object : (objects : ObjectTable) (o o2 : ℕ) (known known2 : ObjectRow) → o2 ≡ o → object_at objects o ≡ Some known → object_at objects o2 ≡ Some known2 → known2 ≡ known
-same_object objects o o2 known known2 same is is2 = let both : Some known2 ≡ Some known = sym is2 ∙ (ap (object_at objects) same ∙ is) in cc
+-- a place in the log at most, where a control ends
+told_one : (live : Bool) (room_bare room_quiet : ℕ) → room_bare ≤ room_quiet + 1 → (live ≡ false → room_bare ≤ room_quiet) → room_bare ≤ room_quiet + (if live then 1 else 0)
+told_one true room_bare room_quiet told silent = told
+told_one false room_bare room_quiet told silent = let none = silent refl in omega arith
 
-one_more_ends : (chains : ChainTable) (objects : ObjectTable) (o n : ℕ) (row : ShadowRow) (known : ObjectRow) → EndsSoMany chains objects o n → shadow_at chains o ≡ Some row → object_at objects row.under.0 ≡ Some known → known.references ≡ 1
-    → IsOneMore chains objects row.under.0 n
-one_more_ends chains objects _ _ row known (NothingUnder o none) is there one = none_of (shadow_at chains o) row none is
-one_more_ends chains objects _ _ row known (UnderStays o row2 known2 is2 there2 more) is there one =
-    let same = same_shadow chains o row row2 is is2 in
-    let also = same_object objects row.under.0 row2.under.0 known known2 (ap (λ z. z.under.0) same) there there2 in
-    absurd (more (ap (λ z. z.references) also ∙ one))
-one_more_ends chains objects _ _ row known (UnderEnds o n row2 known2 is2 there2 one2 many) is there one =
-    let same = same_shadow chains o row row2 is is2 in
-    record { under = n; is = refl; many = subst (λ (z : ShadowRow). EndsSoMany chains objects z.under.0 n) same many }
-
--- there is room for the rest
-pub room_left : (host : HostId) (object : ℕ) (ending next : ObjectId) (known : ObjectRow) (start now bare quiet new : FinishState) (room room_bare room_quiet : ℕ) → HasComeTo object start now ending.0 → IsBare host ending known now bare quiet
-    → GoesOn ending next quiet new → HasRoom start now.parts room ending.0 → room + listed_pages bare.parts.queues ≤ room_bare + listed_pages now.parts.queues → room_bare ≤ room_quiet + 1
-    → now.parts.buffers.count + listed_pages bare.parts.queues ≤ new.parts.buffers.count + listed_pages now.parts.queues → HasRoom start new.parts room_quiet next.0
-room_left host object ending next known start now bare quiet new room room_bare room_quiet come ends on has events told buffers =
-    let under = under_stood host object ending known on.known on.row start now bare quiet new come ends on.loses on.less in
-    let shadow = shadow_stood host object ending known on.known on.row start now bare quiet new come ends on.loses in
-    let one = one_more_ends start.chains start.parts.objects ending.0 has.left on.row on.known has.many shadow under (sym on.loses.less) in
-    let queues : new.parts.queues ≡ bare.parts.queues = queues_are host ending known on.known on.row bare quiet new ends.control on.loses in
+-- what a turn uses, behind what was used before
+pub turn_uses : (host : HostId) (ending : ObjectId) (next : Option ObjectId) (known : ObjectRow) (start : HostParts) (chains : ChainTable) (now bare quiet new : FinishState) (before room room_bare room_quiet n : ℕ) → ending.0 < n
+    → IsBare host ending known now bare quiet → LeavesUnder ending next quiet new → TakesTurn known now bare new room room_bare room_quiet → UsesRoom n start now.parts chains now.chains before room
+    → UsesRoom n start new.parts chains new.chains before room_quiet
+turn_uses host ending next known start chains now bare quiet new before room room_bare room_quiet n less ends leaves turn uses =
+    let queues : new.parts.queues ≡ bare.parts.queues = leaving_queues ending next quiet new leaves ∙ (control_has_ended host ending known bare quiet ends.control).queues in
     let pages : listed_pages new.parts.queues ≡ listed_pages bare.parts.queues = ap listed_pages queues in
-    let before = has.events in
-    let count = has.pages in
-    let more = one.is in
+    let first = leaving_lives host ending known now bare quiet ends n in
+    let second = ending_takes host ending known bare quiet ends.control (still_known host ending known now bare ends.known_is ends.pages) n less in
+    let third = leaving_keeps ending next quiet new leaves n in
+    let told = told_one known.live room_bare room_quiet turn.told turn.silent in
     record {
-      left = one.under;
-      many = subst (λ (z : ObjectId). EndsSoMany start.chains start.parts.objects z.0 one.under) (sym on.is) one.many;
-      events = omega arith;
-      pages = omega arith;
+      log = omega (arith, pages, first, second, third, told, turn.log, uses.log);
+      buffers = omega (arith, pages, turn.buffers, uses.buffers);
+      rows = omega (arith, turn.rows, uses.rows);
+      objects = omega (arith, turn.objects, uses.objects);
+      shadows = omega (arith, turn.shadows, uses.shadows);
+      fewer = omega (arith, pages, turn.fewer, uses.fewer);
+      live = omega (arith, first, second, third, uses.live);
     }
+
+page_told : (host : HostId) (key : PageKey) (known : ObjectRow) (row : PageRow) (old new : FinishState) → PageLeaves host key known row old new → length new.events ≡ length old.events + 1
+page_told host key known row old new (IsDropped why page objects held room events) = rw events (omega arith)
+page_told host key known row old new (GoesBack declared wanted page objects present held room events) = rw events (omega arith)
+
+-- of each page that leaves one event tells
+pages_told : (host : HostId) (object : ObjectId) (known : ObjectRow) (from : ℕ) (old new : FinishState) → PagesLeave host object known from old new → length new.events + listed_pages new.parts.queues ≤ length old.events + listed_pages old.parts.queues
+pages_told host object known _ _ _ (NoMore from s none) = omega arith
+pages_told host object known _ _ _ (Next from page row old mid new low first found here chains leaves more) =
+    let rest = pages_told host object known (suc page.0) mid new more in
+    let gone = has_gone host (record { object = object; page = page }) known row old mid here leaves in
+    let lists = gone.lists in
+    let told = page_told host (record { object = object; page = page }) known row old mid leaves in
+    omega (arith, rest, lists, told)
+
+control_told : (host : HostId) (object : ObjectId) (known : ObjectRow) (old new : FinishState) → ControlEnds host object known old new → length new.events ≡ length old.events + (if known.live then 1 else 0)
+control_told host object known old new (NoControl dead same) = rw (same, dead) (omega arith)
+control_told host object known old new (IsTold live keeps put events) = rw (events, live) (omega arith)
+
+leaving_told : (object : ObjectId) (next : Option ObjectId) (old new : FinishState) → LeavesUnder object next old new → new.events ≡ old.events
+leaving_told object next old new (Nothing none no_shadow same) = ap (λ z. z.events) same
+leaving_told object next old new (Stays row known left none loses some) = ap (λ z. z.events) loses.rest
+leaving_told object next old new (Ends row known goes loses less) = ap (λ z. z.events) loses.rest
+
+-- what a turn tells: one event for each page that leaves, and for a control that ends
+pub turn_told : (host : HostId) (ending : ObjectId) (next : Option ObjectId) (known : ObjectRow) (now bare quiet new : FinishState) (n : ℕ) → ending.0 < n → IsBare host ending known now bare quiet → LeavesUnder ending next quiet new
+    → length new.events + (listed_pages new.parts.queues + live_below new.parts.objects n) ≤ length now.events + (listed_pages now.parts.queues + live_below now.parts.objects n)
+turn_told host ending next known now bare quiet new n less ends leaves =
+    let queues : new.parts.queues ≡ bare.parts.queues = leaving_queues ending next quiet new leaves ∙ (control_has_ended host ending known bare quiet ends.control).queues in
+    let pages : listed_pages new.parts.queues ≡ listed_pages bare.parts.queues = ap listed_pages queues in
+    let first = leaving_lives host ending known now bare quiet ends n in
+    let second = ending_takes host ending known bare quiet ends.control (still_known host ending known now bare ends.known_is ends.pages) n less in
+    let third = leaving_keeps ending next quiet new leaves n in
+    let left = pages_told host ending known 0 now bare ends.pages in
+    let control = control_told host ending known bare quiet ends.control in
+    let same : length new.events ≡ length quiet.events = ap length (leaving_told ending next quiet new leaves) in
+    omega (arith, pages, first, second, third, left, control, same)

@@ -63,6 +63,9 @@ pub record HasComeTo (object : ℕ) (start now : FinishState) (o : ℕ) : Type 0
   pub row : ObjectRow
   pub known : object_at now.parts.objects o ≡ Some row
   pub none : row.references ≡ 0
+  pub stood : ObjectRow
+  pub was : object_at start.parts.objects o ≡ Some stood
+  pub kind : row.kind ≡ stood.kind
   pub below : (other : ℕ) → other < o → object_at now.parts.objects other ≡ object_at start.parts.objects other
   pub shadows : (other : ℕ) → other ≤ o → shadow_at now.chains other ≡ shadow_at start.chains other
   pub pages : (other p : ℕ) → other ≤ o → row_at now.parts.resident other p ≡ row_at start.parts.resident other p
@@ -76,6 +79,9 @@ at_first start object can =
       row = can.row;
       known = can.known;
       none = can.none;
+      stood = can.row;
+      was = can.known;
+      kind = refl;
       below = λ other less. refl;
       shadows = λ other less. refl;
       pages = λ other p less. refl;
@@ -144,6 +150,9 @@ come_down host object ending known under row start now bare quiet next come ends
       row = record under { references = 0 };
       known = elim (one_case row.under.0 row.under.0 _ _ _ (loses.objects.at row.under.0)) [ inl same ↦ same.1 | inr apart ↦ absurd (apart.0 refl) ];
       none = refl;
+      stood = under;
+      was = under_stood host object ending known under row start now bare quiet next come ends loses less;
+      kind = refl;
       below = λ other lower. elim (one_case row.under.0 other _ _ _ (loses.objects.at other)) [
         | inl same ↦ absurd (let e = same.0 in omega arith)
         | inr apart ↦ apart.1 ∙ (lower_objects host ending known now bare quiet ends other (omega arith) ∙ come.below other (omega arith))

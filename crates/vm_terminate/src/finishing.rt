@@ -1,14 +1,15 @@
 // An object ends, and what loses its last reference by that.
-ghost use Rattle.std.specs.Prelude.{ℕ, ◌≡◌, ◌+◌, ◌<◌, ◌≤◌, List, Some, IsOk, OnOk};
+ghost use Rattle.std.specs.Prelude.{ℕ, ◌≡◌, ◌+◌, ◌<◌, ◌≤◌, false, List, length, Some, IsOk, OnOk};
 ghost use Rattle.vm_base.specs.declared.ids.FrameNo.{FrameNo};
+ghost use Rattle.vm_base.specs.declared.ids.ObjectKind.TheVariants.{Temp};
 ghost use Rattle.vm_model.specs.declared.event.Event.{Event};
 ghost use Rattle.vm_objects.specs.Objects.{object_at};
 ghost use Rattle.vm_parts.specs.Fits.{Fit};
 ghost use Rattle.vm_parts.specs.Listed.{listed_pages};
 ghost use Rattle.vm_shadow.specs.Chains.{ChainTable, shadow_at};
 ghost use Rattle.vm_shadow.specs.declared.shadow_row.ShadowRow.{ShadowRow};
-ghost use Rattle.vm_terminate.specs.Counts.{EndsSoMany};
-ghost use Rattle.vm_terminate.specs.Finishes.{CanFinish, ControlEnds, Finishes, IsReferred};
+ghost use Rattle.vm_terminate.specs.Counts.{HasBuffers, UsesRoom, live_below};
+ghost use Rattle.vm_terminate.specs.Finishes.{CanFinish, ControlEnds, EndsWith, Finishes, IsReferred};
 ghost use Rattle.vm_terminate.specs.Steps.{LeavesUnder, finish_state};
 
 use crate::pages::end_pages;
@@ -37,8 +38,13 @@ pub fn finish<L: Holder>(
         (record { parts = parts.new; chains = chains.new; held = L.held laundry.new; room = L.room laundry.new; events = log.new.items })) }
     ensures fit { OnOk result (Fit parts.new) }
     ensures size { OnOk result (parts.new.buffers.size ≡ parts.old.buffers.size) }
-    ensures succeeds { (n : ℕ) → EndsSoMany chains.old parts.old.objects object.0 n → listed_pages parts.old.queues + n ≤ log.old.room
-        → listed_pages parts.old.queues ≤ parts.old.buffers.count → IsOk result }
+    ensures uses { (n : ℕ) → object.0 < n → OnOk result (UsesRoom n parts.old parts.new chains.old chains.new log.old.room log.new.room) }
+    ensures succeeds { (n : ℕ) → object.0 < n → listed_pages parts.old.queues + live_below parts.old.objects n ≤ log.old.room
+        → HasBuffers chains.old parts.old object.0 → IsOk result }
+    ensures saved { ((o : ℕ) (row : ObjectRow) → EndsWith chains.old parts.old.objects object.0 o → object_at parts.old.objects o ≡ Some row → row.kind ≡ Temp)
+        → OnOk result (parts.old.buffers.count ≤ parts.new.buffers.count) }
+    ensures told { (n : ℕ) → object.0 < n → OnOk result (length log.new.items + (listed_pages parts.new.queues + live_below parts.new.objects n)
+        ≤ length log.old.items + (listed_pages parts.old.queues + live_below parts.old.objects n)) }
 {
     let mut ending = object;
     'down: loop {
@@ -68,8 +74,12 @@ fn end_control(
         (finish_state parts.old chains held room log.old.items) (finish_state parts.new chains held room log.new.items)) }
     ensures fit { OnOk result (Fit parts.new) }
     ensures buffers { OnOk result (parts.new.buffers ≡ parts.old.buffers) }
+    ensures spare { parts.new.resident.spare ≡ parts.old.resident.spare }
+    ensures rows { parts.new.objects.rows ≡ parts.old.objects.rows }
     ensures log { log.old.room ≤ log.new.room + 1 }
+    ensures quiet { known.live ≡ false → log.old.room ≤ log.new.room }
     ensures succeeds { 0 < log.old.room → IsOk result }
+    ensures idle { known.live ≡ false → IsOk result }
 {
     if !known.live {
         return Ok(());
@@ -93,6 +103,9 @@ fn leave_under(object: ObjectId, parts: &mut HostParts, chains: &mut Chains) -> 
         (finish_state parts.old chains.old held room events) (finish_state parts.new chains.new held room events) }
     ensures fit { Fit parts.new }
     ensures buffers { parts.new.buffers ≡ parts.old.buffers }
+    ensures spare { parts.new.resident.spare ≡ parts.old.resident.spare }
+    ensures rows { parts.new.objects.rows ≡ parts.old.objects.rows }
+    ensures shadows { chains.old.spare ≤ chains.new.spare }
 {
     let row = chains.backing(object)?;
     let _ = chains.drop_object(object);

@@ -1,5 +1,6 @@
 // The pages of an object that ends.
 ghost use Rattle.std.specs.Prelude.{◌≡◌, ◌+◌, ◌<◌, ◌≤◌, true, false, Some, [], ◌∷◌, ◌++◌, IfSome, IsOk, IsSome, IsSomeAnd, OnOk};
+ghost use Rattle.vm_base.specs.declared.ids.ObjectKind.TheVariants as kind;
 ghost use Rattle.vm_frames.specs.Frames.{page_in};
 ghost use Rattle.vm_model.specs.declared.event.Event.TheVariants as event;
 ghost use Rattle.vm_model.specs.declared.message.Channel.TheVariants as channel;
@@ -39,7 +40,12 @@ pub fn end_pages<L: Holder>(
     ensures size { OnOk result (parts.new.buffers.size ≡ parts.old.buffers.size) }
     ensures log { OnOk result (log.old.room + listed_pages parts.new.queues ≤ log.new.room + listed_pages parts.old.queues) }
     ensures buffers { OnOk result (parts.old.buffers.count + listed_pages parts.new.queues ≤ parts.new.buffers.count + listed_pages parts.old.queues) }
+    ensures spare { OnOk result (parts.old.resident.spare ≤ parts.new.resident.spare) }
+    ensures rows { OnOk result (parts.old.objects.rows ≤ parts.new.objects.rows) }
+    ensures fewer { OnOk result (listed_pages parts.new.queues ≤ listed_pages parts.old.queues) }
     ensures succeeds { listed_pages parts.old.queues ≤ log.old.room → listed_pages parts.old.queues ≤ parts.old.buffers.count → IsOk result }
+    ensures dropped { known.kind ≡ kind.Temp → listed_pages parts.old.queues ≤ log.old.room → IsOk result }
+    ensures saved { known.kind ≡ kind.Temp → OnOk result (parts.old.buffers.count ≤ parts.new.buffers.count) }
 {
     let mut from = PageNo(0);
     'pages: while let Some(page) = parts.resident.next_page(object, from) {
@@ -70,7 +76,11 @@ fn end_page<L: Holder>(
     ensures size { OnOk result (parts.new.buffers.size ≡ parts.old.buffers.size) }
     ensures log { log.old.room ≤ log.new.room + 1 }
     ensures buffers { parts.old.buffers.count ≤ parts.new.buffers.count + 1 }
+    ensures spare { parts.old.resident.spare ≤ parts.new.resident.spare }
+    ensures rows { parts.old.objects.rows ≤ parts.new.objects.rows }
     ensures succeeds { 0 < log.old.room → 0 < parts.old.buffers.count → IsOk result }
+    ensures dropped { known.kind ≡ kind.Temp → 0 < log.old.room → IsOk result }
+    ensures saved { known.kind ≡ kind.Temp → OnOk result (parts.old.buffers.count ≤ parts.new.buffers.count) }
 {
     let Some(row) = parts.resident.get(key) else {
         unreachable!()
@@ -95,6 +105,7 @@ fn drop_page(host: HostId, key: PageKey, row: PageRow, parts: &mut HostParts, lo
     ensures discards { Discards key row parts.old parts.new }
     ensures objects { parts.new.objects ≡ parts.old.objects }
     ensures buffers { parts.new.buffers ≡ parts.old.buffers }
+    ensures spare { parts.old.resident.spare ≤ parts.new.resident.spare }
     ensures log { log.new.items ≡ event.Dropped host key.object key.page ∷ log.old.items }
     ensures less { log.old.room ≤ log.new.room + 1 }
 {
@@ -130,6 +141,8 @@ fn return_page<L: Holder>(
     ensures present { PutsAbsent key.object.0 key.page.0 false parts.old.objects parts.new.objects }
     ensures size { parts.new.buffers.size ≡ parts.old.buffers.size }
     ensures count { parts.old.buffers.count ≡ parts.new.buffers.count + 1 }
+    ensures spare { parts.old.resident.spare ≤ parts.new.resident.spare }
+    ensures rows { parts.old.objects.rows ≤ parts.new.objects.rows }
     ensures held { L.held laundry.new ≡ L.held laundry.old ++ row.frame ∷ [] }
     ensures left { L.room laundry.new + 1 ≡ L.room laundry.old }
     ensures log { log.new.items ≡ event.Sent (channel.Up host key.object)

@@ -6,14 +6,13 @@ use Rattle.vm_model.specs.declared.event.Event.{Event}
 use Rattle.vm_model.specs.declared.command.Command.{Command}
 use Rattle.vm_model.specs.declared.command.Command.TheVariants as command
 use Rattle.vm_model.specs.declared.command.Numbered.{Numbered}
-use Rattle.vm_model.specs.declared.message.Channel.TheVariants.{Up, Down}
 use Rattle.vm_model.specs.declared.script.Header.{Header}
 use Rattle.vm_model.specs.Moments.{before_last_line}
 use Rattle.vm_model.specs.Ranges.{InRange}
 use Rattle.vm_legal.specs.Steps.{before_step, takings}
 use Rattle.vm_outside.specs.Arming.{Arming, ArmedLater}
 use Rattle.vm_outside.specs.Causes.{CountRises, next_count, sum_count}
-use Rattle.vm_system.specs.Steps.{DevicesHaveCause, GrowsWithinLimit, LeavesBacking, arms, devices, takes_any, took_up}
+use Rattle.vm_system.specs.Steps.{DevicesHaveCause, GrowsWithinLimit, LeavesBacking, arms, devices, took_up}
 use Rattle.vm_system.proofs.Growth.{devices_grow}
 use Rattle.vm_top.specs.Arming.{FailuresCounted, armings, is_untouched, last_arming, ran_of}
 use Rattle.vm_top.specs.Running.{Arms, BackingRuns, FaultCounts, Running, counted}
@@ -143,13 +142,6 @@ arms_of given run h f p here files paging = record {
   files = subst (λ z. BackingRuns given.script.header device.Files z h given.files f) (sym here) files;
   paging = subst (λ z. BackingRuns given.script.header device.Paging z h given.paging p) (sym here) paging;
 }
-
--- a command that takes a message up arms nothing
-pub up_unarmed : (who : Device) (c : Command) → takes_any c ≡ true → arms who c ≡ None
-up_unarmed device.Files (command.Take (Up host object)) up = refl
-up_unarmed device.Paging (command.Take (Up host object)) up = refl
-up_unarmed who (command.Take (Down host object control)) up = absurd (cc)
-up_unarmed who other up = absurd (cc)
 
 -- the failures that were told are bounded by the backing's own and by the commands
 pub bounded : (d i0 i1 r0 r1 l k : ℕ) → (d + sum_count i0 r0 ≤ sum_count i1 r1) ⊎ CountRises (sum_count i1 r1) (sum_count i1 r1) → r1 + min 1 l ≤ r0 + k → (d + i0 ≤ i1 + k) ⊎ CountRises (sum_count i1 r1) (sum_count i1 r1)

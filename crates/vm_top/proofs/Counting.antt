@@ -1,5 +1,5 @@
 -- Lines and takings of a step, and whether a pager of a backing took a message in it.
-use Rattle.std.proofs.Common.{◌≡◌, ℕ, ◌+◌, ◌≤◌, ◌⊎◌, inl, inr, List, [], ◌∷◌, ◌++◌, Bool, true, false, None, refl, ap, sym, ◌∙◌, subst, arith}
+use Rattle.std.proofs.Common.{◌≡◌, ℕ, ◌+◌, ◌≤◌, ◌⊎◌, inl, inr, List, [], ◌∷◌, ◌++◌, Bool, true, false, None, refl, ap, sym, subst, arith}
 use Rattle.std.specs.Prelude.{if◌then◌else◌}
 use Rattle.vm_model.specs.declared.event.Device.{Device}
 use Rattle.vm_model.specs.declared.event.Event.{Event}
@@ -10,7 +10,7 @@ use Rattle.vm_model.specs.declared.script.Header.{Header}
 use Rattle.vm_model.specs.Moments.{before_last_line}
 use Rattle.vm_model.specs.Summary.{count_of, is_line}
 use Rattle.vm_legal.specs.Steps.{before_step, takings}
-use Rattle.vm_system.specs.Steps.{arms, is_kept_in, took_any, took_up}
+use Rattle.vm_system.specs.Steps.{arms, is_kept_in, took_up}
 use Rattle.vm_top.specs.Arming.{is_untouched}
 
 -- a step that begins with a line has one line more
@@ -68,44 +68,3 @@ untouched_taking header who n run (event.Taken (Up host object) m ∷ past) old 
     (both.0, subst (λ z. is_untouched header who (n ∷ run) z ≡ true) front both.1)
 untouched_taking header who n run (event.Taken (Down host object control) m ∷ past) old front more un = (refl, subst (λ z. is_untouched header who (n ∷ run) z ≡ true) front un)
 untouched_taking header who n run (e ∷ past) old front more un = untouched_taking header who n run past old front more un
-
--- the same, where some pager took a message in the step
-pub untouched_any : (header : Header) (who : Device) (run : List Numbered) (new old : List Event) → before_step new ≡ old → took_any new ≡ true → is_untouched header who run new ≡ true
-    → (took_up header who new ≡ false) × (is_untouched header who run old ≡ true)
-untouched_any header who run [] old front took un = absurd (cc)
-untouched_any header who run (event.Line line ∷ past) old front took un = absurd (cc)
-untouched_any header who [] (event.Taken (Up host object) m ∷ past) old front took un =
-    let both = unasked (is_kept_in header who object) (is_untouched header who [] past) un in
-    (both.0, subst (λ z. is_untouched header who [] z ≡ true) front both.1)
-untouched_any header who (n ∷ run) (event.Taken (Up host object) m ∷ past) old front took un =
-    let both = unasked (is_kept_in header who object) (is_untouched header who (n ∷ run) past) un in
-    (both.0, subst (λ z. is_untouched header who (n ∷ run) z ≡ true) front both.1)
-untouched_any header who run (event.Taken (Down host object control) m ∷ past) old front took un = absurd (cc)
-untouched_any header who [] (e ∷ past) old front took un = untouched_any header who [] past old front took un
-untouched_any header who (n ∷ run) (e ∷ past) old front took un = untouched_any header who (n ∷ run) past old front took un
-
--- a pager of the backing took a message in the step
-untouched_up : (header : Header) (who : Device) (run : List Numbered) (h : List Event) → took_up header who h ≡ true → is_untouched header who run h ≡ true → ⊥
-untouched_up header who run [] took un = absurd (cc)
-untouched_up header who run (event.Line line ∷ past) took un = absurd (cc)
-untouched_up header who [] (event.Taken (Up host object) m ∷ past) took un =
-    let none = (unasked (is_kept_in header who object) (is_untouched header who [] past) un).0 in absurd (let bad : true ≡ false = sym took ∙ none in cc)
-untouched_up header who (n ∷ run) (event.Taken (Up host object) m ∷ past) took un =
-    let none = (unasked (is_kept_in header who object) (is_untouched header who (n ∷ run) past) un).0 in absurd (let bad : true ≡ false = sym took ∙ none in cc)
-untouched_up header who run (event.Taken (Down host object control) m ∷ past) took un = absurd (cc)
-untouched_up header who [] (e ∷ past) took un = untouched_up header who [] past took un
-untouched_up header who (n ∷ run) (e ∷ past) took un = untouched_up header who (n ∷ run) past took un
-
-pub untouched_down : (header : Header) (who : Device) (run : List Numbered) (h : List Event) → is_untouched header who run h ≡ true → took_up header who h ≡ false
-untouched_down header who run h un = by_test (took_up header who h) refl
-  where
-    by_test : (b : Bool) → took_up header who h ≡ b → took_up header who h ≡ false
-    by_test true took = absurd (untouched_up header who run h took un)
-    by_test false is = is
-
--- some pager took one: the step begins with that taking, and has no line
-pub lines_up : (new old : List Event) → before_step new ≡ old → took_any new ≡ true → count_of is_line new ≡ count_of is_line old
-lines_up [] old front took = absurd (cc)
-lines_up (event.Line line ∷ past) old front took = absurd (cc)
-lines_up (event.Taken channel m ∷ past) old front took = let same : count_of is_line past ≡ count_of is_line old = ap (count_of is_line) front in omega arith
-lines_up (e ∷ past) old front took = let same = lines_up past old front took in omega arith

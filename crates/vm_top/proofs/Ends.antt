@@ -1,6 +1,6 @@
 -- What was read is what the source had, and how a run ends tells the status.
-use Rattle.std.proofs.Common.{◌≡◌, ℕ, ◌<◌, ◌≤◌, ◌^◌, ◌⊎◌, inl, inr, List, [], ◌++◌, length, true, refl, ap, sym, ◌∙◌, subst, arith, Some, None, Option, Ok, Err, nat_lt}
-use Rattle.std.specs.Prelude.{IfSome, IsErrOf, OnOk, Result, get_or, ◌||◌, ◌≢◌}
+use Rattle.std.proofs.Common.{◌≡◌, ℕ, ◌<◌, ◌≤◌, ◌^◌, ◌⊎◌, inl, inr, List, [], ◌++◌, length, true, refl, ap, sym, ◌∙◌, subst, arith, Some, Option, Ok, Err, nat_lt}
+use Rattle.std.specs.Prelude.{IfSome, IsErrOf, OnOk, Result}
 use Rattle.vm_base.specs.declared.failure.WriteStop.{WriteStop}
 use Rattle.vm_base.specs.declared.failure.WriteStop.TheVariants as stop
 use Rattle.std.specs.Io.KnownBytes.{Appends, Consumes, IsAtEnd}
@@ -9,13 +9,10 @@ use Rattle.std.proofs.lemmas.Bool.Decides.{nat_tests}
 use Rattle.vm_model.specs.declared.event.Event.{Event}
 use Rattle.vm_model.specs.declared.fault.ScriptFault.{ScriptFault}
 use Rattle.vm_model.specs.declared.fault.ScriptFault.TheVariants as fault
-use Rattle.vm_model.specs.declared.script.Declared.{Declared}
 use Rattle.vm_model.specs.declared.script.Header.{Header}
 use Rattle.vm_model.specs.declared.script.Script.{Script}
 use Rattle.vm_model.specs.Named.{named}
-use Rattle.vm_model.proofs.Names.{each_declared, named_once}
-use Rattle.vm_base.specs.declared.ids.ObjectKind.{ObjectKind}
-use Rattle.vm_base.specs.declared.ids.ObjectKind.TheVariants as kinds
+use Rattle.vm_model.proofs.Names.{named_once}
 use Rattle.pg_file.specs.Stands.{name_kept}
 use Rattle.std.specs.List.{All}
 use Rattle.vm_model.specs.Ranges.{IsBetween, KeepsRanges}
@@ -26,16 +23,15 @@ use Rattle.vm_top.specs.declared.words.Report.{Report}
 use Rattle.vm_top.specs.declared.words.Report.TheVariants as reports
 use Rattle.vm_top.specs.Ending.{EndsAs, RunHasEnded, Tells, status_after}
 use Rattle.vm_top.specs.Reading.{ReadWhole}
-use Rattle.vm_top.specs.Run.{CutIn, IsOutOfEvents, IsRunnable, IsWholeRun, report_text}
+use Rattle.vm_top.specs.Run.{IsOutOfEvents, IsRunnable, IsWholeRun, report_text}
 use Rattle.vm_legal.specs.Legal.{CanonicalSoFar}
-use Rattle.vm_legal.specs.Outside.{Outside, is_file_kind, is_shared_kind}
+use Rattle.vm_legal.specs.Outside.{Outside}
 use Rattle.vm_top.specs.Top.{IsBad, IsReadFrom, IsBadFrom, NothingRun, IsRunDone, IsEventLimit, IsOutputFault, IsNoMemory, WroteFailed, bad_text}
 use Rattle.vm_top.specs.Writing.{WroteStart}
 use Rattle.vm_top.proofs.Keeping.{file_below}
 use Rattle.vm_top.proofs.Closing.{full_so_far, whole_so_far}
 use Rattle.vm_top.proofs.Readings.{no_longer}
 use Rattle.vm_top.proofs.Writings.{start_all}
-use Rattle.vm_legal.proofs.Turns.{cut_in_turn}
 
 long_bad : (bytes : List ℕ) → 1048576 < length bytes → script_of bytes ≡ Err (0, fault.TooLong)
 long_bad bytes long = let test : nat_lt 1048576 (length bytes) ≡ true = grind (arith, nat_tests) in rw test refl
@@ -94,7 +90,7 @@ pub memory_of : (told before after : Option (List ℕ)) (outside : Header → Ou
     → IsReadFrom told run → RunHasEnded report run (outside run.header) script h before after s → s ≡ status.NoMemory → IsNoMemory told outside report script h before after
 memory_of told before after outside report run script h s read has is =
     let ends = subst (EndsAs report run (outside run.header) h before after) is has.ends in
-    inr (inl (record { run = run; held = record { held = has.held; read = read }; cut = ends.0 }, ends.1))
+    inr (inl (record { run = run; held = record { held = has.held; read = read }; legal = ends.0 }, ends.1))
 
 -- the first fault was told
 pub bad_of : (told before after : Option (List ℕ)) (line named : ℕ) (kind other : ScriptFault) (script : Option Script) (h : List Event) (s : Status) → NothingRun script h → IsBadFrom told line kind
@@ -145,10 +141,6 @@ runnable script keeps declares = record {
   ranges = keeps.commands;
 }
 
--- the history of a run that has ended is also one whose last step is not cut
-uncut : (run : Script) (outside : Outside) (h : List Event) → CanonicalSoFar run outside h → CutIn run outside h
-uncut run outside h legal = record { later = legal.later; run = legal.run; order = legal.order; legal = record { follows = cut_in_turn run.header outside legal.run h legal.follows; holds = legal.holds; ended = legal.ended; recalled = legal.recalled } }
-
 summary_failed : (report : Report) (run : Script) (outside : Outside) (h : List Event) (start after : Option (List ℕ)) → CanonicalSoFar run outside h
     → (report ≡ reports.Summary) × WroteStart start after (report_text report h) → WroteFailed report run outside h start after
 summary_failed report run outside h start after legal wrote =
@@ -161,7 +153,7 @@ pub done_ends : (report : Report) (run : Script) (outside : Outside) (h : List E
 done_ends report run outside h start after (Ok done) whole written failed memory = (whole, written)
 done_ends report run outside h start after (Err stop.Failed) whole written failed memory =
     summary_failed report run outside h start after (whole_so_far run outside h whole) (failed refl)
-done_ends report run outside h start after (Err stop.NoMemory) whole written failed memory = (uncut run outside h (whole_so_far run outside h whole), memory refl)
+done_ends report run outside h start after (Err stop.NoMemory) whole written failed memory = (whole_so_far run outside h whole, memory refl)
 
 -- and of a run that came to a full history
 pub full_ends : (report : Report) (run : Script) (outside : Outside) (h : List Event) (start after : Option (List ℕ)) (wrote : Result (Unit {0}) WriteStop) → IsOutOfEvents run outside h
@@ -170,4 +162,4 @@ pub full_ends : (report : Report) (run : Script) (outside : Outside) (h : List E
 full_ends report run outside h start after (Ok done) full written failed memory = (full, written)
 full_ends report run outside h start after (Err stop.Failed) full written failed memory =
     summary_failed report run outside h start after (full_so_far run outside h full) (failed refl)
-full_ends report run outside h start after (Err stop.NoMemory) full written failed memory = (uncut run outside h (full_so_far run outside h full), memory refl)
+full_ends report run outside h start after (Err stop.NoMemory) full written failed memory = (full_so_far run outside h full, memory refl)

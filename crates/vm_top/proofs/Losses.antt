@@ -7,8 +7,6 @@ use Rattle.vm_model.specs.declared.event.Event.{Event}
 use Rattle.vm_model.specs.declared.event.Event.TheVariants as event
 use Rattle.vm_model.specs.declared.script.Script.{Script}
 use Rattle.vm_legal.specs.Outside.{Outside}
-use Rattle.vm_legal.proofs.Groups.{cut}
-use Rattle.vm_legal.proofs.Turns.{cut_of as weak_cut}
 use Rattle.vm_losses.specs.Losses.{ever, is_device_event}
 use Rattle.vm_losses.proofs.Losses.{fails_unslotted}
 use Rattle.vm_outside.specs.Causes.{CountRises}
@@ -18,7 +16,7 @@ use Rattle.vm_top.specs.declared.top.Status.{Status}
 use Rattle.vm_top.specs.declared.words.Report.{Report}
 use Rattle.vm_top.specs.Ending.{EndsAs}
 use Rattle.vm_top.specs.Losses.{HasNotFailed, LosesUnslotted}
-use Rattle.vm_top.proofs.Flattened.{ends_cut}
+use Rattle.vm_top.proofs.Resting.{causes_of, ends_legal}
 
 -- no failure of this backing is told
 none_told : (told before now arming whole : ℕ) → (told + before ≤ now + arming) ⊎ CountRises whole whole → now ≡ before → arming ≡ 0 → (CountRises whole whole → ⊥) → told ≡ 0
@@ -42,6 +40,6 @@ no_device (e ∷ past) files paging = no_device past files paging
 pub loses_unslotted : (report : Report) (run : Script) (outside : Outside) (h : List Event) (before after : Option (List ℕ)) (s : Status) → EndsAs report run outside h before after s
     → devices device.Files h ≡ 0 → devices device.Paging h ≡ 0 → LosesUnslotted (Some run) h
 loses_unslotted report run outside h before after s ends files paging =
-    let legal = ends_cut report run outside h before after s ends in
+    let legal = ends_legal report run outside h before after s ends in
     let none = no_device h files paging in
-    (none, fails_unslotted run.header outside h (cut run.header outside legal.0 h (weak_cut run.header outside legal.0 h legal.1.follows)) none)
+    (none, fails_unslotted run.header outside h (causes_of run outside h legal) none)

@@ -1,5 +1,5 @@
 -- A taking of a settle keeps what a run keeps inside it, or stops the run.
-use Rattle.std.proofs.Common.{◌≡◌, ℕ, ◌-◌, ◌<◌, ◌≤◌, ◌⊎◌, inl, inr, List, [], ◌∷◌, ◌++◌, length, take, true, false, Option, Some, None, refl, ap, sym, ◌∙◌, subst}
+use Rattle.std.proofs.Common.{◌≡◌, ℕ, ◌-◌, ◌<◌, ◌≤◌, ◌⊎◌, inl, inr, List, [], ◌∷◌, ◌++◌, length, take, false, Option, Some, None, ap, sym, ◌∙◌, subst}
 use Rattle.std.specs.Prelude.{◌≢◌}
 use Rattle.std.specs.Io.KnownBytes.{Appends}
 use Rattle.vm_model.specs.Limits.{most_events}
@@ -16,21 +16,21 @@ use Rattle.vm_legal.specs.Legal.{CanonicalFor}
 use Rattle.vm_legal.specs.Outside.{Outside}
 use Rattle.vm_legal.specs.Steps.{before_step, takings}
 use Rattle.vm_legal.specs.Undelivered.{undelivered}
-use Rattle.vm_outside.specs.Arming.{Arming, ArmedLater}
-use Rattle.vm_system.proofs.Settled.{may_be_cut}
-use Rattle.vm_system.specs.Steps.{DevicesHaveCause, GrowsWithinLimit, HasMore, IsMemoryStop, KeepsOpen, CanonicalCut, CanonicalOpen, MayCutOpen, TakesMore, settles, took_up}
-use Rattle.vm_top.specs.Arming.{is_untouched, ran_of}
-use Rattle.vm_top.specs.Run.{CutIn, RanAs, front_of, text_so_far}
+use Rattle.vm_outside.specs.Arming.{Arming, ArmedLater, KeepsArming}
+use Rattle.vm_system.specs.Steps.{DevicesHaveCause, GrowsWithinLimit, HasMore, IsBelowLimit, KeepsOpen, CanonicalOpen, TakesMore, settles, took_up}
+use Rattle.vm_top.specs.Arming.{ran_of}
+use Rattle.vm_top.specs.Run.{RanAs, front_of, text_so_far}
 use Rattle.vm_top.specs.Running.{BackingRuns, FaultCounts, IsBetweenCommands, RunStops, RunTaking, Running, Settles, Turned, counted}
 use Rattle.vm_top.specs.Writing.{WroteBeyond, oldest_items}
 use Rattle.vm_top.specs.declared.run.RunEnd.{RunEnd}
 use Rattle.vm_top.specs.declared.run.RunEnd.TheVariants as ends
 use Rattle.vm_top.specs.declared.words.Report.{Report}
 use Rattle.vm_top.specs.declared.words.Report.TheVariants as reports
-use Rattle.vm_top.proofs.Arms.{backing_later, backing_taking, arms_of, failures_of}
-use Rattle.vm_top.proofs.Counting.{lines_same, lines_up, untouched_any}
+use Rattle.vm_top.proofs.Arms.{backing_taking, arms_of, failures_of}
+use Rattle.vm_top.proofs.Counting.{lines_same}
 use Rattle.vm_top.proofs.Starts.{order_at}
-use Rattle.vm_top.proofs.Turns.{Left, shown_grown}
+use Rattle.vm_top.proofs.Turns.{Left, arms_kept, open_so_far, shown_grown}
+use Rattle.vm_top.proofs.Writings.{start_all}
 
 -- the command in whose step messages are taken, at a line
 abbrev pub settle_at : {F P : Type 0} → RunTaking F P → ℕ → Numbered
@@ -124,12 +124,7 @@ take_failed report given line run old new now f1 p1 e1 more front step wrote =
 take_unshown : {F P : Type 0} (report : Report) (given : RunTaking F P) (line : ℕ) (run : List Numbered) (old new : List Event) (now : Option (List ℕ)) (f1 : Arming F) (p1 : Arming P) (e1 : FaultCounts)
     → GrowsWithinLimit old new → Held given line run old new f1 p1 e1 → Appends given.running.start now (text_so_far report old) → RanAs report given.running.script given.running.outside new ends.NoMemory given.running.start now
 take_unshown report given line run old new now f1 p1 e1 grew step wrote = (
-  record {
-    later = behind given new;
-    run = settle_at given line ∷ run;
-    order = order_of given (settle_at given line) run new step.here;
-    legal = may_be_cut given.running.script.header given.running.outside (settle_at given line ∷ run) new step.legal.so_far;
-  },
+  open_so_far given.running.script given.running.outside (behind given new) (settle_at given line ∷ run) new (order_of given (settle_at given line) run new step.here) step.legal.so_far,
   shown_grown report given.running.start now old new grew wrote,
 )
 
@@ -145,55 +140,21 @@ held_stops report given line run old new now f1 p1 e1 how more front grew step f
     subst (RunStops report given.running new now f1 p1 e1) (sym is)
     (record { ran = take_unshown report given line run old new now f1 p1 e1 grew step (none is); below = step.left.below; arms = step.left.arms; failed = step.left.failed })
 
--- how a backing is armed where memory ended in the taking
-pub record BackingStops {B : Type 0} (header : Header) (who : Device) (old new : List Event) (before after : Arming B) : Type 0 where
-  pub later : ArmedLater before.left before.reached after.left after.reached
-  pub stops : IsMemoryStop header who before_step old new before after
-
-backing_stopped : {B : Type 0} (header : Header) (who : Device) (commands : List Numbered) (old new : List Event) (start before after : Arming B) → BackingStops header who old new before after
-    → BackingRuns header who (oldest_items (count_of is_line old) commands) old start before → BackingRuns header who (oldest_items (count_of is_line new) commands) new start after
-backing_stopped header who commands old new start before after stopped was = by_stop stopped.stops
-  where
-    at_run : count_of is_line new ≡ count_of is_line old → BackingRuns header who (oldest_items (count_of is_line old) commands) new start after → BackingRuns header who (oldest_items (count_of is_line new) commands) new start after
-    at_run lines runs = subst (λ z. BackingRuns header who (oldest_items z commands) new start after) (sym lines) runs
-
-    by_stop : IsMemoryStop header who before_step old new before after → BackingRuns header who (oldest_items (count_of is_line new) commands) new start after
-    by_stop (inl same) =
-        let run = oldest_items (count_of is_line old) commands in
-        at_run (ap (count_of is_line) same.0) (backing_later header who run run old new start before after refl refl stopped.later (λ un. (same.1, subst (λ z. is_untouched header who run z ≡ true) same.0 un)) was)
-    by_stop (inr took) =
-        let run = oldest_items (count_of is_line old) commands in
-        at_run (lines_up new old took.0 took.1)
-        (backing_later header who run run old new start before after refl refl stopped.later (λ un. let both = untouched_any header who run new old took.0 took.1 un in (ap (λ z. z.left) (took.2 both.0), both.1)) was)
-
--- memory ended in the taking
+-- for want of memory the taking was not made
 pub take_stops : {F P : Type 0} (report : Report) (given : RunTaking F P) (old new : List Event) (now : Option (List ℕ)) (f0 f1 : Arming F) (p0 p1 : Arming P) (e0 e1 : FaultCounts)
-    → Settles report given old now f0 p0 e0 → GrowsWithinLimit old new → length old < most_events → MayCutOpen given.running.script.header given.running.outside given.command old new
-    → BackingStops given.running.script.header device.Files old new f0 f1 → BackingStops given.running.script.header device.Paging old new p0 p1 → ((who : Device) → DevicesHaveCause who (counted who e0) (counted who e1) old new)
+    → Settles report given old now f0 p0 e0 → GrowsWithinLimit old new → new ≡ old → KeepsArming f0 f1 → KeepsArming p0 p1 → ((who : Device) → DevicesHaveCause who (counted who e0) (counted who e1) old new)
     → RunStops report given.running new now f1 p1 e1 ends.NoMemory
-take_stops report given old new now f0 f1 p0 p1 e0 e1 settles grew below may files paging devices = record {
-  ran = (by_way may, shown_grown report given.running.start now old new grew settles.keeps.written);
-  below = grew.limit below settles.keeps.below;
-  arms = record {
-    files = backing_stopped given.running.script.header device.Files given.running.script.commands.items old new given.running.files f0 f1 files settles.keeps.arms.files;
-    paging = backing_stopped given.running.script.header device.Paging given.running.script.commands.items old new given.running.paging p0 p1 paging settles.keeps.arms.paging;
-  };
-  failed = failures_of given.running.faults e0 e1 old new grew devices settles.keeps.failed;
-}
-  where
-    by_way : MayCutOpen given.running.script.header given.running.outside given.command old new → CutIn given.running.script given.running.outside new
-    by_way (inl same) = record {
-      later = behind given old;
-      run = settle_at given settles.line ∷ settles.run;
-      order = order_of given (settle_at given settles.line) settles.run old settles.here;
-      legal = subst (CanonicalCut given.running.script.header given.running.outside (settle_at given settles.line ∷ settles.run)) (sym same)
-          (may_be_cut given.running.script.header given.running.outside (settle_at given settles.line ∷ settles.run) old settles.legal);
-    }
-    by_way (inr cut) = record {
-      later = behind given old;
-      run = settle_at given settles.line ∷ settles.run;
-      order = order_of given (settle_at given settles.line) settles.run old settles.here;
-      legal = cut settles.line settles.run settles.legal;
+take_stops report given old new now f0 f1 p0 p1 e0 e1 settles grew same files paging devices =
+    let script = given.running.script in
+    let outside = given.running.outside in
+    let all = settle_at given settles.line ∷ settles.run in record {
+      ran = subst (λ z. RanAs report script outside z ends.NoMemory given.running.start now) (sym same) (
+        open_so_far script outside (behind given old) all old (order_of given (settle_at given settles.line) settles.run old settles.here) settles.legal,
+        start_all given.running.start now (text_so_far report old) settles.keeps.written,
+      );
+      below = subst IsBelowLimit (sym same) settles.keeps.below;
+      arms = arms_kept given.running old new f0 f1 p0 p1 same files paging settles.keeps.arms;
+      failed = failures_of given.running.faults e0 e1 old new grew devices settles.keeps.failed;
     }
 
 -- the history is full, and something is there to take

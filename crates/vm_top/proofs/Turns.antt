@@ -1,5 +1,5 @@
 -- A command's step keeps what a run keeps, or stops it.
-use Rattle.std.proofs.Common.{◌≡◌, ℕ, ◌+◌, ◌-◌, ◌<◌, ◌≤◌, ◌⊎◌, inl, inr, List, [], ◌∷◌, ◌++◌, Bool, length, reverse, slice_get, take, true, false, Option, Some, None, Err, refl, ap, sym, ◌∙◌, subst, arith, append_assoc, append-nil}
+use Rattle.std.proofs.Common.{◌≡◌, ℕ, ◌+◌, ◌-◌, ◌<◌, ◌≤◌, ◌⊎◌, inl, inr, List, [], ◌∷◌, ◌++◌, length, reverse, slice_get, take, false, Option, Some, None, Err, refl, ap, sym, ◌∙◌, subst, arith, append_assoc, append-nil}
 use Rattle.std.specs.Prelude.{IsErrOf}
 use Rattle.std.specs.Io.KnownBytes.{Appends}
 use Rattle.std.proofs.KnownBytes.{Appends-nil}
@@ -16,25 +16,24 @@ use Rattle.vm_model.specs.Moments.{before_last_line}
 use Rattle.vm_model.specs.Ranges.{InRange}
 use Rattle.vm_model.specs.Summary.{count_of, is_line}
 use Rattle.vm_model.specs.Text.{text, line_of}
-use Rattle.vm_legal.specs.Legal.{CanonicalFor}
+use Rattle.vm_legal.specs.Legal.{CanonicalFor, CanonicalSoFar}
 use Rattle.vm_legal.specs.Outside.{Outside}
 use Rattle.vm_legal.specs.Steps.{takings}
-use Rattle.vm_legal.proofs.Turns.{cut_in_turn, legal_of, open_in_turn}
-use Rattle.vm_outside.specs.Arming.{Arming, ArmedLater}
-use Rattle.vm_system.proofs.Settled.{may_be_cut}
-use Rattle.vm_system.specs.Steps.{DevicesHaveCause, GrowsWithinLimit, IsNextCanonical, KeepsCanonical, LeavesBacking, CanonicalCut, CanonicalOpen, MayCut, IsBelowLimit, IsMemoryStop, arms, settles, takes_any, took_up}
+use Rattle.vm_legal.proofs.Turns.{legal_of, open_in_turn}
+use Rattle.vm_outside.specs.Arming.{Arming, ArmedLater, KeepsArming}
+use Rattle.vm_system.specs.Steps.{DevicesHaveCause, GrowsWithinLimit, IsNextCanonical, KeepsCanonical, LeavesBacking, CanonicalOpen, IsBelowLimit, arms, settles, took_up}
 use Rattle.vm_system.specs.declared.stop.SystemStop.{SystemStop}
 use Rattle.vm_system.specs.declared.stop.SystemStop.TheVariants as stops
-use Rattle.vm_top.specs.Arming.{BackingLeft, FailuresCounted, is_untouched, ran_of}
-use Rattle.vm_top.specs.Run.{CutIn, IsPart, IsRunnable, RanAs, front_of, text_so_far}
+use Rattle.vm_top.specs.Arming.{BackingLeft, FailuresCounted, ran_of}
+use Rattle.vm_top.specs.Run.{IsPart, IsRunnable, RanAs, front_of, text_so_far}
 use Rattle.vm_top.specs.Running.{Arms, BackingRuns, FaultCounts, IsBetweenCommands, IsNextOf, RunStops, Running, Turned, counted}
 use Rattle.vm_top.specs.Writing.{WroteBeyond, WroteStart, oldest_items}
 use Rattle.vm_top.specs.declared.run.RunEnd.{RunEnd}
 use Rattle.vm_top.specs.declared.run.RunEnd.TheVariants as ends
 use Rattle.vm_top.specs.declared.words.Report.{Report}
 use Rattle.vm_top.specs.declared.words.Report.TheVariants as reports
-use Rattle.vm_top.proofs.Arms.{arms_of, backing_behind, backing_later, backing_step, failures_of, up_unarmed}
-use Rattle.vm_top.proofs.Counting.{lines_more, takings_none, untouched_down, untouched_line}
+use Rattle.vm_top.proofs.Arms.{arms_of, backing_step, failures_of}
+use Rattle.vm_top.proofs.Counting.{lines_more, takings_none}
 use Rattle.vm_top.proofs.Starts.{legal_start, oldest_all, oldest_none, order_at, order_left, order_next, range_at}
 use Rattle.vm_top.proofs.Writings.{front_start, oldest_step, start_all}
 
@@ -114,8 +113,32 @@ shown_grown reports.History start now old new grew wrote =
     subst (WroteStart start now) (sym (ap text grew.is ∙ grown.1)) (front_start start now (text old) grown.0 wrote)
 shown_grown reports.Summary start now old new grew wrote = start_all start now [] wrote
 
-pub cut_whole : (header : Header) (outside : Outside) (run : List Numbered) (h : List Event) → CanonicalFor header outside run h → CanonicalCut header outside run h
-cut_whole header outside run h legal = record { follows = cut_in_turn header outside run h (open_in_turn header outside run h legal.follows); holds = legal.holds; ended = legal.ended; recalled = legal.recalled }
+-- what is canonical for the first commands is so as far as it goes
+
+pub open_so_far : (script : Script) (outside : Outside) (later run : List Numbered) (h : List Event) → script.commands.items ≡ later ++ run → CanonicalOpen script.header outside run h → CanonicalSoFar script outside h
+open_so_far script outside later run h order legal = record {
+  later = later;
+  run = run;
+  order = order;
+  follows = legal.follows;
+  holds = legal.holds;
+  rests = legal.rests;
+  ended = legal.ended;
+  last = legal.last;
+  recalled = legal.recalled;
+  recalls = legal.recalls;
+}
+
+pub open_whole : (header : Header) (outside : Outside) (run : List Numbered) (h : List Event) → CanonicalFor header outside run h → CanonicalOpen header outside run h
+open_whole header outside run h legal = record {
+  follows = open_in_turn header outside run h legal.follows;
+  holds = legal.holds;
+  rests = legal.rests;
+  ended = legal.ended;
+  last = legal.last;
+  recalled = legal.recalled;
+  recalls = legal.recalls;
+}
 
 -- the commands that are left behind the next one
 abbrev pub left_of : {F P : Type 0} → Running F P → List Event → List Numbered
@@ -145,34 +168,21 @@ pub turn_unshown : {F P : Type 0} (report : Report) (given : Running F P) (n : N
     → IsNextOf given.script n old → GrowsWithinLimit old new → Made given n old new f1 p1 e1 → Appends given.start now (text_so_far report old)
     → RanAs report given.script given.outside new ends.NoMemory given.start now
 turn_unshown report given n old new now f1 p1 e1 follows grew step wrote = (
-  record {
-    later = left_of given old;
-    run = n ∷ ran_of given.script old;
-    order = order_made given n old follows;
-    legal = may_be_cut given.script.header given.outside (n ∷ ran_of given.script old) new step.next.so_far;
-  },
+  open_so_far given.script given.outside (left_of given old) (n ∷ ran_of given.script old) new (order_made given n old follows) step.next.so_far,
   shown_grown report given.start now old new grew wrote,
 )
 
--- memory ended in the step
-pub turn_cut : {F P : Type 0} (report : Report) (given : Running F P) (n : Numbered) (old new : List Event) (now : Option (List ℕ))
-    → IsNextOf given.script n old → GrowsWithinLimit old new → CanonicalFor given.script.header given.outside (ran_of given.script old) old → MayCut given.script.header given.outside n old new → Appends given.start now (text_so_far report old)
-    → RanAs report given.script given.outside new ends.NoMemory given.start now
-turn_cut report given n old new now follows grew legal may wrote = (by_way may, shown_grown report given.start now old new grew wrote)
-  where
-    by_way : MayCut given.script.header given.outside n old new → CutIn given.script given.outside new
-    by_way (inl same) = record {
-      later = take (length given.script.commands.items - count_of is_line old) given.script.commands.items;
-      run = ran_of given.script old;
-      order = order_at given.script.commands.items (count_of is_line old);
-      legal = subst (CanonicalCut given.script.header given.outside (ran_of given.script old)) (sym same) (cut_whole given.script.header given.outside (ran_of given.script old) old legal);
-    }
-    by_way (inr cut) = record {
-      later = left_of given old;
-      run = n ∷ ran_of given.script old;
-      order = order_made given n old follows;
-      legal = cut (ran_of given.script old) legal;
-    }
+-- for want of memory the step was not made
+pub turn_refused : {F P : Type 0} (report : Report) (given : Running F P) (old new : List Event) (now : Option (List ℕ)) → CanonicalFor given.script.header given.outside (ran_of given.script old) old → new ≡ old
+    → Appends given.start now (text_so_far report old) → RanAs report given.script given.outside new ends.NoMemory given.start now
+turn_refused report given old new now legal same wrote =
+    let script = given.script in
+    let run = ran_of script old in
+    let later = take (length script.commands.items - count_of is_line old) script.commands.items in
+    subst (λ z. RanAs report script given.outside z ends.NoMemory given.start now) (sym same) (
+      open_so_far script given.outside later run old (order_at script.commands.items (count_of is_line old)) (open_whole script.header given.outside run old legal),
+      start_all given.start now (text_so_far report old) wrote,
+    )
 
 -- how a turn stops behind its step: a write failed, or memory ended
 pub shown_stops : {F P : Type 0} (report : Report) (given : Running F P) (n : Numbered) (old new : List Event) (now : Option (List ℕ)) (f1 : Arming F) (p1 : Arming P) (e1 : FaultCounts) (how : RunEnd)
@@ -184,70 +194,34 @@ shown_stops report given n old new now f1 p1 e1 how follows front grew step fail
 shown_stops report given n old new now f1 p1 e1 how follows front grew step failed none (inr is) =
     subst (RunStops report given new now f1 p1 e1) (sym is) (record { ran = turn_unshown report given n old new now f1 p1 e1 follows grew step (none is); below = step.left.below; arms = step.left.arms; failed = step.left.failed })
 
--- how a backing is armed where memory ended in the step
-pub record BackingHalts {B : Type 0} (header : Header) (who : Device) (n : Numbered) (old new : List Event) (before after : Arming B) : Type 0 where
-  pub later : arms who n.command ≡ None → ArmedLater before.left before.reached after.left after.reached
-  pub calm : takes_any n.command ≡ false → (new ≡ old) × (after ≡ before)
-  pub stops : IsMemoryStop header who before_last_line old new before after
-
-backing_halted : {B : Type 0} (header : Header) (outside : Outside) (who : Device) (commands : List Numbered) (n : Numbered) (old new : List Event) (start before after : Arming B)
-    → oldest_items (count_of is_line old + 1) commands ≡ n ∷ oldest_items (count_of is_line old) commands → CanonicalFor header outside (oldest_items (count_of is_line old) commands) old
-    → MayCut header outside n old new → BackingHalts header who n old new before after → BackingRuns header who (oldest_items (count_of is_line old) commands) old start before
-    → BackingRuns header who (oldest_items (count_of is_line new) commands) new start after
-backing_halted header outside who commands n old new start before after follows legal may halted was = by (takes_any n.command) refl
-  where
-    run : List Numbered
-    run = oldest_items (count_of is_line old) commands
-
-    same_ran : new ≡ old → oldest_items (count_of is_line new) commands ≡ run
-    same_ran same = ap (λ z. oldest_items (count_of is_line z) commands) same
-
-    here : before_last_line new ≡ old → CanonicalCut header outside (n ∷ run) new → oldest_items (count_of is_line new) commands ≡ n ∷ run
-    here front cut =
-        let made = cut.follows in
-        ap (λ z. oldest_items z commands) (lines_more new old made.1 made.0 n.line front made.2) ∙ follows
-
-    at_run : (more : List Numbered) → oldest_items (count_of is_line new) commands ≡ more → BackingRuns header who more new start after → BackingRuns header who (oldest_items (count_of is_line new) commands) new start after
-    at_run more is runs = subst (λ z. BackingRuns header who z new start after) (sym is) runs
-
-    at : arms who n.command ≡ None → ArmedLater before.left before.reached after.left after.reached → IsMemoryStop header who before_last_line old new before after → MayCut header outside n old new
-        → BackingRuns header who (oldest_items (count_of is_line new) commands) new start after
-    at unarmed later (inl same) cut =
-        at_run run (same_ran same.0) (backing_later header who run run old new start before after refl refl later (λ un. (same.1, subst (λ z. is_untouched header who run z ≡ true) same.0 un)) was)
-    at unarmed later (inr took) (inl same) =
-        at_run run (same_ran same)
-        (backing_later header who run run old new start before after refl refl later (λ un. (ap (λ z. z.left) (took.2 (untouched_down header who run new un)), subst (λ z. is_untouched header who run z ≡ true) same un)) was)
-    at unarmed later (inr took) (inr cut) =
-        at_run (n ∷ run) (here took.0 (cut run legal))
-        (backing_behind header who n run old new start before after unarmed later (λ un. let both = untouched_line header who n run new old unarmed took.0 un in (ap (λ z. z.left) (took.2 both.0), both.1)) was)
-
-    by : (b : Bool) → takes_any n.command ≡ b → BackingRuns header who (oldest_items (count_of is_line new) commands) new start after
-    by false down =
-        let both = halted.calm down in
-        subst (λ z. BackingRuns header who (oldest_items (count_of is_line z) commands) z start after) (sym both.0) (subst (λ z. BackingRuns header who run old start z) (sym both.1) was)
-    by true up = let unarmed = up_unarmed who n.command up in at unarmed (halted.later unarmed) halted.stops may
-
--- how both backings are armed there
-pub record Halted {F P : Type 0} (header : Header) (n : Numbered) (old new : List Event) (f0 f1 : Arming F) (p0 p1 : Arming P) : Type 0 where
-  pub files : BackingHalts header device.Files n old new f0 f1
-  pub paging : BackingHalts header device.Paging n old new p0 p1
-
-arms_halted : {F P : Type 0} (given : Running F P) (n : Numbered) (old new : List Event) (f0 f1 : Arming F) (p0 p1 : Arming P) → IsNextOf given.script n old → CanonicalFor given.script.header given.outside (ran_of given.script old) old
-    → MayCut given.script.header given.outside n old new → Halted given.script.header n old new f0 f1 p0 p1 → Arms given old f0 p0 → Arms given new f1 p1
-arms_halted given n old new f0 f1 p0 p1 follows legal may halted was = record {
-  files = backing_halted given.script.header given.outside device.Files given.script.commands.items n old new given.files f0 f1 follows legal may halted.files was.files;
-  paging = backing_halted given.script.header given.outside device.Paging given.script.commands.items n old new given.paging p0 p1 follows legal may halted.paging was.paging;
+-- a backing whose arming was kept is armed as it was
+backing_kept : {B : Type 0} (header : Header) (who : Device) (run : List Numbered) (h : List Event) (start before after : Arming B) → KeepsArming before after → BackingRuns header who run h start before → BackingRuns header who run h start after
+backing_kept header who run h start before after kept was = record {
+  left = record {
+    none = λ none. rw (kept.0, kept.1) (was.left.none none);
+    some = λ count some. rw (kept.0, kept.1) (was.left.some count some);
+    untouched = λ count some un. rw kept.0 (was.left.untouched count some un);
+    few = rw (kept.0, kept.1) was.left.few;
+  };
+  rising = rw kept.1 was.rising;
 }
 
+pub arms_kept : {F P : Type 0} (given : Running F P) (old new : List Event) (f0 f1 : Arming F) (p0 p1 : Arming P) → new ≡ old → KeepsArming f0 f1 → KeepsArming p0 p1 → Arms given old f0 p0 → Arms given new f1 p1
+arms_kept given old new f0 f1 p0 p1 same files paging was =
+    let script = given.script in
+    subst (λ z. Arms given z f1 p1) (sym same) (record {
+      files = backing_kept script.header device.Files (ran_of script old) old given.files f0 f1 files was.files;
+      paging = backing_kept script.header device.Paging (ran_of script old) old given.paging p0 p1 paging was.paging;
+    })
+
 -- how a turn stops in its step
-pub step_stops : {F P : Type 0} (report : Report) (given : Running F P) (n : Numbered) (old new : List Event) (now : Option (List ℕ)) (f0 f1 : Arming F) (p0 p1 : Arming P) (e0 e1 : FaultCounts)
-    → IsBetweenCommands report given old now f0 p0 e0 → IsNextOf given.script n old → GrowsWithinLimit old new → length old < most_events → MayCut given.script.header given.outside n old new → Halted given.script.header n old new f0 f1 p0 p1
-    → ((who : Device) → DevicesHaveCause who (counted who e0) (counted who e1) old new)
+pub step_stops : {F P : Type 0} (report : Report) (given : Running F P) (old new : List Event) (now : Option (List ℕ)) (f0 f1 : Arming F) (p0 p1 : Arming P) (e0 e1 : FaultCounts)
+    → IsBetweenCommands report given old now f0 p0 e0 → GrowsWithinLimit old new → new ≡ old → KeepsArming f0 f1 → KeepsArming p0 p1 → ((who : Device) → DevicesHaveCause who (counted who e0) (counted who e1) old new)
     → RunStops report given new now f1 p1 e1 ends.NoMemory
-step_stops report given n old new now f0 f1 p0 p1 e0 e1 runs follows grew below may halted devices = record {
-  ran = turn_cut report given n old new now follows grew runs.legal may runs.keeps.written;
-  below = grew.limit below runs.keeps.below;
-  arms = arms_halted given n old new f0 f1 p0 p1 follows runs.legal may halted runs.keeps.arms;
+step_stops report given old new now f0 f1 p0 p1 e0 e1 runs grew same files paging devices = record {
+  ran = turn_refused report given old new now runs.legal same runs.keeps.written;
+  below = subst IsBelowLimit (sym same) runs.keeps.below;
+  arms = arms_kept given old new f0 f1 p0 p1 same files paging runs.keeps.arms;
   failed = failures_of given.faults e0 e1 old new grew devices runs.keeps.failed;
 }
 
@@ -374,11 +348,6 @@ start_runs report given h nothing files paging = subst (λ z. IsBetweenCommands 
 pub nothing_ran : (report : Report) (script : Script) (outside : Outside) (h : List Event) (written : Option (List ℕ)) → h ≡ [] → RanAs report script outside h ends.NoMemory written written
 nothing_ran report script outside h written nothing =
     subst (λ z. RanAs report script outside z ends.NoMemory written written) (sym nothing) (
-      record {
-        later = script.commands.items;
-        run = [];
-        order = sym (append-nil script.commands.items);
-        legal = cut_whole script.header outside [] [] (legal_start script.header outside);
-      },
+      open_so_far script outside script.commands.items [] [] (sym (append-nil script.commands.items)) (open_whole script.header outside [] [] (legal_start script.header outside)),
       start_all written written (text_so_far report []) (shown_none written report),
     )

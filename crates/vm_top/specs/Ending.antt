@@ -5,8 +5,9 @@ use Rattle.vm_base.specs.declared.failure.WriteStop.{WriteStop}
 use Rattle.vm_base.specs.declared.failure.WriteStop.TheVariants as stop
 use Rattle.vm_model.specs.declared.event.Event.{Event}
 use Rattle.vm_model.specs.declared.script.Script.{Script}
+use Rattle.vm_legal.specs.Legal.{CanonicalSoFar}
 use Rattle.vm_legal.specs.Outside.{Outside}
-use Rattle.vm_top.specs.Run.{CutIn, IsOutOfEvents, IsWholeRun, report_text}
+use Rattle.vm_top.specs.Run.{IsOutOfEvents, IsWholeRun, report_text}
 use Rattle.vm_top.specs.Top.{WroteFailed}
 use Rattle.vm_top.specs.Writing.{WroteStart}
 use Rattle.vm_top.specs.declared.top.Status.{Status}
@@ -32,7 +33,7 @@ EndsAs report run outside history before after EventLimit =
     IsOutOfEvents run outside history × Appends before after (report_text report history)
 EndsAs report run outside history before after OutputFault = WroteFailed report run outside history before after
 EndsAs report run outside history before after NoMemory =
-    CutIn run outside history × WroteStart before after (report_text report history)
+    CanonicalSoFar run outside history × WroteStart before after (report_text report history)
 EndsAs report run outside history before after other = ⊥
 
 -- the script is held

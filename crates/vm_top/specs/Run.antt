@@ -15,7 +15,7 @@ use Rattle.vm_model.specs.Moments.{before_last_line}
 use Rattle.vm_model.specs.Ranges.{InRange}
 use Rattle.vm_model.specs.Summary.{summary_text}
 use Rattle.vm_model.specs.Text.{text}
-use Rattle.vm_legal.specs.Legal.{Canonical, CanonicalFor, Legal}
+use Rattle.vm_legal.specs.Legal.{Canonical, CanonicalFor, CanonicalSoFar, Legal}
 use Rattle.vm_legal.specs.Outside.{FilesAtStart, Outside, Told as FilesTold, Untold, is_file_kind}
 use Rattle.vm_legal.specs.Steps.{before_step}
 use Rattle.vm_legal.specs.Undelivered.{undelivered}
@@ -23,7 +23,7 @@ use Rattle.vm_outside.specs.Areas.{Told, read_at}
 use Rattle.pg_file.specs.Stands.{name_of}
 use Rattle.pg_slots.specs.Contents.{area_name}
 use Rattle.vm_system.specs.Stands.{IsServable}
-use Rattle.vm_system.specs.Steps.{HasMore, CanonicalCut, CanonicalOpen}
+use Rattle.vm_system.specs.Steps.{HasMore, CanonicalOpen}
 use Rattle.vm_top.specs.Writing.{WroteStart, WroteBeyond}
 use Rattle.vm_top.specs.declared.run.RunEnd.{RunEnd}
 use Rattle.vm_top.specs.declared.run.RunEnd.TheVariants as end
@@ -112,13 +112,6 @@ pub record FailedIn (script : Script) (outside : Outside) (history : List Event)
   pub legal : CanonicalOpen script.header outside (next ∷ run) history
   pub written : WroteBeyond before after (text (front_of next.command history)) (text history)
 
--- memory ended: the history is canonical as far as it goes, and its last step may be cut
-pub record CutIn (script : Script) (outside : Outside) (history : List Event) : Type 0 where
-  pub later : List Numbered
-  pub run : List Numbered
-  pub order : script.commands.items ≡ later ++ run
-  pub legal : CanonicalCut script.header outside run history
-
 -- what is written of a history while it grows
 abbrev pub text_so_far : Report → List Event → List ℕ
 text_so_far History history = text history
@@ -137,6 +130,6 @@ RanAs report script outside history end.Done before after =
 RanAs report script outside history end.Failed before after =
     (report ≡ History) × FailedIn script outside history before after
 RanAs report script outside history end.NoMemory before after =
-    CutIn script outside history × WroteStart before after (text_so_far report history)
+    CanonicalSoFar script outside history × WroteStart before after (text_so_far report history)
 RanAs report script outside history end.EventLimit before after =
     IsOutOfEvents script outside history × Appends before after (text_so_far report history)

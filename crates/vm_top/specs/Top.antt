@@ -17,7 +17,7 @@ use Rattle.vm_outside.specs.Areas.{SameAreas, Told}
 use Rattle.vm_outside.specs.Arming.{Arming}
 use Rattle.vm_system.specs.Keeping.{FilesCarry, PagingKeepsPages}
 use Rattle.vm_top.specs.Arming.{BackingLeft, ran_of}
-use Rattle.vm_top.specs.Run.{CutIn, FailedIn, IsOutOfEvents, IsWholeRun, report_text}
+use Rattle.vm_top.specs.Run.{FailedIn, IsOutOfEvents, IsWholeRun, report_text}
 use Rattle.vm_top.specs.Writing.{WroteStart}
 use Rattle.vm_top.specs.declared.words.Report.{Report}
 use Rattle.vm_top.specs.declared.words.Report.TheVariants.{History, Summary}
@@ -96,11 +96,11 @@ pub record IsFailed (told : Option (List ℕ)) (outside : Header → Outside) (r
   pub held : IsHeld told run script
   pub failed : WroteFailed report run (outside run.header) history before after
 
--- a script was run until memory ended: its history is legal as far as it goes, and its last step may be cut
-pub record IsCut (told : Option (List ℕ)) (outside : Header → Outside) (script : Option Script) (history : List Event) : Type 0 where
+-- a script was run until memory ended: its history is legal as far as it goes
+pub record IsStopped (told : Option (List ℕ)) (outside : Header → Outside) (script : Option Script) (history : List Event) : Type 0 where
   pub run : Script
   pub held : IsHeld told run script
-  pub cut : CutIn run (outside run.header) history
+  pub legal : CanonicalSoFar run (outside run.header) history
 
 -- a first part of what tells the first fault
 abbrev pub WroteBad : Option (List ℕ) → Option Script → List Event → Option (List ℕ) → Option (List ℕ) → Type 0
@@ -119,7 +119,7 @@ abbrev pub IsNoMemory : Option (List ℕ) → (Header → Outside) → Report �
     → Option (List ℕ) → Type 0
 IsNoMemory told outside report script history before after =
     NothingDone script history before after
-    ⊎ ((IsCut told outside script history × WroteStart before after (report_text report history)) ⊎ WroteBad told script history before after)
+    ⊎ ((IsStopped told outside script history × WroteStart before after (report_text report history)) ⊎ WroteBad told script history before after)
 
 -- each host's paging area goes on telling, and each page that was returned and not lost stands at its slot
 abbrev pub KeptAt : (Header → Outside) → (List ℕ → Told) → (List ℕ → Told) → Option Script → List Event → Type 0

@@ -162,8 +162,8 @@ fn run_read<K: Sink, F: Backing, P: Backing>(
     requires files { files.old.left ≡ 0 }
     requires paging { paging.old.left ≡ 0 }
     ensures ended { RunHasEnded report script (outside_of (F.area files.old.inner) (P.area paging.old.inner) script.header) result.script result.history.items (K.written out.old) (K.written out.new) result.status }
-    ensures quiet { result.status ≢ Status.NoMemory → WaitsForFramesAlone result.script result.history.items }
-    ensures carried { result.status ≢ Status.NoMemory → CarriesAll result.script result.history.items }
+    ensures quiet { WaitsForFramesAlone result.script result.history.items }
+    ensures carried { CarriesAll result.script result.history.items }
     ensures limit { IsBelowLimit result.history.items }
     ensures cause { result.status ≡ Status.OutputFault → CountRises (K.faults out.old) (K.faults out.new) }
     ensures later { K.faults out.old ≤ K.faults out.new }
@@ -209,8 +209,8 @@ fn run<S: Source, K: Sink, F: Backing, P: Backing>(
     ensures output { result.status ≡ Status.OutputFault → IsOutputFault (S.left source.old) (outside_of (F.area files.old.inner) (P.area paging.old.inner)) report result.script result.history.items (K.written out.old) (K.written out.new) }
     ensures memory { result.status ≡ Status.NoMemory → IsNoMemory (S.left source.old) (outside_of (F.area files.old.inner) (P.area paging.old.inner)) report result.script result.history.items (K.written out.old) (K.written out.new) }
     ensures full { result.status ≡ Status.EventLimit → IsEventLimit (S.left source.old) (outside_of (F.area files.old.inner) (P.area paging.old.inner)) report result.script result.history.items (K.written out.old) (K.written out.new) }
-    ensures quiet { result.status ≢ Status.NoMemory → WaitsForFramesAlone result.script result.history.items }
-    ensures carried { result.status ≢ Status.NoMemory → CarriesAll result.script result.history.items }
+    ensures quiet { WaitsForFramesAlone result.script result.history.items }
+    ensures carried { CarriesAll result.script result.history.items }
     ensures ranges { IfSome result.script KeepsRanges }
     ensures limit { IsBelowLimit result.history.items }
     ensures source { OfBytes (S.left source.old) (λ bytes. LeavesBytes result.status result.script bytes (S.left source.new)) }
@@ -264,8 +264,8 @@ fn generate<K: Sink, F: Backing, P: Backing>(
     ensures bad { (line : ℕ) → (kind : ScriptFault) → ¬ (result.status ≡ Status.BadScript line kind) }
     ensures usage { ¬ (result.status ≡ Status.Usage) }
     ensures read { ¬ (result.status ≡ Status.ReadFault) }
-    ensures quiet { result.status ≢ Status.NoMemory → WaitsForFramesAlone result.script result.history.items }
-    ensures carried { result.status ≢ Status.NoMemory → CarriesAll result.script result.history.items }
+    ensures quiet { WaitsForFramesAlone result.script result.history.items }
+    ensures carried { CarriesAll result.script result.history.items }
     ensures ranges { IfSome result.script KeepsRanges }
     ensures limit { IsBelowLimit result.history.items }
     ensures output_cause { result.status ≡ Status.OutputFault → CountRises (K.faults out.old) (K.faults out.new) }
@@ -353,10 +353,10 @@ pub fn pagers_main<S: Source, K: Sink, F: Backing, P: Backing>(
     // Whatever the source tells, the script that is held keeps the grammar's ranges.
     ensures ranges { IfSome result.script KeepsRanges }
 
-    // Wherever a script is held and memory did not end, the history ends with a whole step. Once nothing is undelivered there no access
+    // Wherever a script is held, the history ends with a whole step. Once nothing is undelivered there no access
     // waits while frames are reclaimable, but on a wild object; and whoever is asked has a message on its way.
-    ensures quiet { result.status ≢ Status.NoMemory → WaitsForFramesAlone result.script result.history.items }
-    ensures carried { result.status ≢ Status.NoMemory → CarriesAll result.script result.history.items }
+    ensures quiet { WaitsForFramesAlone result.script result.history.items }
+    ensures carried { CarriesAll result.script result.history.items }
 
     // Counts of faults never fall.
     ensures source_later { S.faults script.old ≤ S.faults script.new }

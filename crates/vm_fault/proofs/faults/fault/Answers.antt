@@ -2,6 +2,7 @@ use Rattle.std.proofs.Common.{◌≡◌, ◌∙◌, true, false, sym, subst, rul
 use Rattle.vm_fault.specs.Faults.{CanFault, FaultState, Runs, Stops, goes_on, want_after}
 use Rattle.vm_fault.specs.Rooms.{HasRoom}
 use Rattle.vm_fault.proofs.Pages.{can_then, room_then, runs_then}
+use Rattle.vm_fault.proofs.Taking.{takes_then}
 use Rattle.vm_waits.specs.declared.waiting.Want.{Want}
 use Rattle.vm_fault.proofs.faults.fault.Goals as goal
 
@@ -34,6 +35,11 @@ pages-preserved c =
       runs = λ answer last end rest. c.pages.invariant.runs answer last end
           (runs_then maps host task claim step want now mid faulted more answer last end (subst (λ (z : Want). Runs maps host task claim answer z last mid end) left rest));
       still = λ none. c.in_ok-step.ensures.still none ∙ c.pages.invariant.still none;
-      room = λ has. subst (λ (z : Want). HasRoom maps task.0 z mid.parts mid.chains c.once.new.log.room) (sym left)
-          (room_then maps host task claim step want now mid c.pages.log.room c.once.new.log.room can faulted more c.in_ok-step.ensures.room (c.pages.invariant.room has));
+      takes = takes_then _ now mid _ c.pages.log.room c.once.new.log.room c.pages.invariant.takes c.in_ok-step.ensures.takes;
+      room = λ has. subst (λ (z : Want). HasRoom z mid.parts mid.chains mid.ids c.once.new.log.room) (sym left)
+          (room_then maps host task claim step want now mid c.pages.log.room c.once.new.log.room faulted more c.in_ok-step.ensures.takes (c.pages.invariant.room has));
     }
+
+pub returns-then-not-goes_on-clause-takes : goal.returns-then-not-goes_on-clause-takes
+returns-then-not-goes_on-clause-takes c =
+    takes_then _ (record { parts = c.pages.parts; chains = c.pages.chains; ids = c.pages.ids; events = c.pages.log.items }) _ _ c.pages.log.room c.once.new.log.room c.pages.invariant.takes c.in_ok-step.ensures.takes

@@ -1,6 +1,6 @@
 use Rattle.std.proofs.Common.{◌≡◌, false}
 use Rattle.vm_fault.specs.Faults.{CanFault, FaultState, Runs}
-use Rattle.vm_fault.specs.Rooms.{HasRoom, pages_left}
+use Rattle.vm_fault.specs.Rooms.{HasRoom, TakesRoom, pages_left}
 use Rattle.vm_fault.specs.declared.step.FaultStep.{FaultStep}
 use Rattle.vm_frames.specs.Frames.{free}
 use Rattle.vm_waits.specs.declared.waiting.Want.{Want}
@@ -13,7 +13,8 @@ invariant-pages l = record {
       → Runs l.maps l.host l.task l.may_claim answer l.want last (record { parts = l.parts; chains = l.chains; ids = l.ids; events = l.log.items }) end
       → Runs l.maps l.host l.task l.may_claim answer l.fn.want last (record { parts = l.fn.parts; chains = l.fn.chains; ids = l.fn.ids; events = l.fn.log.items }) end;
   still : l.may_claim ≡ false → free l.parts.frames ≡ free l.fn.parts.frames;
-  room : HasRoom l.maps l.task.0 l.fn.want l.fn.parts l.fn.chains l.fn.log.room → HasRoom l.maps l.task.0 l.want l.parts l.chains l.log.room;
+  takes : TakesRoom (record { parts = l.fn.parts; chains = l.fn.chains; ids = l.fn.ids; events = l.fn.log.items }) (record { parts = l.parts; chains = l.chains; ids = l.ids; events = l.log.items }) l.fn.log.room l.log.room;
+  room : HasRoom l.fn.want l.fn.parts l.fn.chains l.fn.ids l.fn.log.room → HasRoom l.want l.parts l.chains l.ids l.log.room;
 }
 
 abbrev pub decreases-pages : goal.decreases-pages

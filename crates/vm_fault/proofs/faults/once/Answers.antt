@@ -12,6 +12,7 @@ use Rattle.vm_fault.proofs.Runs.{IsTop, WasPrepared, all_faulted, can_go, copies
 use Rattle.vm_maps.specs.declared.place.Place.{Place}
 use Rattle.vm_model.specs.declared.event.Event.{Event}
 use Rattle.vm_waits.specs.Wants.{IsSizedWant, address_in}
+use Rattle.vm_fault.proofs.Taking.{all_taken}
 use Rattle.vm_fault.proofs.faults.once.Goals as goal
 
 pub go-requires-clause-can : goal.go-requires-clause-can
@@ -54,3 +55,10 @@ returns-clause-faulted c =
     let sizes = ap (λ (z : BufferStore). z.size) ready.buffers in
     let at = offset_is c.offset_of.result address c.size.result c.size-2.result mid.parts.buffers.size want c.offset_of.ensures.value c.address_of-address.ensures (c.size.ensures ∙ sym sizes) c.size-2.ensures in
     all_faulted maps run place c.go.result s mid c.go.new.parts c.go.new.log.items can led was c.top_of-top.ensures.key at c.go.ensures.goes c.go.ensures.plan
+
+pub returns-clause-takes : goal.returns-clause-takes
+returns-clause-takes c =
+    let old : FaultState = record { parts = c.args.parts.now; chains = c.args.chains.now; ids = c.args.ids.now; events = c.args.log.now.items } in
+    let mid : FaultState = record { parts = c.prepare.new.parts; chains = c.prepare.new.chains; ids = c.prepare.new.ids; events = c.prepare.new.log.items } in
+    all_taken c.go.result old mid c.reserve.new.self.items c.go.new.parts c.go.new.log.items c.args.log.now.room c.reserve.new.self.room c.prepare.new.log.room c.go.new.log.room c.in_ok-reserve.ensures.same c.in_ok-reserve.ensures.kept
+    c.in_ok-prepare.ensures.takes c.go.ensures.plan c.go.ensures.takes

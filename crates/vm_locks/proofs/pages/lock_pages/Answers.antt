@@ -16,7 +16,10 @@ pages-init g c =
       left = left_at_first c.args.object.0 c.args.request.page.0 c.args.parts.now c.requires.fit;
       room = c.requires.room;
       log = omega arith;
+      told = omega arith;
       buffers = omega arith;
+      spare = omega arith;
+      rows = omega arith;
       obey = λ end more. more;
     }
 
@@ -66,7 +69,10 @@ pages-preserved g c =
             left = left_less c.args.object.0 from page.0 row has.now c.pages.parts w.lock_page.new.parts kept.fit low found has.row kept.left;
             room = omega (arith, kept.room, less, has.room);
             log = omega (arith, kept.log, less, w.in_ok-lock_page.ensures.log);
+            told = omega (arith, kept.told, less, has.told);
             buffers = omega (arith, kept.buffers, less, w.in_ok-lock_page.ensures.buffers);
+            spare = omega (arith, kept.spare, w.in_ok-lock_page.ensures.spare);
+            rows = omega (arith, kept.rows, w.in_ok-lock_page.ensures.rows);
             obey = λ end more. kept.obey end (one_more c.args.host c.args.object c.args.known.control c.args.request from page row now mid end next w.if-row.true obeys more);
           }
       | else-row w ↦ rw (w.parts-is, w.laundry-is, w.log-is) record {
@@ -77,7 +83,16 @@ pages-preserved g c =
         left = left_behind c.args.object.0 from page.0 c.pages.parts low kept.left;
         room = kept.room;
         log = kept.log;
+        told = kept.told;
         buffers = kept.buffers;
+        spare = kept.spare;
+        rows = kept.rows;
         obey = λ end more. kept.obey end (one_asked c.args.host c.args.object c.args.known.control c.args.request from page row now end next w.if-row.false more);
       }
     ]
+
+pub returns-then-page-request-clause-told : goal.returns-then-page-request-clause-told
+returns-then-page-request-clause-told g c = let kept = c.pages.invariant in omega (arith, kept.told)
+
+pub returns-clause-told : goal.returns-clause-told
+returns-clause-told g c = let kept = c.pages.invariant in omega (arith, kept.told)

@@ -16,7 +16,8 @@ returns-in_default-message_act-2 c =
       spare = omega arith;
       buffers = refl;
       err = tt;
-      succeeds = λ room. refl;
+      succeeds = λ room marks. refl;
+      rooms = (omega arith, omega arith);
     }
 
 pub returns-in-PutUnlocked-clause-answered : goal.returns-in-PutUnlocked-clause-answered
@@ -37,14 +38,14 @@ returns-in-PutLocked-clause-answered c =
     subst (λ (o : AnswerOutcome). AnswerEffects c.args.host c.args.object o c.supply-in-PutLocked.result c.args.parts.now c.supply-in-PutLocked.new.parts c.args.log.now.items c.args.log.now.items) (sym is)
     (c.supply-in-PutLocked.ensures.answered c.args.host c.in-Supply.lock c.args.log.now.items c.lock_of-locked.ensures)
 
-pub returns-in-Temp-clause-answered : goal.returns-in-Temp-clause-answered
-returns-in-Temp-clause-answered c =
+pub returns-in_ok-lack-in-Temp-clause-answered : goal.returns-in_ok-lack-in-Temp-clause-answered
+returns-in_ok-lack-in-Temp-clause-answered c =
     let at = looked c.args.parts.now c.args.object c.args.control c.in-Unavailable.page c.in-Some.known c.state_of-state-in-Unavailable.result c.find.result c.get-row-in-Unavailable.result
     c.find.ensures c.in-Some.is c.get-row-in-Unavailable.ensures c.state_of-state-in-Unavailable.ensures in
     let is = unavailable c.args.parts.now c.args.object c.args.control c.in-Unavailable.page c.in-Some.known c.state_of-state-in-Unavailable.result c.args.message.now c.message_act-in-Unavailable.result
     at c.in-Unavailable.is c.message_act-in-Unavailable.ensures c.in-NoteAbsent.is ∙ ap (λ k. unavailable_outcome k c.in-Unavailable.page) c.in-Temp.is in
-    subst (λ (o : AnswerOutcome). AnswerEffects c.args.host c.args.object o c.lack.result c.args.parts.now c.lack.new.parts c.args.log.now.items c.args.log.now.items) (sym is)
-    (c.lack.ensures.answered c.args.host c.args.log.now.items)
+    subst (λ (o : AnswerOutcome). AnswerEffects c.args.host c.args.object o c.in_ok-lack-in-Temp.field-0 c.args.parts.now c.lack.new.parts c.args.log.now.items c.args.log.now.items) (sym is)
+    (c.in_ok-lack-in-Temp.ensures.answered c.args.host c.args.log.now.items)
 
 pub returns-in-Fail-clause-answered : goal.returns-in-Fail-clause-answered
 returns-in-Fail-clause-answered c =

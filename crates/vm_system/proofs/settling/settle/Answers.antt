@@ -1,8 +1,8 @@
-use Rattle.vm_system.proofs.Common.{EventLimit, GrowsWithinLimit, NoMemory, State, StaysOpen, SystemStands, ap, arith, armed_later_more, subst, sym, takings, ◌∙◌, ◌≡◌}
+use Rattle.vm_system.proofs.Common.{Event, EventLimit, GrowsWithinLimit, List, Prompt, State, StaysOpen, SystemStands, ap, arith, armed_later_more, subst, sym, takings, ◌∙◌, ◌≡◌}
 use Rattle.vm_model.specs.declared.event.Device.TheVariants as device
 use Rattle.vm_system.proofs.Growth.{grew_more}
 use Rattle.vm_system.proofs.Resting.{left_at_rest}
-use Rattle.vm_system.proofs.Settled.{counted_more, cut_more, grew_stop, other_err, stays_more}
+use Rattle.vm_system.proofs.Settled.{by_stop, counted_more, grew_stop, other_err, stays_more}
 use Rattle.vm_system.specs.Resting.{LeavesAtRest}
 use Rattle.vm_system.proofs.settling.settle.Goals as goal
 
@@ -12,11 +12,21 @@ returns-in-Ok-false-clause-legal g c =
     subst (λ (z : State). StaysOpen g.given.header g.given.outside g.given.command c.args.system.now.history.items z.history.items) (sym same) c.all.invariant.legal
 
 pub returns-in-Err-clause-stood : goal.returns-in-Err-clause-stood
-returns-in-Err-clause-stood g c = λ full.
-    let same = (c.in-Err.ensures.unchanged (other_err c.in-Err.stop EventLimit full)).0 in
+returns-in-Err-clause-stood g c =
+    let header = g.given.header in
+    let outside = g.given.outside in
     let first = c.args.system.now.history.items in
-    subst (λ (z : State). SystemStands g.given.header g.given.outside z × StaysOpen g.given.header g.given.outside g.given.command first z.history.items × LeavesAtRest g.given.header first z.history.items) (sym same)
-    (c.all.invariant.stands, c.all.invariant.legal, left_at_rest g.given.header g.given.outside first c.all.system c.all.invariant.stands c.all.invariant.prompt)
+    let before = c.all.invariant in
+    let new = c.take_oldest.new.self in
+    by_stop c.in-Err.stop c.take_oldest.result _ c.in-Err.is
+    (λ full.
+    let same = (c.take_oldest.ensures.unchanged full).0 in
+    subst (λ (z : State). SystemStands header outside z × StaysOpen header outside g.given.command first z.history.items × LeavesAtRest header first z.history.items) (sym same)
+    (before.stands, before.legal, left_at_rest header outside first c.all.system before.stands before.prompt))
+    (λ none.
+    let refused = c.take_oldest.ensures.refused none in
+    let same = refused.1.0 in
+    (refused.0, subst (λ (z : List Event). StaysOpen header outside g.given.command first z) (sym same) before.legal, left_at_rest header outside first new refused.0 (λ prompt. subst (λ (z : List Event). Prompt header z) (sym same) (before.prompt prompt))))
 
 pub returns-in-Ok-false-clause-rests : goal.returns-in-Ok-false-clause-rests
 returns-in-Ok-false-clause-rests g c =
@@ -25,9 +35,6 @@ returns-in-Ok-false-clause-rests g c =
 
 pub returns-clause-rests : goal.returns-clause-rests
 returns-clause-rests g c = left_at_rest g.given.header g.given.outside c.args.system.now.history.items c.all.system c.all.invariant.stands c.all.invariant.prompt
-
-pub returns-in-Err-clause-memory : goal.returns-in-Err-clause-memory
-returns-in-Err-clause-memory g c = λ none. cut_more g.given.header g.given.outside g.given.command c.args.system.now.history.items c.all.system.history.items _ c.all.invariant.legal (c.in-Err.ensures.memory (other_err c.in-Err.stop NoMemory none))
 
 pub returns-in-Err-clause-later : goal.returns-in-Err-clause-later
 returns-in-Err-clause-later g c =

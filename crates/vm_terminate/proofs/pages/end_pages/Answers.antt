@@ -27,6 +27,14 @@ returns-in_err-end_page-clause-succeeds g c = λ log buffers.
     let bad : false ≡ true = c.in_err-end_page.ensures.succeeds (omega (arith, kept.log, some, log)) (omega (arith, kept.buffers, some, buffers)) in
     absurd (cc)
 
+pub returns-in_err-end_page-clause-dropped : goal.returns-in_err-end_page-clause-dropped
+returns-in_err-end_page-clause-dropped g c = λ temporary log.
+    let kept = c.pages.invariant in
+    let row = row_there _ c.in-Some.ensures.there in
+    let some = some_here c.pages.parts c.args.object.0 c.in-Some.page.0 row.0 kept.fit row.1 (kept.here c.in-Some.page.0 row.0 row.1) in
+    let bad : false ≡ true = c.in_err-end_page.ensures.dropped temporary (omega (arith, kept.log, some, log)) in
+    absurd (cc)
+
 pub pages-preserved : goal.pages-preserved
 pages-preserved g c =
     let kept = c.pages.invariant in
@@ -45,6 +53,10 @@ pages-preserved g c =
       size = c.in_ok-end_page.ensures.size ∙ kept.size;
       log = omega (arith, kept.log, gone.lists, c.in_ok-end_page.ensures.log);
       buffers = omega (arith, kept.buffers, gone.lists, c.in_ok-end_page.ensures.buffers);
+      saved = λ temporary. let before = kept.saved temporary in let more = c.in_ok-end_page.ensures.saved temporary in omega (arith, before, more);
+      spare = omega (arith, kept.spare, c.in_ok-end_page.ensures.spare);
+      rows = omega (arith, kept.rows, c.in_ok-end_page.ensures.rows);
+      fewer = omega (arith, kept.fewer, gone.lists);
       leave = λ chains end more. kept.leave chains end (one_more c.args.host c.args.object c.args.known c.pages.from.0 c.in-Some.page row.0 (old chains) (new chains) end c.in-Some.ensures row.1 here refl (leaves chains) more);
     }
 

@@ -2,13 +2,11 @@ use Rattle.std.proofs.Common.{◌≡◌, ◌∙◌, inl, inr, true, refl, subst,
 use Rattle.std.specs.Io.KnownBytes.{Appends}
 use Rattle.vm_model.specs.Text.{text}
 use Rattle.vm_outside.specs.Causes.{sum_count}
-use Rattle.vm_legal.specs.Undelivered.{undelivered}
 use Rattle.vm_top.specs.Run.{text_so_far}
 use Rattle.vm_system.specs.Steps.{DevicesHaveCause}
 use Rattle.vm_top.specs.Running.{FaultCounts, RunStops, counted}
 use Rattle.vm_top.specs.Writing.{WroteBeyond, oldest_items}
 use Rattle.vm_top.specs.declared.run.RunEnd.TheVariants as ends
-use Rattle.vm_system.proofs.Settled.{below_of}
 use Rattle.vm_top.proofs.Arms.{of_both}
 use Rattle.vm_top.proofs.Settling.{Took, counts_same, held, held_stops, settles_on, stops_same, take_full, take_stops}
 use Rattle.vm_top.proofs.Turns.{same_end, step_ends, step_wrote}
@@ -132,9 +130,9 @@ returns-in-Err-clause-stops g c = λ end is.
       | inr none ↦
           let err : c.take_oldest.result ≡ Err c.in-Err.stop = c.in-Err.is in
           subst (RunStops c.args.report g.given.running new written c.take_oldest.new.files c.take_oldest.new.paging e1) (sym none.1)
-          (take_stops c.args.report g.given old new written c.args.files.now c.take_oldest.new.files c.args.paging.now c.take_oldest.new.paging e0 e1
-          c.requires.1.1.1.1.1.1.1.0 all.grew (below_of c.take_oldest.result (undelivered old) (length old) all.calm all.full.1 (err ∙ ap Err none.0)) (all.memory (err ∙ ap Err none.0))
-          (record { later = all.files_later.1; stops = all.files_stops (err ∙ ap Err none.0) }) (record { later = all.later.1; stops = all.stops (err ∙ ap Err none.0) })
+          (let refused = all.refused (err ∙ ap Err none.0) in
+          take_stops c.args.report g.given old new written c.args.files.now c.take_oldest.new.files c.args.paging.now c.take_oldest.new.paging e0 e1
+          c.requires.1.1.1.1.1.1.1.0 all.grew refused.1.0 refused.1.1.0 refused.1.1.1
           (of_both (λ who. DevicesHaveCause who (counted who e0) (counted who e1) old new) all.files_devices all.devices))
     ] in
     stop

@@ -8,7 +8,7 @@ use Rattle.vm_system.specs.Steps.{DevicesHaveCause}
 use Rattle.vm_top.specs.Running.{FaultCounts, RunStops, counted}
 use Rattle.vm_top.specs.Writing.{WroteBeyond, oldest_items}
 use Rattle.vm_top.proofs.Arms.{of_both}
-use Rattle.vm_top.proofs.Turns.{Halted, Stepped, made, same_end, shown_stops, step_ends, step_stops, step_wrote, turned}
+use Rattle.vm_top.proofs.Turns.{Stepped, made, same_end, shown_stops, step_ends, step_stops, step_wrote, turned}
 use Rattle.vm_top.proofs.Writings.{oldest_before}
 use Rattle.vm_top.proofs.run.turn.Goals as goal
 
@@ -21,16 +21,13 @@ returns-in-Err-clause-stops g c = λ end is.
     let step = c.step.ensures in
     let below : length old < most_events = c.requires.1.1.1.1.1.1.1.1.0 in
     let same : c.end_of.result ≡ end = same_end is in
-    let halted : Halted g.given.script.header c.args.numbered.now old new c.args.files.now c.step.new.files c.args.paging.now c.step.new.paging = record {
-      files = record { later = λ none. (step.files_later none).1; calm = λ none. let same = c.in-Err.ensures.calm none in (same.0, same.1); stops = c.in-Err.ensures.files_stops };
-      paging = record { later = λ none. (step.later none).1; calm = λ none. let same = c.in-Err.ensures.calm none in (same.0, same.2); stops = c.in-Err.ensures.stops };
-    } in
     let stop : RunStops c.args.report g.given new (g.K.Sink.written c.args.out.now) c.step.new.files c.step.new.paging e1 end = elim (step_ends c.in-Err.stop c.end_of.result end c.end_of.ensures.full c.end_of.ensures.none same) [
       | inl full ↦ let over : most_events ≤ length old = step.full.0 (c.in-Err.is ∙ ap Err full.0) in absurd (omega arith)
       | inr none ↦
           subst (RunStops c.args.report g.given new (g.K.Sink.written c.args.out.now) c.step.new.files c.step.new.paging e1) (sym none.1)
-          (step_stops c.args.report g.given c.args.numbered.now old new (g.K.Sink.written c.args.out.now) c.args.files.now c.step.new.files c.args.paging.now c.step.new.paging e0 e1
-          c.requires.1.1.1.1.1.1.1.1.1.0 c.requires.1.1.1.1.1.1.1.1.1.1 step.grew below (step.memory (c.in-Err.is ∙ ap Err none.0)) halted (of_both (λ who. DevicesHaveCause who (counted who e0) (counted who e1) old new) step.files_devices step.devices))
+          (let refused = step.refused (c.in-Err.is ∙ ap Err none.0) in
+          step_stops c.args.report g.given old new (g.K.Sink.written c.args.out.now) c.args.files.now c.step.new.files c.args.paging.now c.step.new.paging e0 e1
+          c.requires.1.1.1.1.1.1.1.1.1.0 step.grew refused.1.0 refused.1.1.0 refused.1.1.1 (of_both (λ who. DevicesHaveCause who (counted who e0) (counted who e1) old new) step.files_devices step.devices))
     ] in
     stop
 

@@ -8,6 +8,7 @@ use Rattle.vm_base.specs.declared.ids.ObjectId.{ObjectId}
 use Rattle.vm_base.specs.declared.ids.PageKey.{PageKey}
 use Rattle.vm_model.specs.declared.event.Event.{Event}
 use Rattle.sms_server.proofs.Answering.{by_key_set, most_of_row, one_answer, whole_at, whole_set}
+use Rattle.sms_server.proofs.Most.{told_of_row}
 use Rattle.sms_server.proofs.Words.{row_whole, row_words}
 use Rattle.sms_server.specs.Answers.{AreServerWords, ReturnsWhole, row_events}
 use Rattle.sms_server.specs.Table.{ServerTable, most_events}
@@ -155,3 +156,26 @@ returns-clause-few c =
     let most = most_of_row c.args.self.now table rows i x c.prepare_page.ensures.same seen c.self.invariant.by_key is in
     let own = ap (λ (k : PageKey). k.object.0) key_is in
     subst (λ (o : ℕ). length c.answer.new.events.items ≤ most_events o c.args.self.now) own (omega (arith, few, none, most))
+
+pub returns-clause-few_told : goal.returns-clause-few_told
+returns-clause-few_told c =
+    let rows = c.self.inside.rows.items in
+    let i = c.in_ok-i.i in
+    let table = c.prepare_page.new.self in
+    let at = c.in_ok-i.ensures.at in
+    let seen : table.rows ≡ rows = ap (λ (t : ServerTable). t.rows) (sym c.self.view_is) in
+    let x = c.index_mut.result.now in
+    let stands : slice_get rows i ≡ Some at.row = ap (λ (l : List PageRow). slice_get l i) (sym seen) ∙ at.at in
+    let same : at.row ≡ x = sym (c.index_mut.ensures.value ∙ get_or_from_slice_get rows i at.row x stands) in
+    let is : slice_get rows i ≡ Some x = stands ∙ ap Some same in
+    let whole = whole_at c.self.inside.size i x rows c.self.invariant.whole is in
+    let sized : c.self.inside.size ≡ table.size = ap (λ (t : ServerTable). t.size) c.self.view_is in
+    let size_same : c.args.self.now.size ≡ c.self.inside.size = sym c.prepare_page.ensures.same.size ∙ sym sized in
+    let y = c.answer.new.self in
+    let told : c.answer.new.events.items ≡ row_events c.args.host.0 c.args.message.now x = c.answer.ensures.events ∙ (ap (λ (l : Listed Event). row_events c.args.host.0 c.args.message.now x ++ l.items) c.replace-events.ensures.value ∙ (ap (λ (es : List Event). row_events c.args.host.0 c.args.message.now x ++ es) c.self.invariant.none ∙ append-nil (row_events c.args.host.0 c.args.message.now x))) in
+    let key_is : x.key ≡ record { object = c.args.object; page = c.args.page } = ap (λ (z : PageRow). z.key) (sym same) ∙ at.key_is in
+    let few = c.answer.ensures.few in
+    let none = ap (λ (l : Listed Event). length l.items) c.replace-events.ensures.value ∙ ap length c.self.invariant.none in
+    let told_most = told_of_row c.args.object.0 c.args.page.0 c.args.message.now rows i x table c.args.self.now c.requires.about c.requires.one (ap (λ (k : PageKey). k.object.0) key_is) (ap (λ (k : PageKey). k.page.0) key_is) seen c.self.invariant.by_key is
+    (c.prepare_page.ensures.same.pages c.args.object.0 c.args.page.0).directory.line in
+    omega (arith, few, none, told_most)

@@ -1,12 +1,4 @@
-use Rattle.vm_hosts.proofs.Common.{length, ◌≡◌}
-use Rattle.vm_hosts.proofs.Serving.{Serving}
 use Rattle.vm_hosts.proofs.hosts.Hosts.serve.Given as goal
 
-abbrev pub ghost-serve : goal.ghost-serve
-ghost-serve g a = record { header = g.given.header; host = a.self.now.host.0; outside = g.given.outside; past = g.given.past; command = g.given.command }
-
-abbrev pub invariant-hosts : goal.invariant-hosts
-invariant-hosts g l = record {
-  serving : Serving g.given.header g.given.outside g.given.command g.given.past l.fn.log.items l.host (record { kernels = l.self-inside.kernels.items; ids = l.self-inside.ids }) l.log.items;
-  same : length l.self-inside.kernels.items ≡ length l.initial.self-inside.kernels.items;
-}
+abbrev pub ghost-serve_all : goal.ghost-serve_all
+ghost-serve_all g a = g.given

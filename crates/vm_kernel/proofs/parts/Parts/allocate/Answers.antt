@@ -1,4 +1,4 @@
-use Rattle.vm_kernel.proofs.Common.{ap, entering, got, refl, whole_entry, ◌/◌, ◌∙◌, ◌∷◌}
+use Rattle.vm_kernel.proofs.Common.{HostParts, WaitTable, ap, arith, entering, false, frame_count, got, length, refl, true, whole_entry, ◌/◌, ◌∙◌, ◌∷◌, ◌≡◌}
 use Rattle.vm_kernel.proofs.Playing.{lists_same, plays_both, plays_told}
 use Rattle.vm_kernel.proofs.Growing.{on_ok}
 use Rattle.vm_kernel.proofs.Ranges.{ran_range, changes_entered}
@@ -11,13 +11,40 @@ returns-clause-ran g c =
     on_ok c.push-2.result _ _
     (λ told.
     ran_range g.given.header g.given.host g.given.outside c.args.task c.args.address c.args.bytes _ g.given.past c.args.self.now c.make_range.new.self c.args.ids.now c.args.log.now.items _ c.enter.new.self c.requires
-    (ap (λ z. c.args.bytes / z) (c.from.ensures ∙ c.bytes.ensures.value)) c.in_ok-make_range.ensures changes
+    (ap (λ z. c.args.bytes / z) (c.from.ensures ∙ c.bytes.ensures.value)) c.in_ok-make_range.ensures.made changes
     (told ∙ (ap (λ z. z ∷ c.push.new.self.items) (c.entered.ensures ∙ ap (got c.args.task) entry) ∙ ap (λ z. got c.args.task (whole_entry c.args.address c.args.bytes (record { 0 = c.args.ids.now.next_region })) ∷ z) c.in_ok-push.ensures.ok)))
     c.push-2.ensures.ok
 
 pub returns-clause-plays : goal.returns-clause-plays
 returns-clause-plays g c =
-    let made = c.in_ok-make_range.ensures in
+    let made = c.in_ok-make_range.ensures.made in
     on_ok c.push-2.result _ _
     (λ told. plays_both (plays_told c.in_ok-push.ensures.ok refl) (plays_told (told ∙ ap (λ z. z ∷ c.push.new.self.items) c.entered.ensures) (lists_same c.args.self.now c.make_range.new.self (ap (λ z. z.resident) made.memory) (ap (λ z. z.queues) made.memory))))
     c.push-2.ensures.ok
+
+pub returns-clause-spends : goal.returns-clause-spends
+returns-clause-spends g c =
+    let made = c.in_ok-make_range.ensures.made in
+    let waits = ap (λ (z : WaitTable). length z.rows) made.waits in
+    let frames = ap (λ (z : HostParts). frame_count z.frames) made.memory in
+    let rows = ap (λ (z : HostParts). z.resident.spare) made.memory in
+    let first = ap length c.in_ok-push.ensures.ok in
+    on_ok c.push-2.result _ _
+    (λ told. let second = ap length told in record {
+      told = omega (arith, first, second, waits, frames);
+      room = omega (arith, c.push.ensures.room, c.push-2.ensures.room, waits, frames);
+      rows = omega (arith, rows, waits, frames);
+      shadows = omega (arith, c.make_range.ensures.shadows);
+      objects = omega (arith, c.make_range.ensures.objects);
+      marks = omega (arith, c.make_range.ensures.shadows);
+    })
+    c.push-2.ensures.ok
+
+pub returns-in_err-make_range-clause-succeeds : goal.returns-in_err-make_range-clause-succeeds
+returns-in_err-make_range-clause-succeeds g c = λ roomy. absurd (let bad : false ≡ true = c.in_err-make_range.ensures.succeeds (omega (arith, roomy.objects)) (omega (arith, roomy.shadows)) in cc)
+
+pub returns-in_err-push-clause-succeeds : goal.returns-in_err-push-clause-succeeds
+returns-in_err-push-clause-succeeds g c = λ roomy. absurd (let bad : false ≡ true = c.in_err-push.ensures.succeeds (omega (arith, roomy.log)) in cc)
+
+pub returns-clause-succeeds : goal.returns-clause-succeeds
+returns-clause-succeeds g c = λ roomy. c.push-2.ensures.succeeds (omega (arith, roomy.log, c.push.ensures.room))

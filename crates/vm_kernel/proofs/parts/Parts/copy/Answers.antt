@@ -1,10 +1,13 @@
-use Rattle.vm_kernel.proofs.Common.{Ran, Starts, TaskId, ap, refl, rows_in, subst, sym, ℕ, ◌<◌, ◌≤◌}
+use Rattle.vm_kernel.proofs.Common.{Ran, Starts, TaskId, ap, arith, length, refl, rows_in, subst, sym, ℕ, ◌<◌, ◌≤◌}
 use Rattle.vm_model.specs.declared.command.Command.TheVariants as command
 use Rattle.vm_kernel.proofs.Copies.{can_place, may_place, ran_copy}
 use Rattle.vm_kernel.proofs.CopyBegins.{copy_declared, copy_target_own, entered_quiet}
 use Rattle.vm_kernel.proofs.Growing.{on_ok}
 use Rattle.vm_kernel.proofs.Playing.{lists_same, plays_both, plays_told}
 use Rattle.vm_kernel.proofs.Turning.{restarts_quiet}
+use Rattle.vm_kernel.proofs.Composing.{begun_leaves, few_behind, few_ok, kept_ok, more_fewer, skip_fewer, up_to_front}
+use Rattle.vm_kernel.proofs.Departing.{roomy_fewer}
+use Rattle.vm_kernel.proofs.Spending.{never_err}
 use Rattle.vm_kernel.proofs.parts.Parts.copy.Goals as goal
 
 pub place-place-requires : goal.place-place-requires
@@ -43,17 +46,44 @@ returns-clause-ran g c =
     (λ entered.
     ran_copy g.given.header g.given.host g.given.outside c.args.task c.args.address c.args.bytes c.args.target c.args.to g.given.past c.args.self.now c.enter_copy.new.self c.args.ids.now c.enter_copy.new.ids c.args.log.now.items c.enter_copy.new.log.items c.place-place.result c.whole_entry-range.result c.requires
     c.place-place.ensures.place (subst (λ (z : ℕ). z ≤ c.place-place.result.region.0) c.len.ensures c.if-place-len.false) c.whole_entry-range.ensures entered)
-    c.enter_copy.ensures
+    c.enter_copy.ensures.enters
 
 pub returns-clause-plays : goal.returns-clause-plays
 returns-clause-plays g c =
     on_ok c.enter_copy.result _ _
     (λ entered. plays_both (plays_told refl refl) (plays_told entered.told (lists_same c.args.self.now c.enter_copy.new.self (ap (λ z. z.resident) entered.memory) (ap (λ z. z.queues) entered.memory))))
-    c.enter_copy.ensures
+    c.enter_copy.ensures.enters
 
 pub returns-clause-restarts : goal.returns-clause-restarts
 returns-clause-restarts g c =
     on_ok c.enter_copy.result _ _
     (λ entered.
     restarts_quiet g.given.header g.given.host c.enter_copy.new.self.waits.rows g.given.past c.args.self.now.waits.queue c.enter_copy.new.self.waits.queue c.args.log.now.items c.enter_copy.new.log.items c.requires.nothing (entered_quiet entered))
-    c.enter_copy.ensures
+    c.enter_copy.ensures.enters
+
+pub returns-then-place-len-clause-few : goal.returns-then-place-len-clause-few
+returns-then-place-len-clause-few g c = on_ok c.begin_copy.result _ _ (λ few. few_behind few (up_to_front c.args.self.now c.args.ids.now (length c.args.log.now.items) 5 (omega arith))) c.begin_copy.ensures.few
+
+pub returns-then-place-len-clause-room : goal.returns-then-place-len-clause-room
+returns-then-place-len-clause-room g c = λ more had access has skip.
+    let began = c.begin_copy.ensures.room more (more_fewer _ 5 more c.args.self.now c.args.ids.now _ had (omega arith)) access in
+    begun_leaves c.begin_copy.result more c.args.self.now c.begin_copy.new.self c.begin_copy.new.ids c.begin_copy.new.log.room began.0 c.begin_copy.ensures.spare has skip
+
+pub returns-then-place-len-clause-err : goal.returns-then-place-len-clause-err
+returns-then-place-len-clause-err g c = λ had access has skip. never_err c.begin_copy.result _ (c.begin_copy.ensures.room 0 (more_fewer _ 5 0 c.args.self.now c.args.ids.now _ had (omega arith)) access).1
+
+pub returns-then-place-len-clause-marks : goal.returns-then-place-len-clause-marks
+returns-then-place-len-clause-marks g c = on_ok c.begin_copy.result _ _ (λ marks. omega (arith, marks)) c.begin_copy.ensures.marks
+
+pub returns-clause-few : goal.returns-clause-few
+returns-clause-few g c = few_ok c.enter_copy.result c.args.self.now c.enter_copy.new.self c.args.ids.now c.enter_copy.new.ids c.args.log.now c.enter_copy.new.log 4 _ (omega arith) c.enter_copy.ensures.spends
+
+pub returns-clause-room : goal.returns-clause-room
+returns-clause-room g c = λ more had access has skip.
+    kept_ok c.enter_copy.result c.args.self.now c.enter_copy.new.self c.args.ids.now c.enter_copy.new.ids c.args.log.now c.enter_copy.new.log 4 more (omega arith) c.enter_copy.ensures.spends c.enter_copy.ensures.spare had has (skip_fewer c.args.self.now skip)
+
+pub returns-clause-err : goal.returns-clause-err
+returns-clause-err g c = λ had access has skip. never_err c.enter_copy.result _ (c.enter_copy.ensures.succeeds (roomy_fewer _ 4 c.args.self.now c.args.ids.now _ had.tables (omega arith)))
+
+pub returns-clause-marks : goal.returns-clause-marks
+returns-clause-marks g c = on_ok c.enter_copy.result _ _ (λ is. omega (arith, is.marks)) c.enter_copy.ensures.spends

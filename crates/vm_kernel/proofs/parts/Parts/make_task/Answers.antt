@@ -1,7 +1,8 @@
-use Rattle.vm_kernel.proofs.Common.{refl}
+use Rattle.vm_kernel.proofs.Common.{ap, arith, length, refl}
 use Rattle.vm_kernel.proofs.Playing.{plays_told}
 use Rattle.vm_kernel.proofs.Growing.{on_ok}
 use Rattle.vm_kernel.proofs.Making.{ran_task}
+use Rattle.vm_kernel.proofs.Spending.{never_err}
 use Rattle.vm_kernel.proofs.parts.Parts.make_task.Goals as goal
 
 pub returns-clause-ran : goal.returns-clause-ran
@@ -12,3 +13,19 @@ returns-clause-ran g c =
 
 pub returns-clause-plays : goal.returns-clause-plays
 returns-clause-plays g c = on_ok c.push.result _ _ (λ told. plays_told told refl) c.push.ensures.ok
+
+pub returns-clause-spends : goal.returns-clause-spends
+returns-clause-spends g c =
+    on_ok c.push.result _ _
+    (λ told. let one = ap length told in record {
+      told = omega (arith, one);
+      room = omega (arith, c.push.ensures.room);
+      rows = omega arith;
+      shadows = omega arith;
+      objects = omega arith;
+      marks = omega arith;
+    })
+    c.push.ensures.ok
+
+pub returns-clause-err : goal.returns-clause-err
+returns-clause-err g c = λ roomy. never_err c.push.result _ (c.push.ensures.succeeds (omega (arith, roomy.log)))

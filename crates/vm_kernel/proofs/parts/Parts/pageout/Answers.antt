@@ -1,7 +1,9 @@
-use Rattle.vm_kernel.proofs.Common.{Still, arith, first_in_queue, inl, rules, subst, ℕ, ◌≡◌}
+use Rattle.vm_kernel.proofs.Common.{Still, arith, false, first_in_queue, inl, refl, rules, subst, suc, true, zero, ℕ, ◌<◌, ◌≡◌}
 use Rattle.std.specs.Prelude.{◌++◌}
 use Rattle.vm_kernel.proofs.Pageout.{Reclaiming, first_source, paged_out, plays_first, ran_out, reclaiming_more, reclaiming_start, source_since, spares_one}
 use Rattle.vm_kernel.proofs.Playing.{plays_both}
+use Rattle.vm_kernel.proofs.Skipping.{Reclaimed, all_reclaimed, none_reclaimed, not_nothing, one_reclaimed, reclaimed_room, reclaimed_skip, reclaimed_spare, reclaimed_spends, same_frames}
+use Rattle.vm_parts.specs.Listed.{listed_pages}
 use Rattle.vm_kernel.proofs.Turning.{quiet_both, quiet_gone, quiet_none}
 use Rattle.vm_kernel.proofs.parts.Parts.pageout.Goals as goal
 
@@ -10,6 +12,7 @@ pages-init g c =
     record {
       reclaiming = reclaiming_start g.given.header g.given.host g.given.outside g.given.command c.args.count c.source-first.result g.given.past c.args.self.now c.args.ids.now c.args.log.now.items c.requires.0 c.requires.1 c.source-first.ensures.to_copy;
       plays = Still;
+      reclaimed = none_reclaimed c.args.self.now c.args.log.now;
       quiet = quiet_none c.args.self.now.waits.queue c.args.log.now.items;
     }
 
@@ -36,7 +39,15 @@ pub returns-in-Nothing : goal.returns-in-Nothing
 returns-in-Nothing g c =
     let was = c.pages.invariant in
     let all = c.in_ok-reclaim.ensures in
+    let same = all.nothing c.in-Nothing.is in
+    let frames = same_frames g.given.header g.given.host c.pages.self c.reclaim.new.self c.args.ids.now c.args.ids.now (c.pages.log.items ++ g.given.past) (c.reclaim.new.log.items ++ g.given.past) was.reclaiming.rests all.rests in
+    let reclaimed : Reclaimed c.pages.counter c.args.self.now c.reclaim.new.self c.args.log.now c.reclaim.new.log =
+    all_reclaimed c.in_ok-reclaim.field-0 c.pages.counter c.args.self.now c.pages.self c.reclaim.new.self c.args.log.now c.pages.log c.reclaim.new.log was.reclaimed all.leaves c.in-Nothing.is all.reclaimed.waits frames same.0 same.1 in
     record {
+      spends = reclaimed_spends c.pages.counter c.args.self.now c.reclaim.new.self c.args.ids.now c.args.log.now c.reclaim.new.log reclaimed;
+      succeeds = λ roomy enough long. refl;
+      spare = (reclaimed_spare c.pages.counter c.args.count c.args.self.now c.reclaim.new.self c.args.log.now c.reclaim.new.log reclaimed (omega arith), reclaimed.skip);
+      rows = (let accesses = reclaimed.accesses in omega (arith, accesses));
       ran =
           ran_out g.given.header g.given.host g.given.outside g.given.command c.args.count c.pages.counter c.source-first.result c.same_page-spared.result g.given.past c.pages.self c.reclaim.new.self c.args.ids.now c.in_ok-reclaim.field-0 c.pages.log.items c.reclaim.new.log.items was.reclaiming all.rests all.goes all.reclaims all.reclaimed c.in-Nothing.is
           (spares_one g.given.header g.given.host c.pages.self c.source-first.result c.source.result c.same_page-spared.result g.given.past (c.pages.log.items ++ g.given.past) was.reclaiming.was c.source.ensures.to_copy c.same_page-spared.ensures.same c.same_page-spared.ensures.apart).was;
@@ -50,7 +61,10 @@ pub pages-preserved : goal.pages-preserved
 pages-preserved g c =
     let was = c.pages.invariant in
     let all = c.in_ok-reclaim.ensures in
+    let frames = same_frames g.given.header g.given.host c.pages.self c.reclaim.new.self c.args.ids.now c.args.ids.now (c.pages.log.items ++ g.given.past) (c.reclaim.new.log.items ++ g.given.past) was.reclaiming.rests all.rests in
     record {
+      reclaimed =
+          one_reclaimed c.in_ok-reclaim.field-0 c.pages.counter c.args.self.now c.pages.self c.reclaim.new.self c.args.log.now c.pages.log c.reclaim.new.log was.reclaimed all.leaves (not_nothing c.in_ok-reclaim.field-0 c.in-Freed.is) all.reclaimed.waits frames all.few;
       reclaiming =
           reclaiming_more g.given.header g.given.host g.given.outside g.given.command c.args.count c.pages.counter c.source-first.result c.same_page-spared.result g.given.past c.pages.self c.reclaim.new.self c.args.ids.now c.in_ok-reclaim.field-0 c.pages.log.items c.reclaim.new.log.items was.reclaiming all.rests all.goes all.reclaims all.reclaimed c.in-Freed.is;
       plays = plays_both was.plays (plays_first was.quiet.queue all.plays);
@@ -67,3 +81,25 @@ returns-clause-ran g c =
 
 pub returns-clause-quiet : goal.returns-clause-quiet
 returns-clause-quiet g c = c.pages.invariant.quiet
+
+pub returns-clause-spends : goal.returns-clause-spends
+returns-clause-spends g c = reclaimed_spends c.pages.counter c.args.self.now c.pages.self c.args.ids.now c.args.log.now c.pages.log c.pages.invariant.reclaimed
+
+pub returns-clause-spare : goal.returns-clause-spare
+returns-clause-spare g c = (reclaimed_spare c.pages.counter c.args.count c.args.self.now c.pages.self c.args.log.now c.pages.log c.pages.invariant.reclaimed (omega arith), c.pages.invariant.reclaimed.skip)
+
+-- a reclaim fails for want of room alone
+pub returns-in_err-reclaim-clause-succeeds : goal.returns-in_err-reclaim-clause-succeeds
+returns-in_err-reclaim-clause-succeeds g c = λ roomy enough long.
+    let was = c.pages.invariant.reclaimed in
+    let buffers = reclaimed_spare c.pages.counter c.args.count c.args.self.now c.pages.self c.args.log.now c.pages.log was (omega arith) enough in
+    let skip = reclaimed_skip c.pages.counter c.args.self.now c.pages.self c.args.log.now c.pages.log was long in
+    absurd (may_fail (listed_pages c.pages.self.memory.queues) (λ none. c.in_err-reclaim.ensures.empty none skip)
+    (λ some. c.in_err-reclaim.ensures.room (reclaimed_room c.pages.counter c.args.self.now c.pages.self c.args.ids.now c.args.log.now c.pages.log was roomy some) buffers skip))
+  where
+    may_fail : (n : ℕ) → (n ≡ 0 → false ≡ true) → (0 < n → false ≡ true) → ⊥
+    may_fail zero none some = let bad : false ≡ true = none refl in cc
+    may_fail (suc n) none some = let bad : false ≡ true = some (omega arith) in cc
+
+pub returns-clause-rows : goal.returns-clause-rows
+returns-clause-rows g c = let accesses = c.pages.invariant.reclaimed.accesses in omega (arith, accesses)

@@ -1,6 +1,9 @@
-use Rattle.vm_kernel.proofs.Common.{PutsEntries, Still, arith, by_address, subst, sym, ℕ, ◌-◌, ◌∙◌}
+use Rattle.vm_kernel.proofs.Common.{PutsEntries, Still, arith, by_address, false, refl, subst, sym, true, ℕ, ◌-◌, ◌∙◌, ◌≡◌}
 use Rattle.vm_kernel.proofs.Ends.{ends_less, ends_still, some_left, sweeps_less, sweeps_next, sweeps_on}
 use Rattle.vm_kernel.proofs.Outgoing.{out_last, out_still}
+use Rattle.vm_kernel.proofs.Departing.{count_spends, roomy_on}
+use Rattle.vm_kernel.proofs.Spending.{spends_both}
+use Rattle.vm_kernel.proofs.Composing.{skip_kept}
 use Rattle.vm_kernel.proofs.parts.Parts.release.Goals as goal
 
 pub overflow_sub-count : goal.overflow_sub-count
@@ -22,7 +25,7 @@ end_region-requires g c =
     let now = c.args.self.now in
     let entry = c.at.result.now in
     let sweeps = sweeps_next g.given.header g.given.host g.given.outside g.given.command g.given.past now c.args.ids.now (by_address c.args.gone.now) g.given.rest c.args.i entry c.args.log.now.items c.at.ensures c.requires.1.0 c.requires.1.1 in
-    let put = subst (λ (z : ℕ). PutsEntries entry.region.0 (z - 1) now.chains c.set_count.new.chains) c.count_of-count.ensures c.set_count.ensures in
+    let put = subst (λ (z : ℕ). PutsEntries entry.region.0 (z - 1) now.chains c.set_count.new.chains) c.count_of-count.ensures c.set_count.ensures.puts in
     ends_less g.given.header g.given.host g.given.outside g.given.command g.given.past now c.args.ids.now entry g.given.rest c.args.log.now.items c.set_count.new.chains sweeps put (sym c.count_of-count.ensures ∙ c.if-count-eq1.true)
 
 pub returns-else-count-eq1-clause-sweeps : goal.returns-else-count-eq1-clause-sweeps
@@ -30,7 +33,7 @@ returns-else-count-eq1-clause-sweeps g c =
     let now = c.args.self.now in
     let entry = c.at.result.now in
     let sweeps = sweeps_next g.given.header g.given.host g.given.outside g.given.command g.given.past now c.args.ids.now (by_address c.args.gone.now) g.given.rest c.args.i entry c.args.log.now.items c.at.ensures c.requires.1.0 c.requires.1.1 in
-    let put = subst (λ (z : ℕ). PutsEntries entry.region.0 (z - 1) now.chains c.set_count.new.chains) c.count_of-count.ensures c.set_count.ensures in
+    let put = subst (λ (z : ℕ). PutsEntries entry.region.0 (z - 1) now.chains c.set_count.new.chains) c.count_of-count.ensures c.set_count.ensures.puts in
     sweeps_less g.given.header g.given.host g.given.outside g.given.command g.given.past now c.args.ids.now entry g.given.rest c.args.log.now.items c.set_count.new.chains sweeps put (λ one. c.if-count-eq1.false (c.count_of-count.ensures ∙ one))
 
 pub returns-else-count-eq1-clause-plays : goal.returns-else-count-eq1-clause-plays
@@ -55,3 +58,23 @@ returns-in_ok-end_region-clause-ends g c =
     let sweeps = sweeps_next g.given.header g.given.host g.given.outside g.given.command g.given.past now c.args.ids.now (by_address c.args.gone.now) g.given.rest c.args.i entry c.args.log.now.items c.at.ensures c.requires.1.0 c.requires.1.1 in
     out_last g.given.header g.given.host g.given.outside g.given.command g.given.past now c.args.ids.now (by_address c.args.gone.now) g.given.rest c.args.i entry c.args.log.now.items c.end_region.new.log.items c.at.ensures c.requires.1.0 sweeps (sym c.count_of-count.ensures ∙ c.if-count-eq1.true)
     c.in_ok-end_region.ensures.under
+
+pub returns-else-count-eq1-clause-spends : goal.returns-else-count-eq1-clause-spends
+returns-else-count-eq1-clause-spends g c = count_spends c.args.self.now c.args.ids.now c.set_count.new.chains c.args.log.now c.set_count.ensures.spare
+
+pub returns-in_ok-end_region-clause-spends : goal.returns-in_ok-end_region-clause-spends
+returns-in_ok-end_region-clause-spends g c =
+    spends_both c.args.self.now (record c.args.self.now { chains = c.set_count.new.chains }) c.end_region.new.self c.args.ids.now c.args.ids.now c.args.ids.now c.args.log.now c.args.log.now c.end_region.new.log _ _ _
+    (count_spends c.args.self.now c.args.ids.now c.set_count.new.chains c.args.log.now c.set_count.ensures.spare) c.in_ok-end_region.ensures.spends
+
+pub returns-in_err-end_region-clause-succeeds : goal.returns-in_err-end_region-clause-succeeds
+returns-in_err-end_region-clause-succeeds g c = λ room buffers.
+    let bad : false ≡ true = c.in_err-end_region.ensures.succeeds (roomy_on c.args.self.now (record c.args.self.now { chains = c.set_count.new.chains }) c.args.ids.now c.args.ids.now c.args.log.now c.args.log.now _ _
+    (count_spends c.args.self.now c.args.ids.now c.set_count.new.chains c.args.log.now c.set_count.ensures.spare) room) buffers in
+    absurd (cc)
+
+pub returns-else-count-eq1-clause-skip : goal.returns-else-count-eq1-clause-skip
+returns-else-count-eq1-clause-skip g c = skip_kept c.args.self.now (record c.args.self.now { chains = c.set_count.new.chains }) refl refl
+
+pub returns-in_ok-end_region-clause-skip : goal.returns-in_ok-end_region-clause-skip
+returns-in_ok-end_region-clause-skip g c = skip_kept c.args.self.now c.end_region.new.self c.in_ok-end_region.ensures.skip.skip c.in_ok-end_region.ensures.waits

@@ -1,4 +1,5 @@
-use Rattle.vm_kernel.proofs.Common.{Still, ap, inr, not, refl, sym, ◌++◌}
+use Rattle.vm_kernel.proofs.Common.{Still, ap, arith, false, inr, length, not, refl, sym, true, ◌++◌, ◌≡◌}
+use Rattle.vm_kernel.proofs.Affording.{few_both, keeps_both, keeps_none}
 use Rattle.vm_kernel.proofs.Finding.{first_done, first_more}
 use Rattle.vm_kernel.proofs.Growing.{goes_both, goes_none}
 use Rattle.vm_kernel.proofs.Playing.{plays_both}
@@ -13,6 +14,10 @@ again-init g c =
       goes = goes_none g.given.header g.given.host g.given.outside g.given.command g.given.past c.args.log.now.items;
       plays = Still;
       first = λ task next finds. inr (refl, refl);
+      room = λ more has. has;
+      spare = keeps_none c.args.self.now;
+      few = omega arith;
+      marks = omega arith;
       restarts = restarts_none g.given.header g.given.host g.given.past c.args.self.now.waits c.args.log.now.items;
     }
 
@@ -28,6 +33,10 @@ again-preserved g c =
           restarts_more g.given.header g.given.host g.given.past c.args.self.now.waits.queue c.in-Some.waiting _ (wants_frame c.in_ok-attempt.field-0) c.again.self.waits c.attempt.new.self.waits c.again.log.items c.attempt.new.log.items (was.restarts none)
           (record { order = was.works.order; oldest = sym c.in-Some.ensures.oldest; line = c.next_again.ensures.line; row = c.in-Some.ensures.row.0; again = c.in-Some.ensures.row.1; may = ap not c.has_queue-may_claim.ensures.queued }) run.once
           (wanting_of g.given.header g.given.host c.in-Some.waiting _ c.in_ok-attempt.field-0 c.again.self c.attempt.new.self c.attempt.new.ids (c.again.log.items ++ g.given.past) (c.attempt.new.log.items ++ g.given.past) run.works run.attempts);
+      room = λ more has. (run.room more (was.room more has)).1;
+      spare = keeps_both was.spare run.spare;
+      few = few_both (length c.args.log.now.items) (length c.again.log.items) (length c.attempt.new.log.items) _ _ _ was.few run.few;
+      marks = let less = was.marks in let more = run.marks in omega (arith, less, more);
       first = λ task next finds.
           first_more g.given.header g.given.host g.given.outside g.given.command g.given.past task c.args.self.now.waits.rows c.again.self.waits.rows c.attempt.new.self.waits.rows c.in-Some.waiting c.args.log.now.items c.again.log.items c.attempt.new.log.items
           (was.first task next finds) next finds c.in-Some.ensures.row.0 c.in-Some.ensures.row.1 run.goes run.ends;
@@ -38,3 +47,9 @@ returns-clause-first g c = λ task next finds. first_done task c.args.self.now.w
 
 pub returns-clause-restarts : goal.returns-clause-restarts
 returns-clause-restarts g c = λ none. let now = c.again.invariant.restarts none in (now.from, now.runs)
+
+pub returns-in_err-attempt-clause-room : goal.returns-in_err-attempt-clause-room
+returns-in_err-attempt-clause-room g c = λ more has. absurd (let bad : false ≡ true = (c.in_err-attempt.ensures.room more (c.again.invariant.room more has)).0 in cc)
+
+pub returns-clause-room : goal.returns-clause-room
+returns-clause-room g c = λ more has. (refl, c.again.invariant.room more has)

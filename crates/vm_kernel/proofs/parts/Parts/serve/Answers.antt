@@ -1,4 +1,6 @@
-use Rattle.vm_kernel.proofs.Common.{inr, true}
+use Rattle.vm_kernel.proofs.Common.{Parts, ap, arith, false, inr, length, queued, refl, true, ◌∙◌, ◌≡◌}
+use Rattle.std.specs.Prelude.{◌+◌}
+use Rattle.vm_kernel.proofs.Affording.{few_both, front_runs, marks_room, serve_spare}
 use Rattle.vm_kernel.proofs.Growing.{goes_both}
 use Rattle.vm_kernel.proofs.Served.{attempts_idle, rests_of}
 use Rattle.vm_kernel.proofs.Turning.{leaves_gone, leaves_of, leaves_ran, others_gone, others_ran}
@@ -37,6 +39,12 @@ serve-preserved-else-branch g c =
     others_ran g.given.header g.given.past c.args.self.now c.serve.self c.attempt.new.self c.in-Some.waiting true (wants_frame c.in_ok-source.field-0) c.args.self.now.waits.rows c.args.log.now.items c.serve.log.items c.attempt.new.log.items was c.in-Some.ensures.first
     c.in_ok-source.ensures.once c.serve.invariant.others in
     record {
+      few =
+          few_both (length c.args.log.now.items) (length c.attempt.new.log.items) (length c.stops.new.log.items) _ _ _
+          (few_both (length c.args.log.now.items) (length c.serve.log.items) (length c.attempt.new.log.items) _ _ _ c.serve.invariant.few c.in_ok-source.ensures.few) (c.in_ok-stops.ensures.few c.if-branch.false);
+      marks = let less = c.serve.invariant.marks in let more = c.in_ok-source.ensures.marks in omega (arith, less, more);
+      room = λ more had. ((c.in_ok-stops.ensures.room more (serve_spare (c.serve.invariant.room more had) c.in_ok-source.ensures.spare (c.in_ok-source.ensures.room (more + 2) (c.serve.invariant.room more had).has).1)).1).on c.if-branch.false;
+      idle = λ none. absurd (front_runs c.serve.self.waits.rows c.in-Some.waiting (ap (λ (z : Parts). queued z.waits.rows) (c.serve.invariant.idle none).0 ∙ none) c.in-Some.ensures.row.0 c.in-Some.ensures.row.1);
       rests = c.in_ok-stops.ensures.rests;
       goes =
           goes_both g.given.header g.given.host g.given.outside g.given.command g.given.past c.args.log.now.items c.attempt.new.log.items c.stops.new.log.items
@@ -53,6 +61,10 @@ pub serve-preserved : goal.serve-preserved
 serve-preserved g c =
     let was = leaves_of g.given.header g.given.past c.args.self.now c.serve.self c.args.log.now.items c.serve.log.items c.serve.invariant.serving c.front.ensures.line in
     record {
+      few = few_both (length c.args.log.now.items) (length c.serve.log.items) (length c.attempt.new.log.items) _ _ _ c.serve.invariant.few c.in_ok-source.ensures.few;
+      marks = let less = c.serve.invariant.marks in let more = c.in_ok-source.ensures.marks in omega (arith, less, more);
+      room = λ more had. let was_room = c.serve.invariant.room more had in serve_spare was_room c.in_ok-source.ensures.spare (c.in_ok-source.ensures.room (more + 2) was_room.has).1;
+      idle = λ none. absurd (front_runs c.serve.self.waits.rows c.in-Some.waiting (ap (λ (z : Parts). queued z.waits.rows) (c.serve.invariant.idle none).0 ∙ none) c.in-Some.ensures.row.0 c.in-Some.ensures.row.1);
       rests = rests_of _ g.given.host _ _ _ c.in_ok-source.ensures.works (attempts_idle _ g.given.host _ _ _ _ _ _ _ c.in_ok-source.ensures.attempts c.serve.invariant.rests.idle);
       goes = goes_both g.given.header g.given.host g.given.outside g.given.command g.given.past c.args.log.now.items c.serve.log.items c.attempt.new.log.items c.serve.invariant.goes c.in_ok-source.ensures.goes;
       others =
@@ -66,3 +78,26 @@ serve-preserved g c =
 
 pub returns-clause-leaves : goal.returns-clause-leaves
 returns-clause-leaves g c = leaves_of g.given.header g.given.past c.args.self.now c.serve.self c.args.log.now.items c.serve.log.items c.serve.invariant.serving c.front.ensures.line
+
+pub returns-in_err-stops-clause-room : goal.returns-in_err-stops-clause-room
+returns-in_err-stops-clause-room g c = λ more has some long.
+    let was = c.serve.invariant.room more (record { has = has; buffers = some; skip = long }) in
+    let next = serve_spare was c.in_ok-source.ensures.spare (c.in_ok-source.ensures.room (more + 2) was.has).1 in
+    absurd (let bad : false ≡ true = (c.in_err-stops.ensures.room more next).0 in cc)
+
+pub returns-then-branch-clause-room : goal.returns-then-branch-clause-room
+returns-then-branch-clause-room g c = λ more has some long.
+    let was = c.serve.invariant.room more (record { has = has; buffers = some; skip = long }) in
+    let next = serve_spare was c.in_ok-source.ensures.spare (c.in_ok-source.ensures.room (more + 2) was.has).1 in
+    (refl, (c.in_ok-stops.ensures.room more next).1.off c.if-branch.true)
+
+pub returns-clause-room : goal.returns-clause-room
+returns-clause-room g c = λ more has some long. (refl, marks_room (c.serve.invariant.room more (record { has = has; buffers = some; skip = long })))
+
+pub returns-then-branch-clause-few : goal.returns-then-branch-clause-few
+returns-then-branch-clause-few g c =
+    let was = c.serve.invariant.few in
+    let run = c.in_ok-source.ensures.few in
+    let less = c.in_ok-source.ensures.marks in
+    let two = c.in_ok-stops.ensures.two in
+    omega (arith, was, run, less, two)

@@ -2,20 +2,17 @@ use Rattle.std.proofs.Common.{refl, rules, arith}
 use Rattle.vm_objects.proofs.Kept.{changed, there, told}
 use Rattle.vm_objects.proofs.objects.Objects.begin_control.Goals as goal
 
-pub unwrap-requires : goal.unwrap-requires
-unwrap-requires c = let some = there _ _ _ _ _ c.self.view_is c.args.id.0 c.requires.there in search rules
+pub unwrap-row-requires : goal.unwrap-row-requires
+unwrap-row-requires c = let some = there _ _ _ _ _ c.self.view_is c.args.id.0 c.requires.there in search rules
 
 pub overflow_add-row : goal.overflow_add-row
-overflow_add-row c = let few = rw (told _ _ _ _ _ c.self.view_is _ _ _ c.get_mut.ensures.value c.unwrap.ensures) at c.requires.few in omega (arith, few)
+overflow_add-row c = let few = rw (told _ _ _ _ _ c.self.view_is _ _ _ c.get_mut.ensures.value c.unwrap-row.ensures) at c.requires.few in omega (arith, few)
 
 pub returns-clause-number : goal.returns-clause-number
-returns-clause-number c = rw (told _ _ _ _ _ c.self.view_is _ _ _ c.get_mut.ensures.value c.unwrap.ensures) refl
+returns-clause-number c = rw (told _ _ _ _ _ c.self.view_is _ _ _ c.get_mut.ensures.value c.unwrap-row.ensures) refl
 
 pub invariant_of-self : goal.invariant_of-self
-invariant_of-self c = (changed _ _ _ _ _ 0 0 _ _ _ _ _ c.self.view_is c.self.invariant c.get_mut.ensures.value c.unwrap.ensures refl (λ some. ((c.get_mut.follows.holds _).3 some).0)).kept
+invariant_of-self c = (changed _ _ _ _ _ c.self.view_is _ _ _ 0 0 _ _ _ _ c.self.invariant c.get_mut.ensures.value c.unwrap-row.ensures refl (λ some. ((c.get_mut.follows.holds _).3 some).0)).kept
 
 pub returns-clause-object : goal.returns-clause-object
-returns-clause-object c = rw (told _ _ _ _ _ c.self.view_is _ _ _ c.get_mut.ensures.value c.unwrap.ensures) (changed _ _ _ _ _ _ _ _ _ _ _ _ c.self.view_is c.self.invariant c.get_mut.ensures.value c.unwrap.ensures refl (λ some. ((c.get_mut.follows.holds _).3 some).0)).object
-
-pub returns-clause-marks : goal.returns-clause-marks
-returns-clause-marks c = (changed _ _ _ _ _ _ _ _ _ _ _ _ c.self.view_is c.self.invariant c.get_mut.ensures.value c.unwrap.ensures refl (λ some. ((c.get_mut.follows.holds _).3 some).0)).marks
+returns-clause-object c = rw (told _ _ _ _ _ c.self.view_is _ _ _ c.get_mut.ensures.value c.unwrap-row.ensures) (changed _ _ _ _ _ c.self.view_is _ _ _ _ _ _ _ _ _ c.self.invariant c.get_mut.ensures.value c.unwrap-row.ensures refl (λ some. ((c.get_mut.follows.holds _).3 some).0)).object

@@ -1,18 +1,25 @@
-use Rattle.std.proofs.Common.{◌∙◌, refl}
-use Rattle.vm_objects.proofs.Kept.{made, none_absent, table_of}
+use Rattle.std.proofs.Common.{ℕ, ◌==◌, ◌∙◌, Some, List, ap, false}
+use Rattle.indexmap.specs.IndexSet.{spare}
+use Rattle.std.specs.Prelude.{if◌then◌else◌}
+use Rattle.vm_base.specs.declared.ids.ObjectId.{ObjectId}
+use Rattle.vm_objects.proofs.Kept.{Changed, made, table_of}
+use Rattle.vm_objects.specs.Marks.{row_of}
+use Rattle.vm_objects.specs.declared.row.ObjectRow.{ObjectRow}
+use Rattle.vm_objects.specs.declared.row.PagerState.TheVariants as state
+use Rattle.vm_objects.proofs.objects.Objects.make.Goals.{In_ok-insert}
 use Rattle.vm_objects.proofs.objects.Objects.make.Goals as goal
 
-pub returns-in_err-reserve-clause-present : goal.returns-in_err-reserve-clause-present
-returns-in_err-reserve-clause-present c = λ p. none_absent c.args.id.0 p c.reserve.new.self.entries (rw c.in_err-reserve.ensures.same.entries c.requires)
+abbrev first : In_ok-insert → ObjectRow
+first c = record { kind = c.args.kind; pages = c.args.pages; state = state.Without; control = 0; live = false; references = 0 }
+
+is_made : (c : In_ok-insert) (rows marks rows2 marks2 : ℕ) → Changed c.insert.new.self.entries c.self.inside.absent.keys (spare c.self.inside.absent) c.self.inside.promised c.args.id.0 (first c)
+    (table_of c.self.inside.rows.entries c.self.inside.absent.keys rows marks) (table_of c.insert.new.self.entries c.self.inside.absent.keys rows2 marks2)
+is_made c rows marks rows2 marks2 =
+    made c.self.inside.rows.entries c.insert.new.self.entries c.self.inside.absent.keys _ c.self.inside.promised rows marks rows2 marks2 c.args.id.0 (first c) c.self.invariant (rw (← c.self.view_is) at c.requires)
+    (λ o. c.in_ok-insert.ensures.updates.0 o ∙ ap (λ (es : List (ObjectId × ObjectRow)). if c.args.id.0 == o.0 then Some (first c) else row_of es o.0) c.reserve.ensures.entries)
 
 pub invariant_of-self-2 : goal.invariant_of-self-2
-invariant_of-self-2 c = (made _ _ _ _ _ _ c.args.self.now _ (table_of c.resize.new.self.items c.insert.new.self.entries 0 0) _ _ _ c.self.view_is c.in_ok-reserve.ensures.same.entries refl c.self.invariant c.requires c.len-start.ensures c.self.inside.marks.ok.0 c.in_ok-resize.ensures.items c.in_ok-insert.ensures.updates.0).kept
+invariant_of-self-2 c = (is_made c 0 0 0 0).kept
 
 pub returns-clause-ok : goal.returns-clause-ok
-returns-clause-ok c = (made _ _ _ _ _ _ c.args.self.now _ _ _ _ _ c.self.view_is c.in_ok-reserve.ensures.same.entries refl c.self.invariant c.requires c.len-start.ensures c.self.inside.marks.ok.0 c.in_ok-resize.ensures.items c.in_ok-insert.ensures.updates.0).object
-
-pub returns-clause-present : goal.returns-clause-present
-returns-clause-present c = λ p. (made _ _ _ _ _ _ c.args.self.now _ (table_of c.resize.new.self.items c.insert.new.self.entries 0 0) _ _ _ c.self.view_is c.in_ok-reserve.ensures.same.entries refl c.self.invariant c.requires c.len-start.ensures c.self.inside.marks.ok.0 c.in_ok-resize.ensures.items c.in_ok-insert.ensures.updates.0).marks.at c.args.id.0 p ∙ none_absent c.args.id.0 p c.args.self.now.entries c.requires
-
-pub returns-clause-marks : goal.returns-clause-marks
-returns-clause-marks c = (made _ _ _ _ _ _ c.args.self.now _ _ _ _ _ c.self.view_is c.in_ok-reserve.ensures.same.entries refl c.self.invariant c.requires c.len-start.ensures c.self.inside.marks.ok.0 c.in_ok-resize.ensures.items c.in_ok-insert.ensures.updates.0).marks
+returns-clause-ok c = rw (← c.self.view_is) (is_made c _ _ _ _).object

@@ -12,6 +12,7 @@ returns c =
       frames_are = c.in_ok-frames.ensures;
       rows = c.new-3.ensures.rows;
       queues = queues.queues;
-      objects = c.new-4.ensures;
+      objects = c.new-4.ensures.entries;
+      absent = c.new-4.ensures.absent;
       buffers = c.new-5.ensures;
     }

@@ -1,7 +1,7 @@
 use Rattle.vm_system.proofs.Common.{Command, None, ap, is_some, refl, refusal, subst, ◌≡◌}
 use Rattle.vm_model.specs.Ranges.{InRange}
 use Rattle.vm_system.proofs.Beginning.{if_ok, there_at}
-use Rattle.vm_system.proofs.Cleaning.{asked_is, cleaned_file}
+use Rattle.vm_system.proofs.Cleaning.{asked_is, clean_few, cleaned_file}
 use Rattle.vm_system.proofs.Spoken.{heeded}
 use Rattle.vm_system.proofs.state.State.asked.Goals as goal
 
@@ -14,7 +14,7 @@ returns-in-Clean g c =
     let accepted = subst (λ (z : Command). refusal g.given.header s.history.items z ≡ None) clean.is c.requires.1.1.1.1 in
     let file = cleaned_file g.given.header s.history.items clean.object clean.page clean.count clean.flush accepted in
     let there = there_at s.files.items clean.object.0 c.index.result.now _ stands.agrees.files.count range.0 c.index.ensures in
-    if_ok c.clean.result (λ events says. rw (c.requires.1.0.1, clean.is) (asked_is g.given.header g.given.outside s clean.object clean.page clean.count clean.flush c.requires.1.0.0 c.index.result.now events.items stands file there says)) c.clean.ensures
+    record { head = if_ok c.clean.result (λ events says. rw (c.requires.1.0.1, clean.is) (asked_is g.given.header g.given.outside s clean.object clean.page clean.count clean.flush c.requires.1.0.0 c.index.result.now events.items stands file there says)) c.clean.ensures; few = if_ok c.clean.result (λ events says. clean_few c.index.result.now.known c.index.result.now.object clean.page clean.count clean.flush events.items says) c.clean.ensures }
 
 pub say-requires : goal.say-requires
 say-requires g c =
@@ -27,4 +27,8 @@ say-requires g c =
     (stands, (refl, (range.0, (rw stands.agrees.size range.2, ap is_some heed.lives))))
 
 pub returns-in-Say : goal.returns-in-Say
-returns-in-Say g c = let said = c.in-Say in if_ok c.say.result (λ events says. rw (c.requires.1.0.1, said.is) says) c.say.ensures
+returns-in-Say g c =
+    let said = c.in-Say in record {
+      head = if_ok c.say.result (λ events says. rw (c.requires.1.0.1, said.is) says) c.say.ensures.head;
+      few = c.say.ensures.few;
+    }

@@ -1,5 +1,6 @@
-use Rattle.vm_system.proofs.Common.{CanTellAll, Event, HasRoom, List, [], ap, append_assoc, length, length-append, subst, sym, ℕ, ◌++◌, ◌+◌, ◌∙◌, ◌∷◌, ◌≡◌}
+use Rattle.vm_system.proofs.Common.{CanTellAll, Event, HasRoom, List, [], ap, append_assoc, arith, length, length-append, subst, sym, ℕ, ◌++◌, ◌+◌, ◌∙◌, ◌∷◌, ◌≡◌}
 use Rattle.vm_system.proofs.Posting.{oldest_told}
+use Rattle.vm_system.proofs.Roomed.{fewer_room}
 use Rattle.vm_system.proofs.state.State.commit.Goals as goal
 
 pub tell-requires-clause-can : goal.tell-requires-clause-can
@@ -23,10 +24,14 @@ all-preserved c =
       posts = c.tell.ensures.posts;
       can = subst (λ (n : ℕ). CanTellAll n more t.history.items) (sym now.size) (subst (λ (all : List Event). CanTellAll s.size more all) (sym c.tell.ensures.history) told.rest);
       room = c.tell.ensures.room (length more) (subst (λ (n : ℕ). HasRoom n s) long c.all.invariant.room);
-      hosts = record { size = now.size ∙ was.size; hosts = now.hosts ∙ was.hosts; pagers = now.pagers ∙ was.pagers; declared = now.declared ∙ was.declared; files = now.files ∙ was.files; server = now.server ∙ was.server };
+      rest = λ n all. c.tell.ensures.room (n + length more) (subst (λ (k : ℕ). HasRoom k s) (omega (arith, long)) (c.all.invariant.rest n all));
+      hosts = record { size = now.size ∙ was.size; hosts = now.hosts ∙ was.hosts; pagers = now.pagers ∙ was.pagers; declared = now.declared ∙ was.declared; files = now.files ∙ was.files; server = now.server ∙ was.server; log = now.log ∙ was.log };
       history =
           ap (λ (all : List Event). more ++ all) c.tell.ensures.history
           ∙ sym (append_assoc more (e ∷ []) s.history.items)
           ∙ ap (λ (all : List Event). all ++ s.history.items) (sym c.in-Some.ensures.taken)
           ∙ c.all.invariant.history;
     }
+
+pub returns-clause-room : goal.returns-clause-room
+returns-clause-room c = λ n room. fewer_room n (n + length c.all.events.items) c.all.self (omega arith) (c.all.invariant.rest n room)

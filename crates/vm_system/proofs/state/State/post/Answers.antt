@@ -20,4 +20,4 @@ returns-clause-posts c =
     let can = rw c.in-Sent.is at c.requires.can in
     let past = c.args.self.now.history.items in
     subst (λ (e : Event). Posts c.deliver.new.self (e ∷ past)) (sym c.in-Sent.is)
-    (posts_sent c.in-Sent.channel c.in-Sent.message c.args.self.now c.deliver.new.self past can.1 c.requires.posts c.deliver.ensures)
+    (posts_sent c.in-Sent.channel c.in-Sent.message c.args.self.now c.deliver.new.self can.0 can.1 c.requires.posts c.deliver.ensures)

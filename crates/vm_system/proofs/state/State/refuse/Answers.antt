@@ -1,4 +1,5 @@
-use Rattle.vm_system.proofs.Beginning.{makes_refused, one_more, same_hosts, spares_same, spares_told, told_code}
+use Rattle.vm_system.proofs.Beginning.{logged, makes_refused, one_more, same_hosts, spares_told, told_code}
+use Rattle.vm_system.proofs.Roomed.{on_err, only_reserved, spares_roomed, still_reserved}
 use Rattle.vm_system.proofs.state.State.refuse.Goals as goal
 
 pub tell-requires-2-clause-room : goal.tell-requires-2-clause-room
@@ -14,8 +15,16 @@ pub returns-clause-spares : goal.returns-clause-spares
 returns-clause-spares g c =
     let hosts = same_hosts _ _ _ (same_hosts _ _ _ c.in_ok-reserve.ensures.hosts c.tell.ensures.hosts) c.tell-2.ensures.hosts in
     let s = c.args.self.now in
-    spares_told g.given.header g.given.outside c.args.line _ s.hosts s c.tell-2.new.self (told_code g.given.header g.given.outside c.args.command.now c.args.code c.args.line s c.requires.0) hosts
+    spares_told g.given.header g.given.outside c.args.line _ s.hosts s c.tell-2.new.self (told_code g.given.header g.given.outside c.args.command.now c.args.code c.args.line s c.requires.0) (logged _ _ hosts)
     (one_more _ _ _ _ (one_more _ _ _ _ c.in_ok-reserve.ensures.history c.tell.ensures.history) c.tell-2.ensures.history)
 
 pub returns-in_err-reserve-clause-spares : goal.returns-in_err-reserve-clause-spares
-returns-in_err-reserve-clause-spares g c = spares_same g.given.header g.given.outside c.args.self.now.hosts c.args.self.now c.reserve.new.self c.reserve.ensures.hosts c.reserve.ensures.history
+returns-in_err-reserve-clause-spares g c =
+    let e = c.reserve.ensures in
+    spares_roomed g.given.header g.given.outside c.args.self.now c.reserve.new.self (only_reserved c.args.self.now c.reserve.new.self e.hosts e.history e.made e.numbers e.letters e.buffers)
+
+pub returns-in_err-reserve-clause-err : goal.returns-in_err-reserve-clause-err
+returns-in_err-reserve-clause-err g c =
+    on_err _
+    (let e = c.reserve.ensures in
+    still_reserved g.given.header g.given.outside c.args.self.now c.reserve.new.self e.hosts e.history e.made e.numbers e.letters e.buffers c.requires.0)

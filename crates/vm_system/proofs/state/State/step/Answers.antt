@@ -1,4 +1,4 @@
-use Rattle.vm_system.proofs.Common.{Command, Makes, MayCut, None, Some, ap, armed_later_same, arms, false, inl, none-some, on_err_weaker, on_ok_weaker, refl, refusal, subst, sym, takes_any, ◌∙◌, ◌≡◌}
+use Rattle.vm_system.proofs.Common.{Command, Makes, None, Some, ap, armed_later_same, arms, false, none-some, on_err_weaker, on_ok_weaker, refl, refusal, subst, sym, takes_any, ◌∙◌, ◌≡◌}
 use Rattle.vm_model.specs.declared.command.Command.TheVariants as command
 use Rattle.vm_model.specs.declared.event.Device.TheVariants as device
 use Rattle.vm_system.proofs.Beginning.{arms_none, arms_refused, causes_same, leaves_armed, leaves_same, leaves_taken_by, on_either, settle_refused}
@@ -12,8 +12,9 @@ returns-in-Some g c =
     let unarmed_paging : arms device.Paging c.args.command.now ≡ None = arms_refused device.Paging g.given.header c.args.self.now.history.items c.args.command.now c.in-Some.code refused in
     record {
       made = c.refuse.ensures.made;
-      grew = on_either c.refuse.result (λ made. made.grew) (λ same. grew_none _ _ same) c.refuse.ensures.made c.refuse.ensures.err;
-      memory = on_err_weaker c.refuse.result (λ same. inl same) c.refuse.ensures.err;
+      grew = on_either c.refuse.result (λ made. made.grew) (λ still. grew_none _ _ still.1) c.refuse.ensures.made c.refuse.ensures.err;
+      err = c.refuse.ensures.err;
+      unmoved = on_err_weaker c.refuse.result (λ still. ((refl, refl), (refl, refl))) c.refuse.ensures.err;
       kept = c.refuse.ensures.spares.paging.kept (g.P.Backing.area c.args.paging.now.inner) c.requires.1.1.1.0;
       files_kept = c.refuse.ensures.spares.files.kept (g.F.Backing.area c.args.files.now.inner) c.requires.1.1.1.1.0;
       carried = λ start carry. c.refuse.ensures.spares.files.carried start (g.F.Backing.area c.args.files.now.inner) carry;
@@ -24,9 +25,7 @@ returns-in-Some g c =
       unasked = on_ok_weaker c.refuse.result (λ made unarmed none. refl) c.refuse.ensures.made;
       files_later = λ unarmed. (g.met.F.Backing.later_same c.args.files.now.inner, armed_later_same c.args.files.now.left c.args.files.now.reached);
       later = λ unarmed. (g.met.P.Backing.later_same c.args.paging.now.inner, armed_later_same c.args.paging.now.left c.args.paging.now.reached);
-      calm = on_err_weaker c.refuse.result (λ same up. (same, refl, refl)) c.refuse.ensures.err;
-      files_stops = on_err_weaker c.refuse.result (λ same. inl (same, refl)) c.refuse.ensures.err;
-      stops = on_err_weaker c.refuse.result (λ same. inl (same, refl)) c.refuse.ensures.err;
+      calm = on_err_weaker c.refuse.result (λ still up. (still.1, refl, refl)) c.refuse.ensures.err;
       devices = causes_same _ _ _ _ c.refuse.ensures.spares.paging.devices;
       files_devices = causes_same _ _ _ _ c.refuse.ensures.spares.files.devices;
     }
@@ -36,8 +35,8 @@ returns-in-Take g c =
     record {
       made = on_ok_weaker c.take_from.result (λ made. subst (λ (z : Command). Makes g.given.header g.given.outside (record { line = c.args.line; command = z }) c.args.self.now c.take_from.new.self) (sym c.in-Take.is) made) c.take_from.ensures.made;
       grew = c.take_from.ensures.grew;
-      memory = on_err_weaker c.take_from.result
-          (λ cut. subst (λ (z : Command). MayCut g.given.header g.given.outside (record { line = c.args.line; command = z }) c.args.self.now.history.items c.take_from.new.self.history.items) (sym c.in-Take.is) cut) c.take_from.ensures.memory;
+      err = c.take_from.ensures.err;
+      unmoved = c.take_from.ensures.unmoved;
       kept = c.take_from.ensures.kept;
       files_kept = c.take_from.ensures.files_kept;
       carried = c.take_from.ensures.carried;
@@ -49,8 +48,6 @@ returns-in-Take g c =
       files_later = λ unarmed. c.take_from.ensures.files_later;
       later = λ unarmed. c.take_from.ensures.later;
       calm = on_err_weaker c.take_from.result (λ calm down. calm (subst (λ (z : Command). takes_any z ≡ false) c.in-Take.is down)) c.take_from.ensures.calm;
-      files_stops = c.take_from.ensures.files_stops;
-      stops = c.take_from.ensures.stops;
       devices = c.take_from.ensures.devices;
       files_devices = c.take_from.ensures.files_devices;
     }
@@ -61,8 +58,9 @@ returns-in-Settle g c =
     let unarmed_paging : arms device.Paging c.args.command.now ≡ None = ap (arms device.Paging) c.in-Settle.is in
     record {
       made = on_ok_weaker c.settle.result (λ made. subst (λ (z : Command). Makes g.given.header g.given.outside (record { line = c.args.line; command = z }) c.args.self.now c.settle.new.self) (sym c.in-Settle.is) made) c.settle.ensures.made;
-      grew = on_either c.settle.result (λ made. made.grew) (λ same. grew_none _ _ same) c.settle.ensures.made c.settle.ensures.err;
-      memory = on_err_weaker c.settle.result (λ same. inl same) c.settle.ensures.err;
+      grew = on_either c.settle.result (λ made. made.grew) (λ still. grew_none _ _ still.1) c.settle.ensures.made c.settle.ensures.err;
+      err = c.settle.ensures.err;
+      unmoved = on_err_weaker c.settle.result (λ still. ((refl, refl), (refl, refl))) c.settle.ensures.err;
       kept = c.settle.ensures.spares.paging.kept (g.P.Backing.area c.args.paging.now.inner) c.requires.1.1.1.0;
       files_kept = c.settle.ensures.spares.files.kept (g.F.Backing.area c.args.files.now.inner) c.requires.1.1.1.1.0;
       carried = λ start carry. c.settle.ensures.spares.files.carried start (g.F.Backing.area c.args.files.now.inner) carry;
@@ -73,9 +71,7 @@ returns-in-Settle g c =
       unasked = on_ok_weaker c.settle.result (λ made unarmed none. refl) c.settle.ensures.made;
       files_later = λ unarmed. (g.met.F.Backing.later_same c.args.files.now.inner, armed_later_same c.args.files.now.left c.args.files.now.reached);
       later = λ unarmed. (g.met.P.Backing.later_same c.args.paging.now.inner, armed_later_same c.args.paging.now.left c.args.paging.now.reached);
-      calm = on_err_weaker c.settle.result (λ same up. (same, refl, refl)) c.settle.ensures.err;
-      files_stops = on_err_weaker c.settle.result (λ same. inl (same, refl)) c.settle.ensures.err;
-      stops = on_err_weaker c.settle.result (λ same. inl (same, refl)) c.settle.ensures.err;
+      calm = on_err_weaker c.settle.result (λ still up. (still.1, refl, refl)) c.settle.ensures.err;
       devices = causes_same _ _ _ _ c.settle.ensures.spares.paging.devices;
       files_devices = causes_same _ _ _ _ c.settle.ensures.spares.files.devices;
     }
@@ -86,8 +82,9 @@ returns-in-Clean g c =
     let unarmed_paging : arms device.Paging c.args.command.now ≡ None = ap (arms device.Paging) c.in-Clean.is in
     record {
       made = c.pass-in-Clean.ensures.made;
-      grew = on_either c.pass-in-Clean.result (λ made. made.grew) (λ same. grew_none _ _ same) c.pass-in-Clean.ensures.made c.pass-in-Clean.ensures.err;
-      memory = on_err_weaker c.pass-in-Clean.result (λ same. inl same) c.pass-in-Clean.ensures.err;
+      grew = on_either c.pass-in-Clean.result (λ made. made.grew) (λ still. grew_none _ _ still.1) c.pass-in-Clean.ensures.made c.pass-in-Clean.ensures.err;
+      err = c.pass-in-Clean.ensures.err;
+      unmoved = on_err_weaker c.pass-in-Clean.result (λ still. ((refl, refl), (refl, refl))) c.pass-in-Clean.ensures.err;
       kept = c.pass-in-Clean.ensures.spares.paging.kept (g.P.Backing.area c.args.paging.now.inner) c.requires.1.1.1.0;
       files_kept = c.pass-in-Clean.ensures.spares.files.kept (g.F.Backing.area c.args.files.now.inner) c.requires.1.1.1.1.0;
       carried = λ start carry. c.pass-in-Clean.ensures.spares.files.carried start (g.F.Backing.area c.args.files.now.inner) carry;
@@ -98,9 +95,7 @@ returns-in-Clean g c =
       unasked = on_ok_weaker c.pass-in-Clean.result (λ made unarmed none. refl) c.pass-in-Clean.ensures.made;
       files_later = λ unarmed. (g.met.F.Backing.later_same c.args.files.now.inner, armed_later_same c.args.files.now.left c.args.files.now.reached);
       later = λ unarmed. (g.met.P.Backing.later_same c.args.paging.now.inner, armed_later_same c.args.paging.now.left c.args.paging.now.reached);
-      calm = on_err_weaker c.pass-in-Clean.result (λ same up. (same, refl, refl)) c.pass-in-Clean.ensures.err;
-      files_stops = on_err_weaker c.pass-in-Clean.result (λ same. inl (same, refl)) c.pass-in-Clean.ensures.err;
-      stops = on_err_weaker c.pass-in-Clean.result (λ same. inl (same, refl)) c.pass-in-Clean.ensures.err;
+      calm = on_err_weaker c.pass-in-Clean.result (λ still up. (still.1, refl, refl)) c.pass-in-Clean.ensures.err;
       devices = causes_same _ _ _ _ c.pass-in-Clean.ensures.spares.paging.devices;
       files_devices = causes_same _ _ _ _ c.pass-in-Clean.ensures.spares.files.devices;
     }
@@ -111,8 +106,9 @@ returns-in-Say g c =
     let unarmed_paging : arms device.Paging c.args.command.now ≡ None = ap (arms device.Paging) c.in-Say.is in
     record {
       made = c.pass-in-Say.ensures.made;
-      grew = on_either c.pass-in-Say.result (λ made. made.grew) (λ same. grew_none _ _ same) c.pass-in-Say.ensures.made c.pass-in-Say.ensures.err;
-      memory = on_err_weaker c.pass-in-Say.result (λ same. inl same) c.pass-in-Say.ensures.err;
+      grew = on_either c.pass-in-Say.result (λ made. made.grew) (λ still. grew_none _ _ still.1) c.pass-in-Say.ensures.made c.pass-in-Say.ensures.err;
+      err = c.pass-in-Say.ensures.err;
+      unmoved = on_err_weaker c.pass-in-Say.result (λ still. ((refl, refl), (refl, refl))) c.pass-in-Say.ensures.err;
       kept = c.pass-in-Say.ensures.spares.paging.kept (g.P.Backing.area c.args.paging.now.inner) c.requires.1.1.1.0;
       files_kept = c.pass-in-Say.ensures.spares.files.kept (g.F.Backing.area c.args.files.now.inner) c.requires.1.1.1.1.0;
       carried = λ start carry. c.pass-in-Say.ensures.spares.files.carried start (g.F.Backing.area c.args.files.now.inner) carry;
@@ -123,9 +119,7 @@ returns-in-Say g c =
       unasked = on_ok_weaker c.pass-in-Say.result (λ made unarmed none. refl) c.pass-in-Say.ensures.made;
       files_later = λ unarmed. (g.met.F.Backing.later_same c.args.files.now.inner, armed_later_same c.args.files.now.left c.args.files.now.reached);
       later = λ unarmed. (g.met.P.Backing.later_same c.args.paging.now.inner, armed_later_same c.args.paging.now.left c.args.paging.now.reached);
-      calm = on_err_weaker c.pass-in-Say.result (λ same up. (same, refl, refl)) c.pass-in-Say.ensures.err;
-      files_stops = on_err_weaker c.pass-in-Say.result (λ same. inl (same, refl)) c.pass-in-Say.ensures.err;
-      stops = on_err_weaker c.pass-in-Say.result (λ same. inl (same, refl)) c.pass-in-Say.ensures.err;
+      calm = on_err_weaker c.pass-in-Say.result (λ still up. (still.1, refl, refl)) c.pass-in-Say.ensures.err;
       devices = causes_same _ _ _ _ c.pass-in-Say.ensures.spares.paging.devices;
       files_devices = causes_same _ _ _ _ c.pass-in-Say.ensures.spares.files.devices;
     }
@@ -136,8 +130,9 @@ returns-in_default-command g c =
     let unarmed_paging : arms device.Paging c.args.command.now ≡ None = arms_none device.Paging c.args.command.now c.in_default-command.not-FailFiles c.in_default-command.not-FailPaging in
     record {
       made = c.begin.ensures.made;
-      grew = on_either c.begin.result (λ made. made.grew) (λ same. grew_none _ _ same) c.begin.ensures.made c.begin.ensures.err;
-      memory = on_err_weaker c.begin.result (λ same. inl same) c.begin.ensures.err;
+      grew = on_either c.begin.result (λ made. made.grew) (λ still. grew_none _ _ still.1) c.begin.ensures.made c.begin.ensures.err;
+      err = c.begin.ensures.err;
+      unmoved = on_err_weaker c.begin.result (λ still. ((refl, refl), (refl, refl))) c.begin.ensures.err;
       kept = c.begin.ensures.spares.paging.kept (g.P.Backing.area c.args.paging.now.inner) c.requires.1.1.1.0;
       files_kept = c.begin.ensures.spares.files.kept (g.F.Backing.area c.args.files.now.inner) c.requires.1.1.1.1.0;
       carried = λ start carry. c.begin.ensures.spares.files.carried start (g.F.Backing.area c.args.files.now.inner) carry;
@@ -148,9 +143,7 @@ returns-in_default-command g c =
       unasked = on_ok_weaker c.begin.result (λ made unarmed none. refl) c.begin.ensures.made;
       files_later = λ unarmed. (g.met.F.Backing.later_same c.args.files.now.inner, armed_later_same c.args.files.now.left c.args.files.now.reached);
       later = λ unarmed. (g.met.P.Backing.later_same c.args.paging.now.inner, armed_later_same c.args.paging.now.left c.args.paging.now.reached);
-      calm = on_err_weaker c.begin.result (λ same up. (same, refl, refl)) c.begin.ensures.err;
-      files_stops = on_err_weaker c.begin.result (λ same. inl (same, refl)) c.begin.ensures.err;
-      stops = on_err_weaker c.begin.result (λ same. inl (same, refl)) c.begin.ensures.err;
+      calm = on_err_weaker c.begin.result (λ still up. (still.1, refl, refl)) c.begin.ensures.err;
       devices = causes_same _ _ _ _ c.begin.ensures.spares.paging.devices;
       files_devices = causes_same _ _ _ _ c.begin.ensures.spares.files.devices;
     }
@@ -163,7 +156,8 @@ returns-in_ok-pass-in-FailFiles g c =
     record {
       made = c.in_ok-pass-in-FailFiles.ensures.made;
       grew = c.in_ok-pass-in-FailFiles.ensures.made.grew;
-      memory = tt;
+      err = tt;
+      unmoved = tt;
       kept = c.pass.ensures.spares.paging.kept (g.P.Backing.area c.args.paging.now.inner) c.requires.1.1.1.0;
       files_kept = rw c.arm.ensures kept;
       carried = λ start carry. let carried = c.pass.ensures.spares.files.carried start (g.F.Backing.area c.args.files.now.inner) carry in rw c.arm.ensures carried;
@@ -175,8 +169,6 @@ returns-in_ok-pass-in-FailFiles g c =
       files_later = λ none. absurd (none-some c.in-FailFiles.count (sym none ∙ armed));
       later = λ none. (g.met.P.Backing.later_same c.args.paging.now.inner, armed_later_same c.args.paging.now.left c.args.paging.now.reached);
       calm = tt;
-      files_stops = tt;
-      stops = tt;
       devices = causes_same _ _ _ _ c.pass.ensures.spares.paging.devices;
       files_devices = rw c.arm.ensures (causes_same _ _ _ _ c.pass.ensures.spares.files.devices);
     }
@@ -204,7 +196,8 @@ returns-in_ok-pass-in-FailPaging g c =
     record {
       made = c.in_ok-pass-in-FailPaging.ensures.made;
       grew = c.in_ok-pass-in-FailPaging.ensures.made.grew;
-      memory = tt;
+      err = tt;
+      unmoved = tt;
       kept = rw c.arm-in-FailPaging.ensures kept;
       files_kept = c.pass-in-FailPaging.ensures.spares.files.kept (g.F.Backing.area c.args.files.now.inner) c.requires.1.1.1.1.0;
       carried = λ start carry. c.pass-in-FailPaging.ensures.spares.files.carried start (g.F.Backing.area c.args.files.now.inner) carry;
@@ -216,8 +209,6 @@ returns-in_ok-pass-in-FailPaging g c =
       files_later = λ none. (g.met.F.Backing.later_same c.args.files.now.inner, armed_later_same c.args.files.now.left c.args.files.now.reached);
       later = λ none. absurd (none-some c.in-FailPaging.count (sym none ∙ armed));
       calm = tt;
-      files_stops = tt;
-      stops = tt;
       devices = rw c.arm-in-FailPaging.ensures (causes_same _ _ _ _ c.pass-in-FailPaging.ensures.spares.paging.devices);
       files_devices = causes_same _ _ _ _ c.pass-in-FailPaging.ensures.spares.files.devices;
     }

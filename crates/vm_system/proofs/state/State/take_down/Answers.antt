@@ -1,85 +1,170 @@
-use Rattle.vm_system.proofs.Common.{Channel, Down, Event, HasRoom, HostsPart, List, ap, arith, length, queue, slice_get, subst, sym, ℕ, ◌++◌, ◌∙◌, ◌∷◌, ◌≡◌}
+use Rattle.vm_system.proofs.Common.{Channel, Down, Event, HasRoom, HostsPart, Listed, ap, arith, length, queue, refl, subst, sym, ◌++◌, ◌∙◌, ◌∷◌, ◌≡◌}
 use Rattle.vm_model.specs.declared.event.Event.TheVariants as event
-use Rattle.vm_system.proofs.Beginning.{same_hosts}
-use Rattle.vm_system.proofs.Following.{same_all, same_declared, same_files, same_pagers}
-use Rattle.vm_system.proofs.Taken.{first_told, front_of, may_head, may_only, may_port, may_some, may_there}
+use Rattle.vm_system.proofs.Following.{both_spares, same_all}
+use Rattle.vm_system.proofs.Roomed.{behind_all, fewer_room, may_roomed, on_err, room_for, roomed_files, roomed_pagers, spares_roomed, still_of, still_roomed, still_taken}
+use Rattle.vm_system.proofs.Taken.{first_told, front_of, may_head, may_only, may_port, may_read, may_some, may_there}
 use Rattle.vm_system.proofs.TakenDown.{can_down, down_letter, down_licensed, spares_down, took_down}
 use Rattle.vm_system.proofs.state.State.take_down.Goals as goal
 
 pub head-requires : goal.head-requires
-head-requires g c = may_port g.given c.args.line c.args.number (Down c.args.host c.args.object c.args.control) c.args.self.now c.requires
+head-requires g c =
+    let given = g.given in
+    let s = c.args.self.now in
+    let t = c.prepare.new.self in
+    let r = c.prepare.ensures.same in
+    let channel = Down c.args.host c.args.object c.args.control in
+    let may = may_roomed given c.args.line c.args.number channel s t c.requires r in
+    may_port given c.args.line c.args.number channel t may
 
 pub unreachable-requires : goal.unreachable-requires
-unreachable-requires g c = may_some g.given c.args.line c.args.number (Down c.args.host c.args.object c.args.control) c.args.self.now c.requires c.in_default.ensures
+unreachable-requires g c =
+    let given = g.given in
+    let s = c.args.self.now in
+    let t = c.prepare.new.self in
+    let r = c.prepare.ensures.same in
+    let channel = Down c.args.host c.args.object c.args.control in
+    let may = may_roomed given c.args.line c.args.number channel s t c.requires r in
+    may_some given c.args.line c.args.number channel t may c.in_default.ensures
+
+pub sent-message-requires : goal.sent-message-requires
+sent-message-requires g c =
+    let given = g.given in
+    let s = c.args.self.now in
+    let t = c.prepare.new.self in
+    let r = c.prepare.ensures.same in
+    let channel = Down c.args.host c.args.object c.args.control in
+    let may = may_roomed given c.args.line c.args.number channel s t c.requires r in
+    may_read given c.args.line c.args.number channel c.in-Some.index.now t may c.in-Some.ensures
 
 pub take-requires : goal.take-requires
 take-requires g c =
-    let may = c.requires in
+    let given = g.given in
     let s = c.args.self.now in
-    let m = c.in-Some.message.now in
+    let t = c.prepare.new.self in
+    let r = c.prepare.ensures.same in
     let channel = Down c.args.host c.args.object c.args.control in
-    let head = may_head g.given c.args.line c.args.number channel m s may c.in-Some.ensures in
-    let front = front_of g.given c.args.line c.args.number channel s may in
-    let letter = down_letter g.given c.args.line c.args.number c.args.host c.args.object c.args.control m s may head in
-    (front.rests, (front.queues, (letter.0, (letter.1, down_licensed g.given c.args.line c.args.number c.args.host c.args.object c.args.control m s may head))))
+    let may = may_roomed given c.args.line c.args.number channel s t c.requires r in
+    let m = c.sent-message.result.now in
+    let head = may_head given c.args.line c.args.number channel c.in-Some.index.now m t may c.in-Some.ensures c.sent-message.ensures in
+    let front = front_of given c.args.line c.args.number channel t may in
+    let letter = down_letter given c.args.line c.args.number c.args.host c.args.object c.args.control m t may head in
+    let ready = c.in_ok-prepare.ensures.ready in
+    (front.rests, (front.queues, (letter.0, (letter.1, (down_licensed given c.args.line c.args.number c.args.host c.args.object c.args.control m t may head, (may.stands.log, (ready.0, ready.1.hosts)))))))
 
 pub take_first-requires-clause-there : goal.take_first-requires-clause-there
-take_first-requires-clause-there g c = rw c.reserve.ensures.made (may_there g.given c.args.line c.args.number (Down c.args.host c.args.object c.args.control) c.args.self.now c.requires)
+take_first-requires-clause-there g c =
+    let given = g.given in
+    let s = c.args.self.now in
+    let t = c.prepare.new.self in
+    let r = c.prepare.ensures.same in
+    let channel = Down c.args.host c.args.object c.args.control in
+    let may = may_roomed given c.args.line c.args.number channel s t c.requires r in
+    may_there given c.args.line c.args.number channel t may
 
 pub take_first-requires-clause-some : goal.take_first-requires-clause-some
 take_first-requires-clause-some g c =
-    let may = c.requires in
-    let mine = Down c.args.host c.args.object c.args.control in
-    let s = c.args.self.now in
-    λ channel at none.
-    let is : channel ≡ mine = may_only g.given c.args.line c.args.number mine channel s may (ap (λ (z : List Channel). slice_get z c.args.number.0) (sym c.reserve.ensures.made) ∙ at) in
-    may.some (ap (λ (z : List Event). queue mine z) (sym c.reserve.ensures.history) ∙ ap (λ (z : Channel). queue z c.reserve.new.self.history.items) (sym is) ∙ none)
-
-pub commit-requires-clause-can : goal.commit-requires-clause-can
-commit-requires-clause-can g c =
     let given = g.given in
     let s = c.args.self.now in
-    let m = c.in-Some.message.now in
+    let t = c.prepare.new.self in
+    let r = c.prepare.ensures.same in
     let channel = Down c.args.host c.args.object c.args.control in
-    let head = may_head given c.args.line c.args.number channel m s c.requires c.in-Some.ensures in
-    let told = first_told given c.args.line c.args.number channel m s c.reserve.new.self c.take_first.new.self c.requires head c.reserve.ensures.history c.reserve.ensures.made c.take_first.ensures.history in
-    rw (c.take_first.ensures.hosts.size, c.reserve.ensures.hosts.size, c.requires.stands.agrees.size, told)
-    (can_down given c.args.host c.args.object c.args.control m s c.take.new.self c.in_ok-events.events.items (front_of given c.args.line c.args.number channel s c.requires) head c.in_ok-events.ensures.passed)
+    let may = may_roomed given c.args.line c.args.number channel s t c.requires r in
+    λ other is none. may.some (ap (λ (z : Channel). queue z t.history.items) (sym (may_only given c.args.line c.args.number channel other t may is)) ∙ none)
 
-pub commit-requires-clause-room : goal.commit-requires-clause-room
-commit-requires-clause-room g c =
-    c.take_first.ensures.room (length c.in_ok-events.events.items) (subst (λ (z : ℕ). HasRoom z c.reserve.new.self) (omega (arith, c.in-Some-checked_add.ensures, c.len.ensures)) c.in_ok-reserve.ensures.room)
+pub take_first-requires-clause-room : goal.take_first-requires-clause-room
+take_first-requires-clause-room g c = let ready = c.in_ok-prepare.ensures.ready in let room = room_for ready.0 2 2 c.prepare.new.self (omega arith) ready.1.room in record { history = room.history; channels = room.channels; numbers = room.numbers; letters = room.letters }
+
+pub take_first-requires-clause-buffer : goal.take_first-requires-clause-buffer
+take_first-requires-clause-buffer g c = c.in_ok-prepare.ensures.ready.1.buffer
+
+pub commit_log-requires-clause-can : goal.commit_log-requires-clause-can
+commit_log-requires-clause-can g c =
+    let given = g.given in
+    let s = c.args.self.now in
+    let t = c.prepare.new.self in
+    let r = c.prepare.ensures.same in
+    let channel = Down c.args.host c.args.object c.args.control in
+    let may = may_roomed given c.args.line c.args.number channel s t c.requires r in
+    let m = c.sent-message.result.now in
+    let head = may_head given c.args.line c.args.number channel c.in-Some.index.now m t may c.in-Some.ensures c.sent-message.ensures in
+    let events = c.take.new.log.items in
+    let told = first_told given c.args.line c.args.number channel m t t c.take_first.new.self may head refl refl c.take_first.ensures.history in
+    let logged : c.take_first.new.self.log.items ≡ events = ap (λ (z : Listed Event). z.items) c.take_first.ensures.hosts.log in
+    rw (c.take_first.ensures.hosts.size, may.stands.agrees.size, logged, told)
+    (can_down given c.args.host c.args.object c.args.control m t c.take.new.self events (front_of given c.args.line c.args.number channel t may) head c.in_ok-take.ensures.passed)
+
+pub commit_log-requires-clause-room : goal.commit_log-requires-clause-room
+commit_log-requires-clause-room g c =
+    let ready = c.in_ok-prepare.ensures.ready in
+    let t = c.prepare.new.self in
+    let room = ready.1.room in
+    let few = c.in_ok-take.ensures.few ready.0 ready.1.hosts in
+    let left = behind_all ready.0 t c.take_first.new.self room (λ n h d s l. c.take_first.ensures.room n (record { history = h; channels = d; numbers = s; letters = l })) in
+    subst (λ (z : Listed Event). HasRoom (length z.items) c.take_first.new.self) (sym c.take_first.ensures.hosts.log) (fewer_room (length c.take.new.log.items) ready.0 c.take_first.new.self few left)
 
 pub returns-clause-took : goal.returns-clause-took
 returns-clause-took g c =
     let given = g.given in
     let s = c.args.self.now in
-    let new = c.commit.new.self in
-    let m = c.in-Some.message.now in
+    let t = c.prepare.new.self in
+    let r = c.prepare.ensures.same in
     let channel = Down c.args.host c.args.object c.args.control in
-    let head = may_head given c.args.line c.args.number channel m s c.requires c.in-Some.ensures in
-    let told = first_told given c.args.line c.args.number channel m s c.reserve.new.self c.take_first.new.self c.requires head c.reserve.ensures.history c.reserve.ensures.made c.take_first.ensures.history in
-    let all = same_hosts _ _ _ (same_hosts _ _ _ c.reserve.ensures.hosts c.take_first.ensures.hosts) c.commit.ensures.hosts in
-    let events = c.in_ok-events.events.items in
-    let passed : HostsPart given.header given.outside given.command (event.Taken channel m ∷ given.past) new.hosts events = rw all.hosts c.in_ok-events.ensures.passed in
-    took_down given c.args.line c.args.number c.args.host c.args.object c.args.control m s new events c.requires head passed c.in_ok-events.ensures.failed c.in_ok-events.ensures.zeroed c.in_ok-events.ensures.locked
-    c.in_ok-events.ensures.ended all.size (same_pagers _ _ all) (same_files _ _ all) (same_declared _ _ all) all.server
-    (c.commit.ensures.history ∙ ap (λ (z : List Event). events ++ z) told) c.commit.ensures.posts
+    let may = may_roomed given c.args.line c.args.number channel s t c.requires r in
+    let m = c.sent-message.result.now in
+    let head = may_head given c.args.line c.args.number channel c.in-Some.index.now m t may c.in-Some.ensures c.sent-message.ensures in
+    let events = c.take.new.log.items in
+    let told = first_told given c.args.line c.args.number channel m t t c.take_first.new.self may head refl refl c.take_first.ensures.history in
+    let new = c.commit_log.new.self in
+    let logged : c.take_first.new.self.log.items ≡ events = ap (λ (z : Listed Event). z.items) c.take_first.ensures.hosts.log in
+    let items : new.history.items ≡ events ++ event.Taken channel m ∷ given.past = rw (c.commit_log.ensures.history, logged, told) refl in
+    let one = c.take_first.ensures.hosts in
+    let two = c.commit_log.ensures.hosts in
+    let e = c.in_ok-take.ensures in
+    let passed : HostsPart given.header given.outside given.command (event.Taken channel m ∷ given.past) new.hosts events = rw (two.hosts, one.hosts) e.passed in
+    took_down given c.args.line c.args.number c.args.host c.args.object c.args.control m t new events may head passed e.failed e.zeroed e.locked e.ended (two.size ∙ one.size) (rw (two.pagers, one.pagers) refl) (rw (two.files, one.files) refl)
+    (rw (two.declared, one.declared) refl) (two.server ∙ one.server) items c.commit_log.ensures.posts c.commit_log.ensures.log
 
 pub returns-clause-spares : goal.returns-clause-spares
 returns-clause-spares g c =
     let given = g.given in
     let s = c.args.self.now in
-    let m = c.in-Some.message.now in
+    let t = c.prepare.new.self in
+    let r = c.prepare.ensures.same in
     let channel = Down c.args.host c.args.object c.args.control in
-    let head = may_head given c.args.line c.args.number channel m s c.requires c.in-Some.ensures in
-    let told = first_told given c.args.line c.args.number channel m s c.reserve.new.self c.take_first.new.self c.requires head c.reserve.ensures.history c.reserve.ensures.made c.take_first.ensures.history in
-    let all = same_hosts _ _ _ (same_hosts _ _ _ c.reserve.ensures.hosts c.take_first.ensures.hosts) c.commit.ensures.hosts in
-    let events = c.in_ok-events.events.items in
-    let grown = c.commit.ensures.history ∙ ap (λ (z : List Event). events ++ z) told in
-    spares_down given c.args.line c.args.number c.args.host c.args.object c.args.control m s c.commit.new.self c.take.new.self events c.requires c.in_ok-events.ensures.passed (same_pagers _ _ all) (same_files _ _ all) grown
+    let may = may_roomed given c.args.line c.args.number channel s t c.requires r in
+    let m = c.sent-message.result.now in
+    let head = may_head given c.args.line c.args.number channel c.in-Some.index.now m t may c.in-Some.ensures c.sent-message.ensures in
+    let events = c.take.new.log.items in
+    let told = first_told given c.args.line c.args.number channel m t t c.take_first.new.self may head refl refl c.take_first.ensures.history in
+    let new = c.commit_log.new.self in
+    let logged : c.take_first.new.self.log.items ≡ events = ap (λ (z : Listed Event). z.items) c.take_first.ensures.hosts.log in
+    let items : new.history.items ≡ events ++ event.Taken channel m ∷ given.past = rw (c.commit_log.ensures.history, logged, told) refl in
+    let one = c.take_first.ensures.hosts in
+    let two = c.commit_log.ensures.hosts in
+    both_spares given.header given.outside s t new (spares_roomed given.header given.outside s t r)
+    (spares_down given c.args.line c.args.number c.args.host c.args.object c.args.control m t new c.take.new.self events may c.in_ok-take.ensures.passed (rw (two.pagers, one.pagers) refl) (rw (two.files, one.files) refl) items)
 
-pub returns-in_err-reserve-clause-spares : goal.returns-in_err-reserve-clause-spares
-returns-in_err-reserve-clause-spares g c =
-    let e = c.reserve.ensures in
-    same_all g.given.header g.given.outside c.args.self.now c.reserve.new.self (same_pagers _ _ e.hosts) (same_files _ _ e.hosts) e.history
+pub returns-in_err-prepare-clause-err : goal.returns-in_err-prepare-clause-err
+returns-in_err-prepare-clause-err g c =
+    on_err _
+    (still_roomed g.given.header g.given.outside c.args.self.now c.prepare.new.self c.prepare.ensures.same c.requires.stands)
+
+pub returns-in_err-prepare-clause-spares : goal.returns-in_err-prepare-clause-spares
+returns-in_err-prepare-clause-spares g c = spares_roomed g.given.header g.given.outside c.args.self.now c.prepare.new.self c.prepare.ensures.same
+
+pub returns-in_err-take-clause-err : goal.returns-in_err-take-clause-err
+returns-in_err-take-clause-err g c =
+    on_err _
+    (let given = g.given in
+    let s = c.args.self.now in
+    let t = c.prepare.new.self in
+    let r = c.prepare.ensures.same in
+    let channel = Down c.args.host c.args.object c.args.control in
+    let may = may_roomed given c.args.line c.args.number channel s t c.requires r in
+    let e = c.in_err-take.ensures.err in
+    still_of given.header given.outside s _ (still_taken given c.args.line c.args.number channel t c.take.new.self c.take.new.log may e.0 e.1.0 e.1.1) r.history)
+
+pub returns-in_err-take-clause-spares : goal.returns-in_err-take-clause-spares
+returns-in_err-take-clause-spares g c =
+    let r = c.prepare.ensures.same in
+    same_all g.given.header g.given.outside c.args.self.now _ (roomed_pagers _ _ r) (roomed_files _ _ r) r.history

@@ -1,10 +1,10 @@
-use Rattle.vm_system.proofs.Common.{MayBeCut, Some, Step, Took, on_err_weaker, on_ok_weaker, refl, subst, sym}
+use Rattle.vm_system.proofs.Common.{Some, Step, Took, on_err_weaker, on_ok_weaker, refl, subst, sym}
 use Rattle.vm_model.specs.declared.event.Device.TheVariants as device
-use Rattle.vm_system.proofs.Beginning.{on_either, on_errs}
-use Rattle.vm_system.proofs.Growth.{grew_cut, grew_taken, line_taken}
+use Rattle.vm_system.proofs.Beginning.{on_either}
+use Rattle.vm_system.proofs.Growth.{grew_none, grew_taken, line_taken}
 use Rattle.vm_system.proofs.Numbers.{number_read}
-use Rattle.vm_system.proofs.TakenFrom.{cuts_taken, keeps_taken}
-use Rattle.vm_system.proofs.Untouched.{apart_all, not_up_from, stops_from}
+use Rattle.vm_system.proofs.TakenFrom.{keeps_taken}
+use Rattle.vm_system.proofs.Untouched.{apart_all, not_up_from}
 use Rattle.vm_system.proofs.state.State.take_from.Goals as goal
 
 pub returns-clause-made : goal.returns-clause-made
@@ -24,22 +24,14 @@ returns-clause-made g c =
     })
     c.take.ensures.took
 
-pub returns-clause-memory : goal.returns-clause-memory
-returns-clause-memory g c =
-    let given = g.given in
-    let old = c.args.self.now in
-    let new = c.take.new.self in
-    on_err_weaker c.take.result
-    (λ cut. cuts_taken given.header given.outside c.args.line c.args.channel old new.history.items c.requires.1.1.1.0 c.requires.1.1.1.1.1.1 (subst (λ (z : Step). MayBeCut z old.history.items new.history.items) c.requires.1.1.0 cut)) c.take.ensures.cut
-
 pub returns-clause-grew : goal.returns-clause-grew
 returns-clause-grew g c =
     let old = c.args.self.now.history.items in
     let new = c.take.new.self in
     on_either c.take.result
     (λ took. grew_taken _ (Some c.args.line) old new.history.items (subst (λ (z : Step). Took z new) c.requires.1.1.0 took).step refl)
-    (λ cut. grew_cut _ (Some c.args.line) old new.history.items (subst (λ (z : Step). MayBeCut z old new.history.items) c.requires.1.1.0 cut) refl)
-    c.take.ensures.took c.take.ensures.cut
+    (λ still. grew_none _ _ still.1)
+    c.take.ensures.took c.take.ensures.err
 
 pub returns-clause-paging : goal.returns-clause-paging
 returns-clause-paging g c = λ apart. c.take.ensures.paging c.args.channel (number_read c.args.channel c.args.self.now.channels.made c.in-Some.number.0 (sym c.in-Some.ensures)) apart
@@ -74,31 +66,9 @@ returns-clause-calm g c =
     let made = number_read c.args.channel c.args.self.now.channels.made c.in-Some.number.0 (sym c.in-Some.ensures) in
     let header = g.given.header in
     on_err_weaker c.take.result
-    (λ down up. (
-      down c.args.channel made up,
+    (λ still up. (
+      still.1,
       c.take.ensures.files c.args.channel made (apart_all header device.Files c.args.channel up),
       c.take.ensures.paging c.args.channel made (apart_all header device.Paging c.args.channel up),
     ))
-    c.take.ensures.down
-
-pub returns-clause-stops : goal.returns-clause-stops
-returns-clause-stops g c =
-    let given = g.given in
-    let old = c.args.self.now in
-    let new = c.take.new.self in
-    let made = number_read c.args.channel old.channels.made c.in-Some.number.0 (sym c.in-Some.ensures) in
-    on_errs c.take.result
-    (λ cut down unmoved. stops_from given.header given.outside device.Paging c.args.line c.args.channel old.history.items new.history.items c.args.paging.now c.take.new.paging (c.take.ensures.paging c.args.channel made) (down c.args.channel made) (λ same. (unmoved same).0)
-    (subst (λ (z : Step). MayBeCut z old.history.items new.history.items) c.requires.1.1.0 cut))
-    c.take.ensures.cut c.take.ensures.down c.take.ensures.unmoved
-
-pub returns-clause-files_stops : goal.returns-clause-files_stops
-returns-clause-files_stops g c =
-    let given = g.given in
-    let old = c.args.self.now in
-    let new = c.take.new.self in
-    let made = number_read c.args.channel old.channels.made c.in-Some.number.0 (sym c.in-Some.ensures) in
-    on_errs c.take.result
-    (λ cut down unmoved. stops_from given.header given.outside device.Files c.args.line c.args.channel old.history.items new.history.items c.args.files.now c.take.new.files (c.take.ensures.files c.args.channel made) (down c.args.channel made) (λ same. (unmoved same).1)
-    (subst (λ (z : Step). MayBeCut z old.history.items new.history.items) c.requires.1.1.0 cut))
-    c.take.ensures.cut c.take.ensures.down c.take.ensures.unmoved
+    c.take.ensures.err

@@ -1,42 +1,62 @@
-use Rattle.vm_system.proofs.Common.{Channel, Event, Followed, Going, List, PagerHasAnswered, State, Up, [], ap, inr, length, on_err_weaker, on_ok_weaker, HasRoom, queue, refl, subst, sym, take, ℕ, ◌++◌, ◌+◌, ◌∙◌, ◌∷◌, ◌≡◌}
+use Rattle.vm_system.proofs.Common.{Channel, Event, Followed, Going, List, Listed, PagerHasAnswered, State, Up, [], ap, arith, length, HasRoom, queue, refl, subst, sym, take, ℕ, ◌++◌, ◌+◌, ◌∙◌, ◌∷◌, ◌≡◌}
 use Rattle.vm_model.specs.declared.event.Event.TheVariants as event
 use Rattle.vm_system.proofs.Beginning.{same_hosts}
 use Rattle.vm_system.proofs.Following.{both_spares, same_all, same_declared, same_files, same_pagers}
-use Rattle.vm_system.proofs.Taken.{first_told, may_head, may_only, may_port, may_some, may_there}
-use Rattle.vm_system.proofs.TakenShared.{answered_shared, can_reply_shared, cut_shared, may_answered, shared_reply, spares_shared, took_shared, up_shared}
+use Rattle.vm_system.proofs.Roomed.{behind_answers, behind_first, may_roomed, may_server, on_err, ready_still, room_for, shared_few, spares_roomed, spares_server, stands_server, still_of, still_server}
+use Rattle.vm_system.proofs.Taken.{first_told, may_head, may_only, may_port, may_read, may_some, may_there}
+use Rattle.vm_system.proofs.TakenShared.{answered_shared, can_reply_shared, shared_reply, spares_shared, took_shared, up_shared}
 use Rattle.vm_system.proofs.TakenUp.{front_is, front_length}
 use Rattle.vm_system.proofs.state.State.take_shared.Goals as goal
-
-pub returns-in_err-reserve-clause-spares : goal.returns-in_err-reserve-clause-spares
-returns-in_err-reserve-clause-spares g c =
-    let e = c.reserve.ensures in
-    same_all g.given.header g.given.outside c.args.self.now c.reserve.new.self (same_pagers _ _ e.hosts) (same_files _ _ e.hosts) e.history
 
 pub head-requires : goal.head-requires
 head-requires g c =
     let given = g.given in
     let s = c.args.self.now in
     let channel = Up c.args.host c.args.object in
-    let any = c.requires.0 in
-    may_port given c.args.line c.args.number channel s any
+    let u = c.expect.new.self in
+    let front_any = may_server given c.args.line c.args.number channel s u u.server c.expect.ensures.same c.requires.0 c.expect.ensures.table in
+    let r = c.prepare.ensures.same in
+    let t = c.prepare.new.self in
+    let any = may_roomed given c.args.line c.args.number channel u t front_any r in
+    may_port given c.args.line c.args.number channel t any
 
 pub unreachable-requires : goal.unreachable-requires
 unreachable-requires g c =
     let given = g.given in
     let s = c.args.self.now in
     let channel = Up c.args.host c.args.object in
-    let any = c.requires.0 in
-    may_some given c.args.line c.args.number channel s any c.in_default.ensures
+    let u = c.expect.new.self in
+    let front_any = may_server given c.args.line c.args.number channel s u u.server c.expect.ensures.same c.requires.0 c.expect.ensures.table in
+    let r = c.prepare.ensures.same in
+    let t = c.prepare.new.self in
+    let any = may_roomed given c.args.line c.args.number channel u t front_any r in
+    may_some given c.args.line c.args.number channel t any c.in_default-head.ensures
+
+pub sent-message-requires : goal.sent-message-requires
+sent-message-requires g c =
+    let given = g.given in
+    let s = c.args.self.now in
+    let channel = Up c.args.host c.args.object in
+    let u = c.expect.new.self in
+    let front_any = may_server given c.args.line c.args.number channel s u u.server c.expect.ensures.same c.requires.0 c.expect.ensures.table in
+    let r = c.prepare.ensures.same in
+    let t = c.prepare.new.self in
+    let any = may_roomed given c.args.line c.args.number channel u t front_any r in
+    may_read given c.args.line c.args.number channel c.in-Some-head.index.now t any c.in-Some-head.ensures
 
 pub answer-requires-clause-host : goal.answer-requires-clause-host
 answer-requires-clause-host g c =
     let given = g.given in
     let s = c.args.self.now in
     let channel = Up c.args.host c.args.object in
-    let any = c.requires.0 in
-    let m = c.in-Some.message.now in
-    let at = may_head given c.args.line c.args.number channel m s any c.in-Some.ensures in
-    let word = up_shared given c.args.line c.args.number c.args.host c.args.object m s any c.requires.1 at in
+    let u = c.expect.new.self in
+    let front_any = may_server given c.args.line c.args.number channel s u u.server c.expect.ensures.same c.requires.0 c.expect.ensures.table in
+    let r = c.prepare.ensures.same in
+    let t = c.prepare.new.self in
+    let any = may_roomed given c.args.line c.args.number channel u t front_any r in
+    let m = c.sent-message.result.now in
+    let at = may_head given c.args.line c.args.number channel c.in-Some-head.index.now m t any c.in-Some-head.ensures c.sent-message.ensures in
+    let word = up_shared given c.args.line c.args.number c.args.host c.args.object m t any c.requires.1 at in
     word.0
 
 pub answer-requires-clause-to_server : goal.answer-requires-clause-to_server
@@ -44,10 +64,14 @@ answer-requires-clause-to_server g c =
     let given = g.given in
     let s = c.args.self.now in
     let channel = Up c.args.host c.args.object in
-    let any = c.requires.0 in
-    let m = c.in-Some.message.now in
-    let at = may_head given c.args.line c.args.number channel m s any c.in-Some.ensures in
-    let word = up_shared given c.args.line c.args.number c.args.host c.args.object m s any c.requires.1 at in
+    let u = c.expect.new.self in
+    let front_any = may_server given c.args.line c.args.number channel s u u.server c.expect.ensures.same c.requires.0 c.expect.ensures.table in
+    let r = c.prepare.ensures.same in
+    let t = c.prepare.new.self in
+    let any = may_roomed given c.args.line c.args.number channel u t front_any r in
+    let m = c.sent-message.result.now in
+    let at = may_head given c.args.line c.args.number channel c.in-Some-head.index.now m t any c.in-Some-head.ensures c.sent-message.ensures in
+    let word = up_shared given c.args.line c.args.number c.args.host c.args.object m t any c.requires.1 at in
     word.1
 
 pub answer-requires-clause-whole : goal.answer-requires-clause-whole
@@ -55,23 +79,26 @@ answer-requires-clause-whole g c =
     let given = g.given in
     let s = c.args.self.now in
     let channel = Up c.args.host c.args.object in
-    let any = c.requires.0 in
-    let m = c.in-Some.message.now in
-    let at = may_head given c.args.line c.args.number channel m s any c.in-Some.ensures in
-    let word = up_shared given c.args.line c.args.number c.args.host c.args.object m s any c.requires.1 at in
+    let u = c.expect.new.self in
+    let front_any = may_server given c.args.line c.args.number channel s u u.server c.expect.ensures.same c.requires.0 c.expect.ensures.table in
+    let r = c.prepare.ensures.same in
+    let t = c.prepare.new.self in
+    let any = may_roomed given c.args.line c.args.number channel u t front_any r in
+    let m = c.sent-message.result.now in
+    let at = may_head given c.args.line c.args.number channel c.in-Some-head.index.now m t any c.in-Some-head.ensures c.sent-message.ensures in
+    let word = up_shared given c.args.line c.args.number c.args.host c.args.object m t any c.requires.1 at in
     rw any.stands.agrees.server.size word.2
-
-pub returns-in_err-words-clause-spares : goal.returns-in_err-words-clause-spares
-returns-in_err-words-clause-spares g c = same_all g.given.header g.given.outside c.args.self.now _ refl refl refl
 
 pub take_first-requires-clause-there : goal.take_first-requires-clause-there
 take_first-requires-clause-there g c =
     let given = g.given in
     let s = c.args.self.now in
     let channel = Up c.args.host c.args.object in
-    let r = c.reserve.ensures in
-    let t : State = record c.reserve.new.self { server = s.server } in
-    let any = may_answered given c.args.line c.args.number channel s c.reserve.new.self c.answer.new.self c.requires.0 r.hosts r.history r.made r.numbers r.letters r.buffers in
+    let u = c.expect.new.self in
+    let front_any = may_server given c.args.line c.args.number channel s u u.server c.expect.ensures.same c.requires.0 c.expect.ensures.table in
+    let r = c.prepare.ensures.same in
+    let t = c.prepare.new.self in
+    let any = may_roomed given c.args.line c.args.number channel u t front_any r in
     may_there given c.args.line c.args.number channel t any
 
 pub take_first-requires-clause-some : goal.take_first-requires-clause-some
@@ -79,9 +106,11 @@ take_first-requires-clause-some g c =
     let given = g.given in
     let s = c.args.self.now in
     let channel = Up c.args.host c.args.object in
-    let r = c.reserve.ensures in
-    let t : State = record c.reserve.new.self { server = s.server } in
-    let any = may_answered given c.args.line c.args.number channel s c.reserve.new.self c.answer.new.self c.requires.0 r.hosts r.history r.made r.numbers r.letters r.buffers in
+    let u = c.expect.new.self in
+    let front_any = may_server given c.args.line c.args.number channel s u u.server c.expect.ensures.same c.requires.0 c.expect.ensures.table in
+    let r = c.prepare.ensures.same in
+    let t = c.prepare.new.self in
+    let any = may_roomed given c.args.line c.args.number channel u t front_any r in
     λ other is none. any.some (ap (λ (z : Channel). queue z t.history.items) (sym (may_only given c.args.line c.args.number channel other t any is)) ∙ none)
 
 pub commit-requires-clause-can : goal.commit-requires-clause-can
@@ -89,11 +118,13 @@ commit-requires-clause-can g c =
     let given = g.given in
     let s = c.args.self.now in
     let channel = Up c.args.host c.args.object in
-    let r = c.reserve.ensures in
-    let t : State = record c.reserve.new.self { server = s.server } in
-    let any = may_answered given c.args.line c.args.number channel s c.reserve.new.self c.answer.new.self c.requires.0 r.hosts r.history r.made r.numbers r.letters r.buffers in
-    let m = c.in-Some.message.now in
-    let at = may_head given c.args.line c.args.number channel m s c.requires.0 c.in-Some.ensures in
+    let u = c.expect.new.self in
+    let front_any = may_server given c.args.line c.args.number channel s u u.server c.expect.ensures.same c.requires.0 c.expect.ensures.table in
+    let r = c.prepare.ensures.same in
+    let t = c.prepare.new.self in
+    let any = may_roomed given c.args.line c.args.number channel u t front_any r in
+    let m = c.sent-message.result.now in
+    let at = may_head given c.args.line c.args.number channel c.in-Some-head.index.now m t any c.in-Some-head.ensures c.sent-message.ensures in
     let e = c.in_ok-words.ensures in
     let events = c.in_ok-words.words.items in
     let table = c.answer.new.self in
@@ -101,23 +132,18 @@ commit-requires-clause-can g c =
     let told = first_told given c.args.line c.args.number channel m t t c.take_first.new.self any at refl refl c.take_first.ensures.history in
     rw (c.take_first.ensures.hosts.size, any.stands.agrees.size, told) (can_reply_shared given c.args.host c.args.object m t t.server table events reply)
 
-pub commit-requires-clause-room : goal.commit-requires-clause-room
-commit-requires-clause-room g c =
-    let n = c.len.result in
-    let room = subst (λ (n : ℕ). HasRoom n c.reserve.new.self) c.in-Some-checked_add.ensures.1 c.in_ok-reserve.ensures.room in
-    let more = c.take_first.ensures.room n (record { history = room.history; channels = room.channels; numbers = room.numbers; letters = room.letters; buffers = room.buffers }) in
-    subst (λ (n : ℕ). HasRoom n c.take_first.new.self) c.len.ensures more
-
 pub follow-requires : goal.follow-requires
 follow-requires g c =
     let given = g.given in
     let s = c.args.self.now in
     let channel = Up c.args.host c.args.object in
-    let r = c.reserve.ensures in
-    let t : State = record c.reserve.new.self { server = s.server } in
-    let any = may_answered given c.args.line c.args.number channel s c.reserve.new.self c.answer.new.self c.requires.0 r.hosts r.history r.made r.numbers r.letters r.buffers in
-    let m = c.in-Some.message.now in
-    let at = may_head given c.args.line c.args.number channel m s c.requires.0 c.in-Some.ensures in
+    let u = c.expect.new.self in
+    let front_any = may_server given c.args.line c.args.number channel s u u.server c.expect.ensures.same c.requires.0 c.expect.ensures.table in
+    let r = c.prepare.ensures.same in
+    let t = c.prepare.new.self in
+    let any = may_roomed given c.args.line c.args.number channel u t front_any r in
+    let m = c.sent-message.result.now in
+    let at = may_head given c.args.line c.args.number channel c.in-Some-head.index.now m t any c.in-Some-head.ensures c.sent-message.ensures in
     let e = c.in_ok-words.ensures in
     let events = c.in_ok-words.words.items in
     let table = c.answer.new.self in
@@ -132,20 +158,27 @@ follow-requires g c =
     let going : List Event → Going = λ z. record { header = given.header; outside = given.outside; command = given.command; past = given.past; front = z } in
     let done : PagerHasAnswered (going (take n now.history.items)) c.args.host c.gives_frame-washed.result now =
     rw (front, c.gives_frame-washed.ensures)
-    (answered_shared given c.args.host c.args.object m t now t.server table events reply (same_pagers _ _ both) (same_files _ _ both) (same_declared _ _ both ∙ any.stands.agrees.declared) (both.server ∙ r.hosts.server) both.hosts
-    (both.size ∙ any.stands.agrees.size) items c.commit.ensures.posts) in
-    (front_length n now.history.items events (event.Taken channel m) front count, done)
+    (answered_shared given c.args.host c.args.object m t now t.server table events reply (same_pagers _ _ both) (same_files _ _ both) (same_declared _ _ both ∙ any.stands.agrees.declared) both.server both.hosts
+    (both.size ∙ any.stands.agrees.size) items c.commit.ensures.posts (ap (λ (z : Listed Event). z.items) both.log ∙ any.stands.log)) in
+    let ready = c.in_ok-prepare.ensures.ready in
+    let more = c.in_ok-most.most in
+    let few = shared_few given c.args.line c.args.number channel c.args.object c.in-Some-head.index.now c.sent-message.result.now c.in_ok-most.most (length c.in_ok-words.words.items) s u t c.requires.0 any c.expect.ensures.same r.letters r.history r.server c.in-Some-head.ensures c.sent-message.ensures c.in_ok-most.ensures.most c.in_ok-words.ensures.few_told in
+    let room_all = subst (λ (z : ℕ). HasRoom (ready.0 + z) t) (omega (arith, c.in-Some.ensures)) ready.1.room in
+    let room = behind_answers ready.0 more (length events) c.take_first.new.self now few (behind_first ready.0 more t c.take_first.new.self room_all (λ n h d s l. c.take_first.ensures.room n (record { history = h; channels = d; numbers = s; letters = l }))) c.commit.ensures.room in
+    (front_length n now.history.items events (event.Taken channel m) front count, (done, (ready.0, (ready_still ready.0 t now both.hosts both.log ready.1.hosts, room))))
 
 pub returns-clause-took : goal.returns-clause-took
 returns-clause-took g c =
     let given = g.given in
     let s = c.args.self.now in
     let channel = Up c.args.host c.args.object in
-    let r = c.reserve.ensures in
-    let t : State = record c.reserve.new.self { server = s.server } in
-    let any = may_answered given c.args.line c.args.number channel s c.reserve.new.self c.answer.new.self c.requires.0 r.hosts r.history r.made r.numbers r.letters r.buffers in
-    let m = c.in-Some.message.now in
-    let at = may_head given c.args.line c.args.number channel m s c.requires.0 c.in-Some.ensures in
+    let u = c.expect.new.self in
+    let front_any = may_server given c.args.line c.args.number channel s u u.server c.expect.ensures.same c.requires.0 c.expect.ensures.table in
+    let r = c.prepare.ensures.same in
+    let t = c.prepare.new.self in
+    let any = may_roomed given c.args.line c.args.number channel u t front_any r in
+    let m = c.sent-message.result.now in
+    let at = may_head given c.args.line c.args.number channel c.in-Some-head.index.now m t any c.in-Some-head.ensures c.sent-message.ensures in
     let e = c.in_ok-words.ensures in
     let events = c.in_ok-words.words.items in
     let table = c.answer.new.self in
@@ -158,40 +191,20 @@ returns-clause-took g c =
     let count : n ≡ length events + 1 = ap (λ (z : ℕ). z + 1) c.len-fresh.ensures in
     let front : take n now.history.items ≡ events ++ event.Taken channel m ∷ [] = front_is n events (event.Taken channel m) given.past now.history.items count items in
     let going : List Event → Going = λ z. record { header = given.header; outside = given.outside; command = given.command; past = given.past; front = z } in
-    on_ok_weaker c.follow.result
-    (λ followed. took_shared given c.args.host c.args.object m t c.follow.new.self t.server table events reply (subst (λ (z : List Event). Followed (going z) c.follow.new.self) front followed)) c.follow.ensures.followed
-
-pub returns-clause-cut : goal.returns-clause-cut
-returns-clause-cut g c =
-    let given = g.given in
-    let s = c.args.self.now in
-    let channel = Up c.args.host c.args.object in
-    let r = c.reserve.ensures in
-    let t : State = record c.reserve.new.self { server = s.server } in
-    let any = may_answered given c.args.line c.args.number channel s c.reserve.new.self c.answer.new.self c.requires.0 r.hosts r.history r.made r.numbers r.letters r.buffers in
-    let m = c.in-Some.message.now in
-    let at = may_head given c.args.line c.args.number channel m s c.requires.0 c.in-Some.ensures in
-    let e = c.in_ok-words.ensures in
-    let events = c.in_ok-words.words.items in
-    let table = c.answer.new.self in
-    let reply = shared_reply given c.args.line c.args.number c.args.host c.args.object m t table events any c.requires.1 at e.answered e.words in
-    let told = first_told given c.args.line c.args.number channel m t t c.take_first.new.self any at refl refl c.take_first.ensures.history in
-    let both = same_hosts _ _ _ c.take_first.ensures.hosts c.commit.ensures.hosts in
-    let now = c.commit.new.self in
-    let items : now.history.items ≡ events ++ event.Taken channel m ∷ given.past = c.commit.ensures.history ∙ ap (λ (z : List Event). events ++ z) told in
-    let new = c.follow.new.self in
-    on_err_weaker c.follow.result (λ same. inr (cut_shared given c.args.host c.args.object m t t.server table events new.history.items reply (same ∙ items))) c.follow.ensures.err
+    took_shared given c.args.host c.args.object m t c.follow.new.self t.server table events reply (subst (λ (z : List Event). Followed (going z) c.follow.new.self) front c.follow.ensures.followed)
 
 pub returns-clause-spares : goal.returns-clause-spares
 returns-clause-spares g c =
     let given = g.given in
     let s = c.args.self.now in
     let channel = Up c.args.host c.args.object in
-    let r = c.reserve.ensures in
-    let t : State = record c.reserve.new.self { server = s.server } in
-    let any = may_answered given c.args.line c.args.number channel s c.reserve.new.self c.answer.new.self c.requires.0 r.hosts r.history r.made r.numbers r.letters r.buffers in
-    let m = c.in-Some.message.now in
-    let at = may_head given c.args.line c.args.number channel m s c.requires.0 c.in-Some.ensures in
+    let u = c.expect.new.self in
+    let front_any = may_server given c.args.line c.args.number channel s u u.server c.expect.ensures.same c.requires.0 c.expect.ensures.table in
+    let r = c.prepare.ensures.same in
+    let t = c.prepare.new.self in
+    let any = may_roomed given c.args.line c.args.number channel u t front_any r in
+    let m = c.sent-message.result.now in
+    let at = may_head given c.args.line c.args.number channel c.in-Some-head.index.now m t any c.in-Some-head.ensures c.sent-message.ensures in
     let e = c.in_ok-words.ensures in
     let events = c.in_ok-words.words.items in
     let table = c.answer.new.self in
@@ -202,5 +215,99 @@ returns-clause-spares g c =
     let items : now.history.items ≡ events ++ event.Taken channel m ∷ given.past = c.commit.ensures.history ∙ ap (λ (z : List Event). events ++ z) told in
     let shared = spares_shared given c.args.line c.args.number c.args.host c.args.object m t now t.server table events any reply (same_pagers _ _ both) (same_files _ _ both) items in
     let new = c.follow.new.self in
-    let front = same_all given.header given.outside s t (same_pagers _ _ r.hosts) (same_files _ _ r.hosts) r.history in
+    let front = both_spares given.header given.outside s u t (spares_server given.header given.outside s u c.expect.ensures.same) (spares_roomed given.header given.outside u t r) in
     both_spares given.header given.outside s t new front (both_spares given.header given.outside t now new shared c.follow.ensures.spares)
+
+pub commit-requires-clause-room : goal.commit-requires-clause-room
+commit-requires-clause-room g c =
+    let given = g.given in
+    let s = c.args.self.now in
+    let channel = Up c.args.host c.args.object in
+    let u = c.expect.new.self in
+    let front_any = may_server given c.args.line c.args.number channel s u u.server c.expect.ensures.same c.requires.0 c.expect.ensures.table in
+    let r = c.prepare.ensures.same in
+    let t = c.prepare.new.self in
+    let any = may_roomed given c.args.line c.args.number channel u t front_any r in
+    let ready = c.in_ok-prepare.ensures.ready in
+    let more = c.in_ok-most.most in
+    let few = shared_few given c.args.line c.args.number channel c.args.object c.in-Some-head.index.now c.sent-message.result.now c.in_ok-most.most (length c.in_ok-words.words.items) s u t c.requires.0 any c.expect.ensures.same r.letters r.history r.server c.in-Some-head.ensures c.sent-message.ensures c.in_ok-most.ensures.most c.in_ok-words.ensures.few_told in
+    let room_all = subst (λ (z : ℕ). HasRoom (ready.0 + z) t) (omega (arith, c.in-Some.ensures)) ready.1.room in
+    room_for ready.0 more (length c.in_ok-words.words.items) c.take_first.new.self few (behind_first ready.0 more t c.take_first.new.self room_all (λ n h d s l. c.take_first.ensures.room n (record { history = h; channels = d; numbers = s; letters = l })))
+
+pub take_first-requires-clause-room : goal.take_first-requires-clause-room
+take_first-requires-clause-room g c =
+    let ready = c.in_ok-prepare.ensures.ready in
+    let room = room_for ready.0 _ 2 c.prepare.new.self (omega (arith, c.in-Some.ensures)) ready.1.room in
+    record { history = room.history; channels = room.channels; numbers = room.numbers; letters = room.letters }
+
+pub take_first-requires-clause-buffer : goal.take_first-requires-clause-buffer
+take_first-requires-clause-buffer g c = c.in_ok-prepare.ensures.ready.1.buffer
+
+pub expect-requires-clause-channel : goal.expect-requires-clause-channel
+expect-requires-clause-channel g c = may_port g.given c.args.line c.args.number (Up c.args.host c.args.object) c.args.self.now c.requires.0
+
+pub expect-requires-clause-some : goal.expect-requires-clause-some
+expect-requires-clause-some g c = may_some g.given c.args.line c.args.number (Up c.args.host c.args.object) c.args.self.now c.requires.0
+
+pub expect-requires-clause-first : goal.expect-requires-clause-first
+expect-requires-clause-first g c = λ index head.
+    let given = g.given in
+    let s = c.args.self.now in
+    let channel = Up c.args.host c.args.object in
+    let read = may_read given c.args.line c.args.number channel index s c.requires.0 head in
+    let at = may_head given c.args.line c.args.number channel index read.1 s c.requires.0 head (read.0, read.2) in
+    (read.0, read.1, (read.2, (up_shared given c.args.line c.args.number c.args.host c.args.object read.1 s c.requires.0 c.requires.1 at).1))
+
+pub returns-in_err-most-clause-err : goal.returns-in_err-most-clause-err
+returns-in_err-most-clause-err g c =
+    on_err _
+    (still_server g.given.header g.given.outside c.args.self.now c.expect.new.self c.expect.ensures.same c.requires.0.stands c.expect.ensures.table)
+
+pub returns-in_err-most-clause-spares : goal.returns-in_err-most-clause-spares
+returns-in_err-most-clause-spares g c = spares_server g.given.header g.given.outside c.args.self.now c.expect.new.self c.expect.ensures.same
+
+pub returns-in_err-prepare-clause-err : goal.returns-in_err-prepare-clause-err
+returns-in_err-prepare-clause-err g c =
+    on_err _
+    (let given = g.given in
+    let s = c.args.self.now in
+    let channel = Up c.args.host c.args.object in
+    let u = c.expect.new.self in
+    let front_any = may_server given c.args.line c.args.number channel s u u.server c.expect.ensures.same c.requires.0 c.expect.ensures.table in
+    let r = c.prepare.ensures.same in
+    let t = c.prepare.new.self in
+    let any = may_roomed given c.args.line c.args.number channel u t front_any r in
+    still_of given.header given.outside s t any.stands (r.history ∙ ap (λ (z : State). z.history.items) c.expect.ensures.same))
+
+pub returns-in_err-prepare-clause-spares : goal.returns-in_err-prepare-clause-spares
+returns-in_err-prepare-clause-spares g c =
+    let s = c.args.self.now in
+    let u = c.expect.new.self in
+    both_spares g.given.header g.given.outside s u c.prepare.new.self (spares_server g.given.header g.given.outside s u c.expect.ensures.same) (spares_roomed g.given.header g.given.outside u c.prepare.new.self c.prepare.ensures.same)
+
+pub returns-in_err-words-clause-err : goal.returns-in_err-words-clause-err
+returns-in_err-words-clause-err g c =
+    on_err _
+    (let given = g.given in
+    let s = c.args.self.now in
+    let channel = Up c.args.host c.args.object in
+    let u = c.expect.new.self in
+    let front_any = may_server given c.args.line c.args.number channel s u u.server c.expect.ensures.same c.requires.0 c.expect.ensures.table in
+    let r = c.prepare.ensures.same in
+    let t = c.prepare.new.self in
+    let any = may_roomed given c.args.line c.args.number channel u t front_any r in
+    still_of given.header given.outside s _ (stands_server given.header given.outside t _ c.answer.new.self refl c.in_err-words.ensures.err any.stands) (r.history ∙ ap (λ (z : State). z.history.items) c.expect.ensures.same))
+
+pub returns-in_err-words-clause-spares : goal.returns-in_err-words-clause-spares
+returns-in_err-words-clause-spares g c =
+    let s = c.args.self.now in
+    let u = c.expect.new.self in
+    let t = c.prepare.new.self in
+    both_spares g.given.header g.given.outside s t _ (both_spares g.given.header g.given.outside s u t (spares_server g.given.header g.given.outside s u c.expect.ensures.same) (spares_roomed g.given.header g.given.outside u t c.prepare.ensures.same))
+    (same_all g.given.header g.given.outside t _ refl refl refl)
+
+pub returns-in_default-clause-spares : goal.returns-in_default-clause-spares
+returns-in_default-clause-spares g c = spares_server g.given.header g.given.outside c.args.self.now c.expect.new.self c.expect.ensures.same
+
+pub returns-in_default-clause-err : goal.returns-in_default-clause-err
+returns-in_default-clause-err g c = still_server g.given.header g.given.outside c.args.self.now c.expect.new.self c.expect.ensures.same c.requires.0.stands c.expect.ensures.table

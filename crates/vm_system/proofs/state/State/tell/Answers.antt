@@ -9,5 +9,4 @@ returns-clause-room c = λ n has.
       channels = mid.channels;
       numbers = mid.numbers;
       letters = mid.letters;
-      buffers = mid.buffers;
     }

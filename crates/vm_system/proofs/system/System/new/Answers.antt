@@ -27,6 +27,7 @@ returns-clause-stands c = λ outside. new_stands c.args.header.now outside _ (re
   made = c.new-4.ensures;
   buffers = c.new-5.ensures;
   history = c.new-6.ensures;
+  log = c.new-7.ensures;
 })
 
 pub returns-clause-kept : goal.returns-clause-kept
@@ -45,6 +46,7 @@ returns-clause-kept c = λ outside areas told. new_kept c.args.header.now outsid
   made = c.new-4.ensures;
   buffers = c.new-5.ensures;
   history = c.new-6.ensures;
+  log = c.new-7.ensures;
 }) told
 
 pub returns-clause-files : goal.returns-clause-files
@@ -63,4 +65,5 @@ returns-clause-files c = λ outside areas told. new_files_kept c.args.header.now
   made = c.new-4.ensures;
   buffers = c.new-5.ensures;
   history = c.new-6.ensures;
+  log = c.new-7.ensures;
 }) told

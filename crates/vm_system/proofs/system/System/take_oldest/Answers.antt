@@ -1,11 +1,11 @@
-use Rattle.vm_system.proofs.Common.{FilesAreKept, GrowsWithinLimit, HasMore, IsMemoryStop, MayCutOpen, None, State, SystemStands, ap, before_step, subst, sym, takings, ◌+◌, ◌∙◌, ◌≡◌}
+use Rattle.vm_system.proofs.Common.{FilesAreKept, HasMore, None, State, SystemStands, [], ap, subst, sym, takings, undelivered, ◌+◌, ◌∙◌, ◌≡◌}
 use Rattle.vm_model.specs.declared.event.Device.TheVariants as device
 use Rattle.vm_system.proofs.Following.{kept_same}
-use Rattle.vm_system.proofs.Growth.{grew_cut, grew_taken, step_taken, takings_taken}
+use Rattle.vm_system.proofs.Growth.{grew_none, grew_taken, step_taken, takings_taken}
 use Rattle.vm_system.proofs.Numbers.{number_read}
 use Rattle.vm_system.proofs.Resting.{left_at_rest}
-use Rattle.vm_system.proofs.Untouched.{not_up, stops_by}
-use Rattle.vm_system.proofs.Opening.{cuts_settle, keeps_settle, may_settle}
+use Rattle.vm_system.proofs.Untouched.{not_up}
+use Rattle.vm_system.proofs.Opening.{keeps_settle, may_settle, none_left}
 use Rattle.vm_system.proofs.system.System.take_oldest.Goals as goal
 
 pub take-requires : goal.take-requires
@@ -20,16 +20,15 @@ take-requires g c κs within =
     let filed = subst (λ (z : State). FilesAreKept given.header given.outside (g.F.Backing.area c.args.files.now.inner) z) view c.requires.1.1.1.1.0 in
     (within.0, (within.1, (may_settle given c.in-Some.number s stands past more (sym c.oldest.ensures.oldest ∙ c.in-Some.is), (kept, filed))))
 
-pub returns-in_err-take-clause-memory : goal.returns-in_err-take-clause-memory
-returns-in_err-take-clause-memory g c =
+pub returns-in_default-clause-full : goal.returns-in_default-clause-full
+returns-in_default-clause-full g c =
     let given = g.given in
     let s = c.self.inside.state in
+    let items = s.history.items in
     let view : c.args.self.now ≡ s = sym c.self.view_is in
     let stands : SystemStands given.header given.outside s = subst (λ (z : State). SystemStands given.header given.outside z) view c.requires.1.1.0 in
-    let past = c.requires.1.1.1.1.1.0 ∙ ap (λ (z : State). z.history.items) view in
-    let more : HasMore given.command s.history.items = subst (λ (z : State). HasMore given.command z.history.items) view c.requires.1.1.1.1.1.1 in
-    λ none. subst (λ (z : State). MayCutOpen given.header given.outside given.command z.history.items c.take.new.self.history.items) (sym view)
-    (cuts_settle given s c.take.new.self.history.items stands past more c.in_err-take.ensures.cut)
+    let none : undelivered items ≡ [] = none_left s.channels.made s.ports.letters (undelivered items) items stands.agrees.posts.letters c.in_default.ensures.added in
+    (λ is. absurd (cc), λ over. absurd (over.1 (ap (λ (z : State). undelivered z.history.items) view ∙ none)))
 
 pub returns-clause-legal : goal.returns-clause-legal
 returns-clause-legal g c =
@@ -45,14 +44,6 @@ pub returns-clause-rests : goal.returns-clause-rests
 returns-clause-rests g c =
     let took = c.in_ok-take.ensures.took in
     left_at_rest g.given.header g.given.outside c.args.self.now.history.items c.take.new.self took.stands (λ before. took.prompt)
-
-pub returns-in_err-take-clause-grew : goal.returns-in_err-take-clause-grew
-returns-in_err-take-clause-grew g c =
-    let given = g.given in
-    let s = c.self.inside.state in
-    let view : c.args.self.now ≡ s = sym c.self.view_is in
-    let past = c.requires.1.1.1.1.1.0 ∙ ap (λ (z : State). z.history.items) view in
-    subst (λ (z : State). GrowsWithinLimit z.history.items c.take.new.self.history.items) (sym view) (grew_cut given None s.history.items c.take.new.self.history.items c.in_err-take.ensures.cut past)
 
 pub returns-clause-grew : goal.returns-clause-grew
 returns-clause-grew g c = grew_taken g.given None c.args.self.now.history.items c.take.new.self.history.items c.in_ok-take.ensures.took.step c.requires.1.1.1.1.1.0
@@ -85,32 +76,8 @@ returns-clause-files_unasked g c =
     let may = may_settle given c.in-Some.number s stands past more (sym c.oldest.ensures.oldest ∙ c.in-Some.is) in
     λ took none. c.take.ensures.files may.0 (number_read may.0 s.channels.made c.in-Some.number.0 may.1.made) (not_up given device.Files may.0 c.take.new.self.history.items may.1.may c.in_ok-take.ensures.took.step none)
 
-pub returns-in_err-take-clause-stops : goal.returns-in_err-take-clause-stops
-returns-in_err-take-clause-stops g c =
-    let given = g.given in
-    let s = c.self.inside.state in
-    let new = c.take.new.self.history.items in
-    let view : c.args.self.now ≡ s = sym c.self.view_is in
-    let stands : SystemStands given.header given.outside s = subst (λ (z : State). SystemStands given.header given.outside z) view c.requires.1.1.0 in
-    let past = c.requires.1.1.1.1.1.0 ∙ ap (λ (z : State). z.history.items) view in
-    let more : HasMore given.command s.history.items = subst (λ (z : State). HasMore given.command z.history.items) view c.requires.1.1.1.1.1.1 in
-    let may = may_settle given c.in-Some.number s stands past more (sym c.oldest.ensures.oldest ∙ c.in-Some.is) in
-    let made = number_read may.0 s.channels.made c.in-Some.number.0 may.1.made in
-    let e = c.in_err-take.ensures in
-    λ none. subst (λ (z : State). IsMemoryStop given.header device.Paging before_step z.history.items new c.args.paging.now c.take.new.paging) (sym view)
-    (stops_by before_step given device.Paging may.0 s.history.items new c.args.paging.now c.take.new.paging may.1.may (λ step. step_taken given new step ∙ past) (c.take.ensures.paging may.0 made) (e.down may.0 made) (λ same. (e.unmoved same).0) e.cut)
+pub returns-in_err-take-clause-grew : goal.returns-in_err-take-clause-grew
+returns-in_err-take-clause-grew g c = grew_none _ _ (c.in_err-take.ensures.err.1 ∙ ap (λ (z : State). z.history.items) c.self.view_is)
 
-pub returns-in_err-take-clause-files_stops : goal.returns-in_err-take-clause-files_stops
-returns-in_err-take-clause-files_stops g c =
-    let given = g.given in
-    let s = c.self.inside.state in
-    let new = c.take.new.self.history.items in
-    let view : c.args.self.now ≡ s = sym c.self.view_is in
-    let stands : SystemStands given.header given.outside s = subst (λ (z : State). SystemStands given.header given.outside z) view c.requires.1.1.0 in
-    let past = c.requires.1.1.1.1.1.0 ∙ ap (λ (z : State). z.history.items) view in
-    let more : HasMore given.command s.history.items = subst (λ (z : State). HasMore given.command z.history.items) view c.requires.1.1.1.1.1.1 in
-    let may = may_settle given c.in-Some.number s stands past more (sym c.oldest.ensures.oldest ∙ c.in-Some.is) in
-    let made = number_read may.0 s.channels.made c.in-Some.number.0 may.1.made in
-    let e = c.in_err-take.ensures in
-    λ none. subst (λ (z : State). IsMemoryStop given.header device.Files before_step z.history.items new c.args.files.now c.take.new.files) (sym view)
-    (stops_by before_step given device.Files may.0 s.history.items new c.args.files.now c.take.new.files may.1.may (λ step. step_taken given new step ∙ past) (c.take.ensures.files may.0 made) (e.down may.0 made) (λ same. (e.unmoved same).1) e.cut)
+pub returns-in_err-take-clause-refused : goal.returns-in_err-take-clause-refused
+returns-in_err-take-clause-refused g c = λ none. let e = c.in_err-take.ensures in (e.err.0, (e.err.1 ∙ ap (λ (z : State). z.history.items) c.self.view_is, e.unmoved))

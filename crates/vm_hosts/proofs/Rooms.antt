@@ -1,0 +1,157 @@
+-- Each host makes room for a step in its tables: what the kernels stand for stays, and what they add is summed up.
+use Rattle.vm_hosts.proofs.Common.{AllQueued, AllRest, Event, HasQueue, Header, HostTable, Ids, IsReady, IsReadyOn, List, Parts, Rests, Some, [], add-one, ap, arith, inl, inr, length, length-set, most, most_of, refl, rests_roomier, rooms_of, set, slice_get, slice_get_within, subst, suc, sym, with_rooms, with_rooms_of, zero, ℕ, ◌+◌, ◌<◌, ◌∙◌, ◌∷◌, ◌≡◌, ◌≤◌}
+use Rattle.std.specs.Prelude.{Err, Ok, OnErr, Result}
+use Rattle.vm_hosts.proofs.Tables.{put, set_cases}
+
+-- the list of frames that a reclaim passes over is kept for its memory alone
+rests_skip : (header : Header) (h : ℕ) (new old : Parts) (ids : Ids) (past : List Event) → Rests header h old ids past → Rests header h (record old { skip = new.skip }) ids past
+rests_skip header h new old ids past was =
+    let m = was.matches in
+    record {
+      matches =
+          record {
+            ranged = m.ranged;
+            known = m.known;
+            size = m.size;
+            host = m.host;
+            declared = m.declared;
+            fits = record { parts = m.fits.parts; plain = m.fits.plain; buffers = m.fits.buffers };
+            tasks = m.tasks;
+            regions = m.regions;
+            kinds = m.kinds;
+            homes = m.homes;
+            files = m.files;
+            entries = m.entries;
+            shared = m.shared;
+            pages = m.pages;
+            uses = m.uses;
+            controls = m.controls;
+            homeless = m.homeless;
+            settled = m.settled;
+            replied = m.replied;
+            laundry = m.laundry;
+            frames = m.frames;
+          };
+      used = was.used;
+      referred = was.referred;
+      waits = was.waits;
+      order = was.order;
+      idle = was.idle;
+    }
+
+-- a kernel with other rooms stands for the same
+rests_rooms : (header : Header) (h : ℕ) (new old : Parts) (ids : Ids) (past : List Event) → new ≡ with_rooms_of new old → Rests header h old ids past → Rests header h new ids past
+rests_rooms header h new old ids past is was =
+    subst (λ (z : Parts). Rests header h z ids past) (sym is) (rests_skip header h new (with_rooms (rooms_of new) old) ids past (rests_roomier header h (rooms_of new) old ids past was))
+
+queue_rooms : (header : Header) (h : ℕ) (new old : Parts) (past : List Event) → new ≡ with_rooms_of new old → HasQueue header h old past → HasQueue header h new past
+queue_rooms header h new old past is was = subst (λ (z : Parts). HasQueue header h z past) (sym is) was
+
+module _ (hosts : HostTable) (h : ℕ) (new k : Parts) (next : Ids) (at : slice_get hosts.kernels h ≡ Some k) (is : new ≡ with_rooms_of new k) (ids : next ≡ hosts.ids) (header : Header) (past : List Event) where
+  within : h < length hosts.kernels
+  within = slice_get_within hosts.kernels h k at
+
+  rests_at : AllRest header hosts past → (g : ℕ) (m : Parts) → slice_get (set hosts.kernels h new) g ≡ Some m → Rests header g m hosts.ids past
+  rests_at all g m found = elim (set_cases hosts.kernels h g new m within found) [
+    | inl same ↦
+        subst (λ (z : ℕ). Rests header z m hosts.ids past) (sym same.0)
+        (subst (λ (z : Parts). Rests header h z hosts.ids past) same.1 (rests_rooms header h new k hosts.ids past is (all.rests h k at)))
+    | inr apart ↦ all.rests g m apart.1
+  ]
+
+  pub all_rooms : AllRest header hosts past → AllRest header (put hosts h new next) past
+  all_rooms all = record {
+    ranged = all.ranged;
+    count = length-set {A = Parts} hosts.kernels h new ∙ all.count;
+    rests = λ g m found. subst (λ (z : Ids). Rests header g m z past) (sym ids) (rests_at all g m found);
+    sound = all.sound;
+    tasks = all.tasks;
+    homes = all.homes;
+  }
+
+  pub queued_rooms : AllQueued header hosts past → AllQueued header (put hosts h new next) past
+  queued_rooms all g m found = elim (set_cases hosts.kernels h g new m within found) [
+    | inl same ↦
+        subst (λ (z : ℕ). HasQueue header z m past) (sym same.0)
+        (subst (λ (z : Parts). HasQueue header h z past) same.1 (queue_rooms header h new k past is (all h k at)))
+    | inr apart ↦ all g m apart.1
+  ]
+
+-- how many events the kernels below a number add at most
+abbrev pub most_below : ℕ → List Parts → Ids → ℕ
+most_below zero ks ids = 0
+most_below (suc n) [] ids = 0
+most_below (suc n) (k ∷ ks) ids = most k ids + most_below n ks ids
+
+most_step : (ks : List Parts) (n : ℕ) (k : Parts) (ids : Ids) → n < length ks → most_below (suc n) (set ks n k) ids ≡ most_below n ks ids + most k ids
+most_step [] n k ids less = absurd (omega arith)
+most_step (x ∷ ks) zero k ids less = plus_none (most k ids)
+  where
+    plus_none : (a : ℕ) → a + 0 ≡ 0 + a
+    plus_none a = omega arith
+most_step (x ∷ ks) (suc n) k ids less = plus_more (most x ids) (most_below (suc n) (set ks n k) ids) (most_below n ks ids) (most k ids) (most_step ks n k ids (omega (arith, less)))
+  where
+    plus_more : (a b c d : ℕ) → b ≡ c + d → a + b ≡ a + c + d
+    plus_more a b c d is = omega (arith, is)
+
+most_next : (ks : List Parts) (n : ℕ) (k : Parts) (ids : Ids) → n < length ks → most_below (n + 1) (set ks n k) ids ≡ most_below n ks ids + most k ids
+most_next ks n k ids less = subst (λ (z : ℕ). most_below z (set ks n k) ids ≡ most_below n ks ids + most k ids) (sym (add-one n)) (most_step ks n k ids less)
+
+most_all : (ks : List Parts) (ids : Ids) → most_below (length ks) ks ids ≡ most_of ks ids
+most_all [] ids = refl
+most_all (k ∷ ks) ids = ap (λ (z : ℕ). most k ids + z) (most_all ks ids)
+
+-- the hosts below a number have made room
+pub record Reserving (first : HostTable) (n sum : ℕ) (hosts : HostTable) : Type 0 where
+  pub rests : (header : Header) (past : List Event) → AllRest header first past → AllRest header hosts past
+  pub queues : (header : Header) (past : List Event) → AllRest header first past → AllQueued header first past → AllQueued header hosts past
+  pub each : (h : ℕ) (k : Parts) → h < n → slice_get hosts.kernels h ≡ Some k → IsReadyOn k hosts.ids
+  pub adds : sum ≡ most_below n hosts.kernels hosts.ids
+
+pub reserving_start : (hosts : HostTable) → Reserving hosts 0 0 hosts
+reserving_start hosts = record { rests = λ header past all. all; queues = λ header past all queues. queues; each = λ h k less found. absurd (omega arith); adds = refl }
+
+-- one more has tried to
+pub reserving_tried : (first hosts : HostTable) (n sum : ℕ) (new k : Parts) → slice_get hosts.kernels n ≡ Some k → new ≡ with_rooms_of new k → Reserving first n sum hosts
+    → ((header : Header) (past : List Event) → AllRest header first past → AllRest header (put hosts n new hosts.ids) past)
+    × ((header : Header) (past : List Event) → AllRest header first past → AllQueued header first past → AllQueued header (put hosts n new hosts.ids) past)
+reserving_tried first hosts n sum new k at is was = (
+  λ header past all. all_rooms hosts n new k hosts.ids at is refl header past (was.rests header past all),
+  λ header past all queues. queued_rooms hosts n new k hosts.ids at is refl header past (was.queues header past all queues),
+)
+
+pub reserving_next : (first hosts : HostTable) (n sum told after : ℕ) (new k : Parts) → slice_get hosts.kernels n ≡ Some k → new ≡ with_rooms_of new k → IsReadyOn new hosts.ids → told ≡ most new hosts.ids → after ≡ sum + told → Reserving first n sum hosts
+    → Reserving first (n + 1) after (put hosts n new hosts.ids)
+reserving_next first hosts n sum told after new k at is ready tells adds was =
+    let within = slice_get_within hosts.kernels n k at in
+    let tried = reserving_tried first hosts n sum new k at is was in
+    record {
+      rests = tried.0;
+      queues = tried.1;
+      each = λ g m less found. elim (set_cases hosts.kernels n g new m within found) [
+        | inl same ↦ subst (λ (z : Parts). IsReadyOn z hosts.ids) same.1 ready
+        | inr apart ↦ was.each g m (let far = apart.0 in omega (arith, less, far)) apart.1
+      ];
+      adds = adds ∙ (ap (λ (z : ℕ). sum + z) tells ∙ (ap (λ (z : ℕ). z + most new hosts.ids) was.adds ∙ sym (most_next hosts.kernels n new hosts.ids within)));
+    }
+
+pub reserving_done : (first hosts : HostTable) (n sum space : ℕ) → length hosts.kernels ≡ n → sum ≤ space → Reserving first n sum hosts → IsReady sum hosts space
+reserving_done first hosts n sum space all room was =
+    let whole : most_below n hosts.kernels hosts.ids ≡ most_of hosts.kernels hosts.ids = subst (λ (z : ℕ). most_below z hosts.kernels hosts.ids ≡ most_of hosts.kernels hosts.ids) all (most_all hosts.kernels hosts.ids) in
+    let is = was.adds in
+    record {
+      each = λ h k found. was.each h k (let within = slice_get_within hosts.kernels h k found in omega (arith, within, all)) found;
+      enough = subst (λ (z : ℕ). z ≤ sum) (is ∙ whole) (let m : sum ≤ sum = omega arith in m);
+      room = room;
+    }
+
+-- a number that fits, and room in the log for so many events more
+pub ready_whole : (adds events more sum space : ℕ) (hosts : HostTable) → events ≡ adds → sum ≡ events + more → sum ≤ space → ((z : ℕ) → adds ≤ z → IsReady adds hosts z) → IsReady events hosts space × (events + more ≤ space)
+ready_whole adds events more sum space hosts same is fits ready =
+    let within : events + more ≤ space = omega (arith, is, fits) in
+    (subst (λ (z : ℕ). IsReady z hosts space) (sym same) (ready space (omega (arith, within, same))), within)
+
+-- what holds where a call fails
+pub on_err : {A B P : Type 0} (r : Result A B) → P → OnErr r P
+on_err (Ok x) p = tt
+on_err (Err e) p = p

@@ -1,0 +1,231 @@
+-- What the parts of a step spend in front of the accesses that are run, and what they leave for those.
+use Rattle.vm_kernel.proofs.Common.{Bool, Err, Event, Header, Ids, List, Matches, ObjectTable, Ok, OnOk, On, Parts, Result, WaitTable, Waiting, [], ap, arith, false, frame_count, if◌then◌else◌, length, one_again, one_frame, refl, returns_out, suc, true, zero, ℕ, ◌++◌, ◌+◌, ◌*◌, ◌<◌, ◌∙◌, ◌∷◌, ◌≡◌, ◌≤◌}
+use Rattle.std.specs.Prelude.{IsOk, OnErr, vec_capacity}
+use Rattle.vm_base.specs.Listing.{Listed}
+use Rattle.vm_kernel.proofs.Departing.{frames_kept}
+use Rattle.vm_kernel.proofs.Holding.{room_once}
+use Rattle.vm_kernel.specs.Rooms.{HasBuffers, HasMore, HasRoom, IsSkipRoom, KeepsSkip, KeepsSpare, Spends, dues, front, full_dues, leaving, loose_frames, one_if_full, to_run}
+use Rattle.vm_objects.specs.Objects.{object_at}
+use Rattle.vm_parts.specs.Listed.{listed_pages}
+use Rattle.vm_queues.specs.Queues.{EachOnce}
+use Rattle.vm_terminate.specs.Counts.{is_live_row, live_below}
+use Rattle.vm_waits.specs.Waits.{one}
+use Rattle.vm_waits.specs.declared.waiting.On.TheVariants as on
+
+-- the list of frames, kept
+pub skip_kept : (old new : Parts) → new.skip ≡ old.skip → new.waits ≡ old.waits → KeepsSkip old new
+skip_kept old new skip waits = let rows = ap (λ (z : WaitTable). length z.rows) waits in record { skip = skip; fewer = omega (arith, rows) }
+
+pub skip_rows : (k : Parts) (waits : WaitTable) → length waits.rows ≡ length k.waits.rows → KeepsSkip k (record k { waits = waits })
+skip_rows k waits same = record { skip = refl; fewer = omega (arith, same) }
+
+pub skip_none : (k : Parts) → KeepsSkip k k
+skip_none k = record { skip = refl; fewer = omega arith }
+
+pub skip_both : (old mid new : Parts) → KeepsSkip old mid → KeepsSkip mid new → KeepsSkip old new
+skip_both old mid new first next = record { skip = next.skip ∙ first.skip; fewer = omega (arith, first.fewer, next.fewer) }
+
+pub spare_none : (k : Parts) → KeepsSpare k k
+spare_none k = record { buffers = refl; skip = refl; fewer = omega arith }
+
+pub spare_both : (old mid new : Parts) → KeepsSpare old mid → KeepsSpare mid new → KeepsSpare old new
+spare_both old mid new first next = record { buffers = next.buffers ∙ first.buffers; skip = next.skip ∙ first.skip; fewer = omega (arith, first.fewer, next.fewer) }
+
+-- what holds whatever a call answers
+pub any_ok : {A B : Type 0} (r : Result A B) (P : Type 0) → P → OnOk r P
+any_ok (Ok x) P p = p
+any_ok (Err e) P p = tt
+
+-- each access that waits is run once at most
+run_once : (reason : On) → one_again reason + one_frame reason ≤ 1
+run_once on.Again = omega arith
+run_once (on.Ready object) = omega arith
+run_once (on.Page key) = omega arith
+run_once on.Frame = omega arith
+
+pub run_few : (rows : List Waiting) → to_run rows ≤ length rows
+run_few [] = omega arith
+run_few (w ∷ ws) =
+    let here = run_once w.on in
+    let rest = run_few ws in
+    omega (arith, here, rest)
+
+one_few : (b : Bool) → one b ≤ 1
+one_few true = omega arith
+one_few false = omega arith
+
+pub dues_full : (k : Parts) (ids : Ids) → dues (to_run k.waits.rows) k.memory ids.marks ≤ full_dues k ids
+dues_full k ids = by (to_run k.waits.rows) (length k.waits.rows) (loose_frames k.memory) (frame_count k.memory.frames) (one_if_full k.memory.frames) (run_few k.waits.rows) (omega arith) (one_few _)
+  where
+    by : (run rows loose frames full : ℕ) → run ≤ rows → loose ≤ frames → full ≤ 1 → 3 * run + ids.marks + 2 * loose + full ≤ 3 * rows + ids.marks + 2 * frames + 1
+    by run rows loose frames full few most once = omega (arith, few, most, once)
+
+-- no more controls live than were made
+pub live_few : (objects : ObjectTable) (n : ℕ) → live_below objects n ≤ n
+live_few objects zero = omega arith
+live_few objects (suc n) =
+    let here = by (is_live_row (object_at objects n)) in
+    let rest = live_few objects n in
+    omega (arith, here, rest)
+  where
+    by : (b : Bool) → (if b then 1 else 0) ≤ 1
+    by true = omega arith
+    by false = omega arith
+
+-- each page that is here has its own frame
+pub listed_few : {header : Header} {h : ℕ} {k : Parts} {ids : Ids} {past : List Event} → Matches header h k ids [] past → EachOnce (k.memory.queues.inactive ++ k.memory.queues.active) → listed_pages k.memory.queues ≤ frame_count k.memory.frames
+listed_few {header} {h} {k} {ids} {past} m once =
+    let fits = m.frames.fits in
+    let few = room_once k.memory k.laundry (returns_out h past) m.fits.parts m.laundry (omega (arith, fits)) once in
+    omega (arith, few, m.laundry.room)
+
+-- so an end takes less than there is in front
+pub leaving_few : {header : Header} {h : ℕ} {k : Parts} {ids : Ids} {past : List Event} → Matches header h k ids [] past → EachOnce (k.memory.queues.inactive ++ k.memory.queues.active) → 1 + leaving k ids ≤ front k ids
+leaving_few {header} {h} {k} {ids} {past} m once =
+    let listed = listed_few m once in
+    let live = live_few k.memory.objects ids.next_object in
+    by (listed_pages k.memory.queues) (live_below k.memory.objects ids.next_object) (frame_count k.memory.frames) ids.next_object listed live
+  where
+    by : (listed live frames next : ℕ) → listed ≤ frames → live ≤ next → 1 + (listed + live) ≤ 1025 + 2 * frames + next
+    by listed live frames next few fewer = omega (arith, few, fewer)
+
+-- room for some is room for fewer
+pub more_fewer : (a n more : ℕ) (k : Parts) (ids : Ids) (room : ℕ) → HasMore a more k ids room → n ≤ a → HasMore n more k ids room
+more_fewer a n more k ids room had fewer = record {
+  tables = record { log = omega (arith, had.tables.log, fewer); rows = omega (arith, had.tables.rows, fewer); shadows = omega (arith, had.tables.shadows, fewer); objects = omega (arith, had.tables.objects, fewer) };
+  log = omega (arith, had.log, fewer);
+}
+
+module _ (old new : Parts) (was now : Ids) (before after : Listed Event) where
+  -- enough is left for the accesses
+  pub room_behind : (cost more : ℕ) → Spends cost 0 old was before new now after → HasMore cost more old was before.room → HasRoom more new now after.room
+  room_behind cost more is had = by (dues (to_run new.waits.rows) new.memory now.marks) (full_dues new now) (full_dues old was) (dues_full new now) is.room is.rows had.log had.tables.rows
+    where
+      by : (due full first : ℕ) → due ≤ full → before.room + (full + 0) ≤ after.room + (first + cost) → old.memory.resident.spare + (full + 0) ≤ new.memory.resident.spare + (first + cost) → first + (cost + more) ≤ before.room
+          → first + cost ≤ old.memory.resident.spare → HasRoom more new now after.room
+      by due full first few room rows log spare = record {
+        log = omega (arith, dues_full new now, is.room, had.log);
+        rows = omega (arith, dues_full new now, is.rows, had.tables.rows);
+        shadows = omega (arith, is.shadows, had.tables.shadows);
+        objects = omega (arith, is.objects, had.tables.objects);
+      }
+
+  -- and no more was told than that
+  pub told_behind : (cost most : ℕ) → cost ≤ most → Spends cost 0 old was before new now after → length after.items + dues (to_run new.waits.rows) new.memory now.marks ≤ length before.items + (full_dues old was + most)
+  told_behind cost most few is = by (dues (to_run new.waits.rows) new.memory now.marks) (full_dues new now) (full_dues old was) (dues_full new now) is.told
+    where
+      by : (due full first : ℕ) → due ≤ full → length after.items + (full + 0) ≤ length before.items + (first + cost) → length after.items + due ≤ length before.items + (first + most)
+      by due full first fewer told = omega (arith, few, fewer, told)
+
+-- what a command leaves
+abbrev pub Leaves : ℕ → Parts → Ids → ℕ → Type 0
+Leaves more k ids room = HasRoom more k ids room × ((0 < k.memory.buffers.count) × IsSkipRoom k)
+
+module _ {A B : Type 0} (r : Result A B) (old new : Parts) (was now : Ids) (before after : Listed Event) where
+  pub few_ok : (cost most : ℕ) → cost ≤ most → OnOk r (Spends cost 0 old was before new now after) → OnOk r (length after.items + dues (to_run new.waits.rows) new.memory now.marks ≤ length before.items + (full_dues old was + most))
+  few_ok cost most few spends = by r spends
+    where
+      by : (r : Result A B) → OnOk r (Spends cost 0 old was before new now after) → OnOk r (length after.items + dues (to_run new.waits.rows) new.memory now.marks ≤ length before.items + (full_dues old was + most))
+      by (Ok x) is = told_behind old new was now before after cost most few is
+      by (Err e) is = tt
+
+  -- a command that keeps its buffers
+  pub kept_ok : (cost more : ℕ) → cost ≤ front old was → OnOk r (Spends cost 0 old was before new now after) → OnOk r (KeepsSpare old new) → HasMore (front old was) more old was before.room → HasBuffers old → IsSkipRoom old → OnOk r (Leaves more new now after.room)
+  kept_ok cost more few spends kept had has skip = by r spends kept
+    where
+      by : (r : Result A B) → OnOk r (Spends cost 0 old was before new now after) → OnOk r (KeepsSpare old new) → OnOk r (Leaves more new now after.room)
+      by (Ok x) is keeps =
+          let buffers = ap (λ z. z.count) keeps.buffers in
+          let list = ap vec_capacity keeps.skip in
+          (room_behind old new was now before after cost more is (more_fewer (front old was) cost more old was before.room had few), (omega (arith, buffers, has), omega (arith, list, keeps.fewer, skip)))
+      by (Err e) is keeps = tt
+
+  -- one that ends what it can
+  pub ended_ok : (cost more : ℕ) → cost ≤ front old was → OnOk r (Spends cost 0 old was before new now after) → OnOk r (HasBuffers old → HasBuffers new) → OnOk r (KeepsSkip old new) → HasMore (front old was) more old was before.room → HasBuffers old → IsSkipRoom old → OnOk r (Leaves more new now after.room)
+  ended_ok cost more few spends buffers kept had has skip = by r spends buffers kept
+    where
+      by : (r : Result A B) → OnOk r (Spends cost 0 old was before new now after) → OnOk r (HasBuffers old → HasBuffers new) → OnOk r (KeepsSkip old new) → OnOk r (Leaves more new now after.room)
+      by (Ok x) is leaves keeps =
+          let list = ap vec_capacity keeps.skip in
+          let left = leaves has in
+          (room_behind old new was now before after cost more is (more_fewer (front old was) cost more old was before.room had few), (omega (arith, left), omega (arith, list, keeps.fewer, skip)))
+      by (Err e) is leaves keeps = tt
+
+-- an access that begins tells one event, and runs once
+pub begun_spends : (k : Parts) (ids : Ids) (waits : WaitTable) (before after : Listed Event) (e : Event) → length waits.rows ≡ length k.waits.rows + 1 → after.items ≡ e ∷ before.items → before.room ≤ after.room + 1 → Spends 4 0 k ids before (record k { waits = waits }) ids after
+begun_spends k ids waits before after e more told room =
+    let one : length after.items ≡ length before.items + 1 = rw told (omega arith) in
+    record { told = omega (arith, one, more); room = omega (arith, room, more); rows = omega (arith, more); shadows = omega arith; objects = omega arith; marks = omega arith }
+
+pub few_behind : {a b c : ℕ} → a ≤ b → b ≤ c → a ≤ c
+few_behind {a} {b} {c} first next = omega (arith, first, next)
+
+-- what the accesses that are run keep, behind one that began
+pub spare_behind : (k : Parts) (waits : WaitTable) (new : Parts) → length waits.rows ≡ length k.waits.rows + 1 → KeepsSpare (record k { waits = waits }) new
+    → (k.memory.buffers.count ≤ new.memory.buffers.count) × ((vec_capacity k.skip ≤ vec_capacity new.skip) × (length new.waits.rows ≤ length k.waits.rows + 1))
+spare_behind k waits new one keeps =
+    let buffers = ap (λ z. z.count) keeps.buffers in
+    let list = ap vec_capacity keeps.skip in
+    (omega (arith, buffers), (omega (arith, list), omega (arith, one, keeps.fewer)))
+
+-- what any command tells is below that in front
+pub up_to_front : (k : Parts) (ids : Ids) (told n : ℕ) → n ≤ front k ids → told + (full_dues k ids + n) ≤ told + (full_dues k ids + front k ids)
+up_to_front k ids told n few = omega (arith, few)
+
+pub on_err : {A B : Type 0} (r : Result A B) (P Q : Type 0) → (P → Q) → OnErr r P → OnErr r Q
+on_err (Ok x) P Q f p = tt
+on_err (Err e) P Q f p = f p
+
+pub ok_has : {A B : Type 0} (r : Result A B) (P : Type 0) → IsOk r → OnOk r P → P
+ok_has (Ok x) P ok p = p
+ok_has (Err e) P ok p = absurd (let bad : false ≡ true = ok in cc)
+
+-- an access that began leaves what was there
+pub begun_leaves : {A B : Type 0} (r : Result A B) (more : ℕ) (old new : Parts) (now : Ids) (room : ℕ) → OnOk r (HasRoom more new now room)
+    → OnOk r ((old.memory.buffers.count ≤ new.memory.buffers.count) × ((vec_capacity old.skip ≤ vec_capacity new.skip) × (length new.waits.rows ≤ length old.waits.rows + 1))) → HasBuffers old → length old.waits.rows + 1 < vec_capacity old.skip
+    → OnOk r (Leaves more new now room)
+begun_leaves (Ok x) more old new now room left keeps has skip = (left, (omega (arith, keeps.0, has), omega (arith, keeps.1.0, keeps.1.1, skip)))
+begun_leaves (Err e) more old new now room left keeps has skip = tt
+
+-- a list with room for one access more has room
+pub skip_fewer : (k : Parts) → length k.waits.rows + 1 < vec_capacity k.skip → IsSkipRoom k
+skip_fewer k skip = omega (arith, skip)
+
+-- what a word and its waking tell is below that in front
+heeded_few : (k mid : Parts) (ids : Ids) → listed_pages k.memory.queues ≤ frame_count k.memory.frames → listed_pages mid.memory.queues ≤ frame_count mid.memory.frames → frame_count mid.memory.frames ≡ frame_count k.memory.frames
+    → listed_pages k.memory.queues + 1 + leaving mid ids ≤ front k ids
+heeded_few k mid ids few fewer same =
+    by (listed_pages k.memory.queues) (listed_pages mid.memory.queues) (live_below mid.memory.objects ids.next_object) (frame_count k.memory.frames) (frame_count mid.memory.frames) ids.next_object few fewer same (live_few mid.memory.objects ids.next_object)
+  where
+    by : (listed less live frames there next : ℕ) → listed ≤ frames → less ≤ there → there ≡ frames → live ≤ next → listed + 1 + (less + live) ≤ 1025 + 2 * frames + next
+    by listed less live frames there next few fewer same most = omega (arith, few, fewer, same, most)
+
+pub word_few : (k : Parts) (ids : Ids) → listed_pages k.memory.queues ≤ frame_count k.memory.frames → listed_pages k.memory.queues + 1 ≤ front k ids
+word_few k ids few = by (listed_pages k.memory.queues) (frame_count k.memory.frames) ids.next_object few
+  where
+    by : (listed frames next : ℕ) → listed ≤ frames → listed + 1 ≤ 1025 + 2 * frames + next
+    by listed frames next few = omega (arith, few)
+
+pub out_few : (k : Parts) (ids : Ids) → listed_pages k.memory.queues ≤ frame_count k.memory.frames → 2 * listed_pages k.memory.queues ≤ front k ids
+out_few k ids few = by (listed_pages k.memory.queues) (frame_count k.memory.frames) ids.next_object few
+  where
+    by : (listed frames next : ℕ) → listed ≤ frames → 2 * listed ≤ 1025 + 2 * frames + next
+    by listed frames next few = omega (arith, few)
+
+-- what a word and the waking of those that it wakes cost
+abbrev pub heeding : Parts → Parts → Ids → ℕ
+heeding k mid ids = listed_pages k.memory.queues + 1 + leaving mid ids
+
+pub word_costs : (header : Header) (h : ℕ) (k mid : Parts) (ids : Ids) (past past2 : List Event) → Matches header h k ids [] past → Matches header h mid ids [] past2 → EachOnce (k.memory.queues.inactive ++ k.memory.queues.active)
+    → EachOnce (mid.memory.queues.inactive ++ mid.memory.queues.active) → heeding k mid ids ≤ front k ids
+word_costs header h k mid ids past past2 m n once later = heeded_few k mid ids (listed_few m once) (listed_few n later) (frames_kept header h k mid ids ids [] [] past past2 m n)
+
+pub word_spends : (k mid : Parts) (ids : Ids) (before after : Listed Event) → Spends (listed_pages k.memory.queues + 1) 0 k ids before mid ids after → Spends (heeding k mid ids) (leaving mid ids) k ids before mid ids after
+word_spends k mid ids before after is = record {
+  told = omega (arith, is.told);
+  room = omega (arith, is.room);
+  rows = omega (arith, is.rows);
+  shadows = omega (arith, is.shadows);
+  objects = omega (arith, is.objects);
+  marks = omega (arith, is.marks);
+}

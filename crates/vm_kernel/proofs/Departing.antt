@@ -1,0 +1,191 @@
+-- What the end of a region or an object spends, and that there are buffers for it.
+use Rattle.vm_kernel.proofs.Common.{Bool, ChainTable, EndsObject, Entry, Err, Event, Header, HostParts, Ids, IsBrought, IsWhole, LaundryList, List, Mapped, Matches, None, ObjectId, ObjectRow, ObjectTable, Ok, OnOk, Parts, Result, Some, Temp, Woken, [], ap, arith, false, frame_count, inl, inr, length, named, nat_lt, nat_tests, object_at, refl, sym, true, ℕ, ◌++◌, ◌+◌, ◌<◌, ◌∙◌, ◌∷◌, ◌≡◌, ◌≤◌}
+use Rattle.std.proofs.lemmas.Bool.Decides.{eqb_tells}
+use Rattle.vm_base.specs.Listing.{Listed}
+use Rattle.vm_kernel.specs.Rooms.{HasBuffers, IsRoomy, Spends, leaving}
+use Rattle.vm_kernel.proofs.Strands.{LosesRegion}
+use Rattle.vm_locks.specs.Rooms.{LeavesRoom}
+use Rattle.vm_model.specs.declared.event.Event.TheVariants as event
+use Rattle.vm_objects.specs.Objects.{SameRooms}
+use Rattle.vm_parts.specs.Listed.{listed_pages}
+use Rattle.vm_terminate.proofs.Living.{same_put}
+use Rattle.vm_terminate.specs.Counts.{HasBuffers as EnoughBuffers, UsesRoom, live_below}
+use Rattle.vm_terminate.specs.Finishes.{EndsWith}
+use Rattle.vm_waits.specs.Waits.{WaitTable}
+
+module _ (old new : Parts) (was now : Ids) (before after : Listed Event) where
+  -- what is left is less
+  pub spends_less : (a b n : ℕ) → Spends a b old was before new now after → n ≤ b → Spends a n old was before new now after
+  spends_less a b n is less = record {
+    told = omega (arith, is.told, less);
+    room = omega (arith, is.room, less);
+    rows = omega (arith, is.rows, less);
+    shadows = omega (arith, is.shadows, less);
+    objects = omega (arith, is.objects, less);
+    marks = omega (arith, is.marks, less);
+  }
+
+  -- there is room behind a call for what is left
+  pub roomy_on : (a b : ℕ) → Spends a b old was before new now after → IsRoomy a old was before.room → IsRoomy b new now after.room
+  roomy_on a b is had = record {
+    log = omega (arith, is.room, had.log);
+    rows = omega (arith, is.rows, had.rows);
+    shadows = omega (arith, is.shadows, had.shadows);
+    objects = omega (arith, is.objects, had.objects);
+  }
+
+module _ (old new : Parts) (was now : Ids) (before after : Listed Event) where
+  -- or with more in hand
+  pub spends_hand : (a b n : ℕ) → Spends a b old was before new now after → a ≤ n → Spends n b old was before new now after
+  spends_hand a b n is more = record {
+    told = omega (arith, is.told, more);
+    room = omega (arith, is.room, more);
+    rows = omega (arith, is.rows, more);
+    shadows = omega (arith, is.shadows, more);
+    objects = omega (arith, is.objects, more);
+    marks = omega (arith, is.marks, more);
+  }
+
+-- room for some is room for fewer
+pub roomy_fewer : (a n : ℕ) (k : Parts) (ids : Ids) (room : ℕ) → IsRoomy a k ids room → n ≤ a → IsRoomy n k ids room
+roomy_fewer a n k ids room had fewer =
+    record { log = omega (arith, had.log, fewer); rows = omega (arith, had.rows, fewer); shadows = omega (arith, had.shadows, fewer); objects = omega (arith, had.objects, fewer) }
+
+-- each object that ends is one of those made
+pub object_made : (header : Header) (h : ℕ) (past : List Event) (who : Woken) (k : Parts) (ids : Ids) (rest : List Entry) (object : ℕ) → EndsObject header h who k ids rest object past → object < ids.next_object
+object_made header h past who k ids rest object e = by_test (nat_lt object ids.next_object) refl
+  where
+    by_test : (b : Bool) → nat_lt object ids.next_object ≡ b → object < ids.next_object
+    by_test true is = grind (arith, nat_tests)
+    by_test false is =
+        let made = e.runs.matches.regions.object in
+        let none = e.runs.matches.regions.unknown object (let low : ids.next_object ≤ object = grind (arith, nat_tests) in omega (arith, made, low)) in
+        absurd (let bad : None ≡ Some e.row = sym none ∙ e.known in cc)
+
+-- a host keeps its frames
+pub frames_kept : (header : Header) (h : ℕ) (k l : Parts) (ids ids2 : Ids) (gone gone2 : List Entry) (past past2 : List Event) → Matches header h k ids gone past → Matches header h l ids2 gone2 past2 → frame_count l.memory.frames ≡ frame_count k.memory.frames
+frames_kept header h k l ids ids2 gone gone2 past past2 m n =
+    let both : Some (frame_count l.memory.frames) ≡ Some (frame_count k.memory.frames) = sym n.frames.total ∙ m.frames.total in
+    cc
+
+-- where nothing is declared each object is temporary
+pub all_temporary : (header : Header) (h : ℕ) (k : Parts) (ids : Ids) (gone : List Entry) (past : List Event) → Matches header h k ids gone past → length k.declared.items ≡ 0 → (o : ℕ) (row : ObjectRow) → object_at k.memory.objects o ≡ Some row → row.kind ≡ Temp
+all_temporary header h k ids gone past m none o row found =
+    let count : named header ≡ 0 = ap length (sym m.declared) ∙ none in
+    ((m.kinds.kinds o row found).temporary (omega (arith, count))).kind
+
+-- there are buffers for the end of an object
+pub enough_buffers : (header : Header) (h : ℕ) (k : Parts) (ids : Ids) (gone : List Entry) (past : List Event) (object : ℕ) → Matches header h k ids gone past → HasBuffers k → EnoughBuffers k.chains k.memory object
+enough_buffers header h k ids gone past object m has o row ends found other = elim (eqb_tells (length k.declared.items) 0) [
+  | inl none ↦ absurd (other (all_temporary header h k ids gone past m none.1 o row found))
+  | inr some ↦ let has2 : listed_pages k.memory.queues + 1 ≤ k.memory.buffers.count = rw some.0 at has in omega (arith, has2)
+]
+
+-- and as many are left as may be wanted
+pub buffers_left : (header : Header) (h : ℕ) (k : Parts) (ids : Ids) (gone : List Entry) (past : List Event) (object n : ℕ) (memory : HostParts) (chains : ChainTable) (laundry : LaundryList) (before after : ℕ) → Matches header h k ids gone past
+    → UsesRoom n k.memory memory k.chains chains before after
+    → (((o : ℕ) (row : ObjectRow) → EndsWith k.chains k.memory.objects object o → object_at k.memory.objects o ≡ Some row → row.kind ≡ Temp) → k.memory.buffers.count ≤ memory.buffers.count)
+    → HasBuffers k → HasBuffers (record k { memory = memory; chains = chains; laundry = laundry })
+buffers_left header h k ids gone past object n memory chains laundry before after m uses saved has = elim (eqb_tells (length k.declared.items) 0) [
+  | inl none ↦
+      let kept = saved (λ o row ends found. all_temporary header h k ids gone past m none.1 o row found) in
+      rw none.0 (let had : 0 + 1 ≤ k.memory.buffers.count = rw none.0 at has in omega (arith, had, kept))
+  | inr some ↦
+      rw some.0 (let had : listed_pages k.memory.queues + 1 ≤ k.memory.buffers.count = rw some.0 at has in omega (arith, had, uses.buffers))
+]
+
+-- the end of an object spends what left
+pub ended_spends : (header : Header) (h : ℕ) (past : List Event) (who : Woken) (k : Parts) (ids : Ids) (rest : List Entry) (memory : HostParts) (chains : ChainTable) (laundry : LaundryList) (before after : Listed Event)
+    → Matches header h k ids rest (before.items ++ past) → IsWhole header h who (record k { memory = memory; chains = chains; laundry = laundry }) ids rest (after.items ++ past) → UsesRoom ids.next_object k.memory memory k.chains chains before.room after.room
+    → length after.items + (listed_pages memory.queues + live_below memory.objects ids.next_object) ≤ length before.items + (listed_pages k.memory.queues + live_below k.memory.objects ids.next_object)
+    → Spends (leaving k ids) (leaving (record k { memory = memory; chains = chains; laundry = laundry }) ids) k ids before (record k { memory = memory; chains = chains; laundry = laundry }) ids after
+ended_spends header h past who k ids rest memory chains laundry before after m whole uses told =
+    let frames = frames_kept header h k (record k { memory = memory; chains = chains; laundry = laundry }) ids ids rest rest (before.items ++ past) (after.items ++ past) m whole.runs.matches in
+    record {
+      told = omega (arith, frames, told);
+      room = omega (arith, frames, uses.log);
+      rows = omega (arith, frames, uses.rows, uses.fewer, uses.live);
+      shadows = omega (arith, uses.shadows, uses.fewer, uses.live);
+      objects = omega (arith, uses.objects, uses.fewer, uses.live);
+      marks = omega (arith, uses.shadows, uses.fewer, uses.live);
+    }
+
+-- what follows from one fact, and from another that has a premise
+pub premised_ok : {A B : Type 0} (r : Result A B) (P E Q T : Type 0) → (P → (E → Q) → T) → OnOk r P → (E → OnOk r Q) → OnOk r T
+premised_ok (Ok x) P E Q T f p q = f p q
+premised_ok (Err e) P E Q T f p q = tt
+
+-- a region goes, and its top has a reference less: nothing is spent
+pub region_spends : (k : Parts) (ids : Ids) (r left : ℕ) (object : ObjectId) (chains : ChainTable) (objects : ObjectTable) (log : Listed Event) → LosesRegion k r left object chains objects → k.chains.spare ≤ chains.spare → SameRooms k.memory.objects objects
+    → Spends (leaving k ids) (leaving (record k { memory = record k.memory { objects = objects }; chains = chains }) ids) k ids log (record k { memory = record k.memory { objects = objects }; chains = chains }) ids log
+region_spends k ids r left object chains objects log loses spare rooms =
+    let live = same_put k.memory.objects objects loses.row.top.0 loses.was (record (loses.was) { references = left }) loses.known loses.put refl ids.next_object in
+    let rows = rooms.rows in
+    record {
+      told = omega (arith, live);
+      room = omega (arith, live);
+      rows = omega (arith, live);
+      shadows = omega (arith, live, spare);
+      objects = omega (arith, live, rows);
+      marks = omega (arith, live, spare);
+    }
+
+-- a region's count of entries costs nothing
+pub count_spends : (k : Parts) (ids : Ids) (chains : ChainTable) (log : Listed Event) → chains.spare ≡ k.chains.spare → Spends (leaving k ids) (leaving k ids) k ids log (record k { chains = chains }) ids log
+count_spends k ids chains log spare = record { told = omega arith; room = omega arith; rows = omega arith; shadows = omega (arith, spare); objects = omega arith; marks = omega (arith, spare) }
+
+-- the end of a task takes its event
+pub exit_spends : (k : Parts) (ids : Ids) (maps : Mapped) (before after : Listed Event) (e : Event) → after.items ≡ e ∷ before.items → before.room ≤ after.room + 1 → Spends (1 + leaving k ids) (leaving k ids) k ids before (record k { maps = maps }) ids after
+exit_spends k ids maps before after e told room =
+    let one : length after.items ≡ length before.items + 1 = rw told (omega arith) in
+    record { told = omega (arith, one); room = omega (arith, room); rows = omega arith; shadows = omega arith; objects = omega arith; marks = omega arith }
+
+-- an access that fails takes its event, and leaves its row
+pub failed_spends : (k : Parts) (ids : Ids) (waits : WaitTable) (before after : Listed Event) (e : Event) → length waits.rows + 1 ≡ length k.waits.rows → after.items ≡ e ∷ before.items → before.room ≤ after.room + 1
+    → Spends (leaving k ids) (leaving k ids) k ids before (record k { waits = waits }) ids after
+failed_spends k ids waits before after e less told room =
+    let one : length after.items ≡ length before.items + 1 = rw told (omega arith) in
+    record { told = omega (arith, one, less); room = omega (arith, room, less); rows = omega (arith, less); shadows = omega arith; objects = omega arith; marks = omega arith }
+
+-- those that are woken wait in as many rows
+pub woken_spends : (k : Parts) (ids : Ids) (waits : WaitTable) (log : Listed Event) → length waits.rows ≡ length k.waits.rows → Spends (leaving k ids) (leaving k ids) k ids log (record k { waits = waits }) ids log
+woken_spends k ids waits log same = record { told = omega (arith, same); room = omega (arith, same); rows = omega (arith, same); shadows = omega arith; objects = omega arith; marks = omega arith }
+
+-- a lock request that is obeyed takes an event for each page that is here, and one for the reply
+pub obeyed_spends : (header : Header) (h : ℕ) (past past2 : List Event) (k : Parts) (ids : Ids) (memory : HostParts) (laundry : LaundryList) (waits : WaitTable) (before after : Listed Event) → Matches header h k ids [] past
+    → Matches header h (record k { memory = memory; laundry = laundry; waits = waits }) ids [] past2 → LeavesRoom k.memory memory before.room after.room → length after.items ≤ length before.items + listed_pages k.memory.queues + 1 → length waits.rows ≡ length k.waits.rows
+    → Spends (listed_pages k.memory.queues + 1) 0 k ids before (record k { memory = memory; laundry = laundry; waits = waits }) ids after
+obeyed_spends header h past past2 k ids memory laundry waits before after m n leaves told same =
+    let frames = frames_kept header h k (record k { memory = memory; laundry = laundry; waits = waits }) ids ids [] [] past past2 m n in
+    record {
+      told = omega (arith, frames, told, same);
+      room = omega (arith, frames, leaves.log, same);
+      rows = omega (arith, frames, leaves.rows, same);
+      shadows = omega arith;
+      objects = omega (arith, leaves.objects);
+      marks = omega arith;
+    }
+
+-- an answer brings one event at most
+pub brought_few : (events : List Event) → IsBrought events → length events ≤ 1
+brought_few [] brought = omega arith
+brought_few (e ∷ []) brought = omega arith
+brought_few (e ∷ other ∷ more) brought = absurd (two e brought)
+  where
+    two : (e : Event) → IsBrought (e ∷ other ∷ more) → ⊥
+    two (event.Zeroed host object page) brought = brought
+    two another brought = brought
+
+pub heard_spends : (header : Header) (h : ℕ) (past past2 : List Event) (k : Parts) (ids : Ids) (memory : HostParts) (before after : Listed Event) → Matches header h k ids [] past → Matches header h (record k { memory = memory }) ids [] past2 → IsBrought after.items → before.room ≤ after.room + 1
+    → k.memory.resident.spare ≤ memory.resident.spare → k.memory.objects.rows ≤ memory.objects.rows → Spends 1 0 k ids before (record k { memory = memory }) ids after
+heard_spends header h past past2 k ids memory before after m n brought room rows objects =
+    let frames = frames_kept header h k (record k { memory = memory }) ids ids [] [] past past2 m n in
+    let few = brought_few after.items brought in
+    record {
+      told = omega (arith, frames, few);
+      room = omega (arith, frames, room);
+      rows = omega (arith, frames, rows);
+      shadows = omega arith;
+      objects = omega (arith, objects);
+      marks = omega arith;
+    }

@@ -1,0 +1,84 @@
+-- A kernel that has room for a step.
+use Rattle.vm_kernel.proofs.Common.{Err, Event, Header, List, Ok, OnOk, Parts, Result, Rests, Starts, ap, arith, frame_count, length, refl, subst, sym, ℕ, ◌+◌, ◌≡◌, ◌≤◌}
+use Rattle.vm_kernel.proofs.Roomier.{rests_roomier}
+use Rattle.vm_kernel.specs.Rooms.{HasMore, IsReady, IsRoomy, front, most, returning, rooms_of, with_buffers, with_rooms, with_rooms_of}
+use Rattle.vm_model.specs.declared.command.Command.{Command}
+use Rattle.vm_shadow.specs.declared.ids.Ids.{Ids}
+use Rattle.std.specs.Prelude.{OnErr, vec_capacity}
+
+-- a frame that is given back leaves the room
+module _ (k new : Parts) (ids : Ids) (is : new ≡ record k { memory = record k.memory { frames = new.memory.frames }; laundry = new.laundry }) (frames : frame_count new.memory.frames ≡ frame_count k.memory.frames) where
+  pub most_washed : most new ids ≡ most k ids
+  most_washed = let rows = ap (λ (z : Parts). length z.waits.rows) is in omega (arith, rows, frames)
+
+  pub ready_washed : IsReady k ids → IsReady new ids
+  ready_washed was =
+      let same = most_washed in
+      let spare = ap (λ (z : Parts). z.memory.resident.spare) is in
+      let shadows = ap (λ (z : Parts). z.chains.spare) is in
+      let objects = ap (λ (z : Parts). z.memory.objects.rows) is in
+      let marks = ap (λ (z : Parts). z.memory.objects.marks) is in
+      let room = ap (λ (z : Parts). z.waits.room) is in
+      let count = ap (λ (z : Parts). z.memory.buffers.count) is in
+      let here = ap returning is in
+      let rows = ap (λ (z : Parts). length z.waits.rows) is in
+      let capacity = ap (λ (z : Parts). vec_capacity z.skip) is in
+      record {
+        rows = omega (arith, was.rows, same, spare);
+        shadows = omega (arith, was.shadows, same, shadows);
+        objects = omega (arith, was.objects, same, objects);
+        mark = omega (arith, was.mark, marks);
+        access = omega (arith, was.access, room);
+        buffers = omega (arith, was.buffers, here, count);
+        skip = omega (arith, was.skip, rows, capacity);
+      }
+
+-- more buffers leave it, and all that the kernel stands for
+module _ (k : Parts) (count : ℕ) where
+  pub rests_buffers : (header : Header) (h : ℕ) (ids : Ids) (past : List Event) → Rests header h k ids past → Rests header h (with_buffers count k) ids past
+  rests_buffers header h ids past rests = rests_roomier header h (record (rooms_of k) { buffers = count }) k ids past rests
+
+  pub starts_buffers : (header : Header) (h : ℕ) (doing : Command) (past : List Event) (ids : Ids) (events : List Event) → Starts header h doing past k ids events → Starts header h doing past (with_buffers count k) ids events
+  starts_buffers header h doing past ids events was = record {
+    rests = rests_buffers header h ids (past) was.rests;
+    acts = was.acts;
+    range = was.range;
+    accepted = was.accepted;
+    begins = was.begins;
+    nothing = was.nothing;
+  }
+
+  pub ready_buffers : (ids : Ids) → k.memory.buffers.count ≤ count → IsReady k ids → IsReady (with_buffers count k) ids
+  ready_buffers ids more was = record {
+    rows = was.rows;
+    shadows = was.shadows;
+    objects = was.objects;
+    mark = was.mark;
+    access = was.access;
+    buffers = omega (arith, was.buffers, more);
+    skip = was.skip;
+  }
+
+-- there is room for what comes first, and for so many events more
+pub ready_more : (k : Parts) (ids : Ids) (room more : ℕ) → IsReady k ids → most k ids + more ≤ room → HasMore (front k ids) (more + 2) k ids room
+ready_more k ids room more ready log = record {
+  tables = record {
+    log = omega (arith, log);
+    rows = omega (arith, ready.rows);
+    shadows = omega (arith, ready.shadows);
+    objects = omega (arith, ready.objects);
+  };
+  log = omega (arith, log);
+}
+
+-- one kernel with more buffers than another has its rooms, and is else as it was
+pub buffers_rooms : (k new : Parts) (count : ℕ) → new ≡ with_buffers count k → new ≡ with_rooms_of new k
+buffers_rooms k new count is = subst (λ (z : Parts). z ≡ with_rooms_of z k) (sym is) refl
+
+pub on_err : {A B : Type 0} (r : Result A B) (P Q : Type 0) → (P → Q) → OnErr r P → OnErr r Q
+on_err (Ok x) P Q f p = tt
+on_err (Err e) P Q f p = f p
+
+pub always : {A B : Type 0} (r : Result A B) (P : Type 0) → P → OnOk r P
+always (Ok x) P p = p
+always (Err e) P p = tt

@@ -1,0 +1,213 @@
+-- Room for a step: what is still to be told at most where accesses are run again and the queue is served, and what there is room for.
+use Rattle.std.specs.Prelude.{ℕ, zero, suc, ◌+◌, ◌*◌, ◌-◌, ◌<◌, ◌≤◌, ◌≡◌, ◌==◌, ◌&&◌, ◌||◌, Bool, false, true, List, length, Option, Some, None, if◌then◌else◌, vec_capacity, min}
+use Rattle.vm_base.specs.declared.ids.PageKey.{PageKey}
+use Rattle.vm_base.specs.Listing.{Listed}
+use Rattle.vm_frames.specs.Frames.{FrameTable, frame_count, free}
+use Rattle.vm_model.specs.declared.command.Command.{Command}
+use Rattle.vm_model.specs.declared.command.Command.TheVariants as command
+use Rattle.vm_model.specs.declared.event.Event.{Event}
+use Rattle.vm_pageout.specs.declared.answer.Reclaim.{Reclaim}
+use Rattle.vm_pageout.specs.declared.answer.Reclaim.TheVariants as reclaim
+use Rattle.vm_parts.specs.Listed.{listed_pages}
+use Rattle.vm_parts.specs.declared.parts.HostParts.{HostParts}
+use Rattle.vm_resident.specs.Resident.{ResidentTable, owner_of, row_at}
+use Rattle.vm_resident.specs.declared.page_row.PageRow.{PageRow}
+use Rattle.vm_shadow.specs.declared.ids.Ids.{Ids}
+use Rattle.vm_terminate.specs.Counts.{live_below}
+use Rattle.vm_waits.specs.Waits.{count_again, one, queued}
+use Rattle.vm_waits.specs.declared.waiting.Waiting.{Waiting}
+use Rattle.vm_kernel.specs.declared.parts.Parts.{Parts}
+
+-- a page that is here is changed or precious: only a return lets it go
+abbrev pub is_kept : ℕ → Option PageRow → Bool
+is_kept f None = false
+is_kept f (Some row) = row.frame.0 == f && (row.here && (row.dirty || row.precious))
+
+-- the page in a frame is
+abbrev pub keeps_at : ResidentTable → ℕ → Option PageKey → Bool
+keeps_at resident f None = false
+keeps_at resident f (Some key) = is_kept f (row_at resident key.object.0 key.page.0)
+
+-- how many of the frames below a number have such a page
+abbrev pub kept_below : ResidentTable → ℕ → ℕ
+kept_below resident zero = 0
+kept_below resident (suc f) = one (keeps_at resident f (owner_of resident f)) + kept_below resident f
+
+-- how many frames have none
+abbrev pub loose_frames : HostParts → ℕ
+loose_frames parts = frame_count parts.frames - kept_below parts.resident (frame_count parts.frames)
+
+-- one where no frame is free
+abbrev pub one_if_full : FrameTable → ℕ
+one_if_full frames = one (free frames == 0)
+
+-- What is still to be told, at most, where so many accesses are to be run: three events each, the shadow of each region that is marked, and for each frame that may
+-- get another page the end of the page that it has and the page that a slow copy puts there.
+abbrev pub dues : ℕ → HostParts → ℕ → ℕ
+dues accesses parts marks = 3 * accesses + marks + 2 * loose_frames parts + one_if_full parts.frames
+
+-- the accesses that are to be run: those to be run again, and those that wait for a frame
+abbrev pub to_run : List Waiting → ℕ
+to_run rows = count_again rows + queued rows
+
+-- what is still to be told, at most
+abbrev pub dues_of : Parts → Ids → ℕ
+dues_of k ids = dues (to_run k.waits.rows) k.memory ids.marks
+
+-- There is room for what is still to be told, and for so many events more; each event comes with one row of a page at most, and a shadow with one object.
+pub record HasRoom (more : ℕ) (k : Parts) (ids : Ids) (room : ℕ) : Type 0 where
+  pub log : dues (to_run k.waits.rows) k.memory ids.marks + more ≤ room
+  pub rows : dues (to_run k.waits.rows) k.memory ids.marks ≤ k.memory.resident.spare
+  pub shadows : ids.marks ≤ k.chains.spare
+  pub objects : ids.marks ≤ k.memory.objects.rows
+
+-- the same for as many accesses as wait, and whatever the frames have: what is enough behind anything that a command or a message does first
+abbrev pub full_dues : Parts → Ids → ℕ
+full_dues k ids = 3 * length k.waits.rows + ids.marks + 2 * frame_count k.memory.frames + 1
+
+-- there is room for that, and for so many events more
+pub record IsRoomy (more : ℕ) (k : Parts) (ids : Ids) (room : ℕ) : Type 0 where
+  pub log : full_dues k ids + more ≤ room
+  pub rows : full_dues k ids + more ≤ k.memory.resident.spare
+  pub shadows : ids.marks + more ≤ k.chains.spare
+  pub objects : ids.marks + more ≤ k.memory.objects.rows
+
+-- What a call in front of the accesses that are run has told and taken, where it had so much in hand and has so much left: no more events than it had in hand, and no
+-- more rows, shadows, objects and marks.
+pub record Spends (hand left : ℕ) (old : Parts) (was : Ids) (before : Listed Event) (new : Parts) (now : Ids) (after : Listed Event) : Type 0 where
+  pub told : length after.items + (full_dues new now + left) ≤ length before.items + (full_dues old was + hand)
+  pub room : before.room + (full_dues new now + left) ≤ after.room + (full_dues old was + hand)
+  pub rows : old.memory.resident.spare + (full_dues new now + left) ≤ new.memory.resident.spare + (full_dues old was + hand)
+  pub shadows : old.chains.spare + (now.marks + left) ≤ new.chains.spare + (was.marks + hand)
+  pub objects : old.memory.objects.rows + (now.marks + left) ≤ new.memory.objects.rows + (was.marks + hand)
+  pub marks : now.marks + left ≤ was.marks + hand
+
+-- what the end of all regions would tell: each page that is here leaves, and each control that lives ends
+abbrev pub leaving : Parts → Ids → ℕ
+leaving k ids = listed_pages k.memory.queues + live_below k.memory.objects ids.next_object
+
+-- the pages here that an end may send back: none where no object is declared
+abbrev pub returning : Parts → ℕ
+returning k = if length k.declared.items == 0 then 0 else listed_pages k.memory.queues
+
+-- there is a buffer for each of them, and for one page more
+abbrev pub HasBuffers : Parts → Type 0
+HasBuffers k = returning k + 1 ≤ k.memory.buffers.count
+
+-- what any command or message tells at most in front of the accesses that are run: a fork makes a task and copies 256 entries, an exit ends each page and each control,
+-- and a pageout reclaims each page, of which a new pager may be told
+abbrev pub front : Parts → Ids → ℕ
+front k ids = 1025 + 2 * frame_count k.memory.frames + ids.next_object
+
+-- how many events a step adds on the host at most
+abbrev pub most : Parts → Ids → ℕ
+most k ids = full_dues k ids + front k ids + 2
+
+-- there is room for a step in the tables of a host
+pub record IsReady (k : Parts) (ids : Ids) : Type 0 where
+  pub rows : most k ids ≤ k.memory.resident.spare
+  pub shadows : most k ids ≤ k.chains.spare
+  pub objects : most k ids ≤ k.memory.objects.rows
+  pub mark : 0 < k.memory.objects.marks
+  pub access : 0 < k.waits.room
+  pub buffers : HasBuffers k
+  pub skip : length k.waits.rows + 1 < vec_capacity k.skip
+
+-- there is room for so many events in front of the accesses that are run, and behind those in the log for so many events more
+pub record HasMore (first more : ℕ) (k : Parts) (ids : Ids) (room : ℕ) : Type 0 where
+  pub tables : IsRoomy first k ids room
+  pub log : full_dues k ids + (first + more) ≤ room
+
+-- the room of each table of a host
+pub record Rooms : Type 0 where
+  pub rows : ℕ
+  pub objects : ℕ
+  pub marks : ℕ
+  pub shadows : ℕ
+  pub buffers : ℕ
+  pub accesses : ℕ
+
+abbrev pub memory_with : Rooms → HostParts → HostParts
+memory_with rooms memory = record {
+  frames = memory.frames;
+  resident = record memory.resident { spare = rooms.rows };
+  queues = memory.queues;
+  objects = record memory.objects { rows = rooms.objects; marks = rooms.marks };
+  buffers = record memory.buffers { count = rooms.buffers };
+}
+
+-- the kernel with other rooms
+abbrev pub with_rooms : Rooms → Parts → Parts
+with_rooms rooms k = record k {
+  memory = memory_with rooms k.memory;
+  chains = record k.chains { spare = rooms.shadows };
+  waits = record k.waits { room = rooms.accesses };
+}
+
+-- the list of frames that a reclaim passes over has room for one of each access that waits, and one more
+abbrev pub IsSkipRoom : Parts → Type 0
+IsSkipRoom k = length k.waits.rows < vec_capacity k.skip
+
+-- a frame has come free, and each page that is kept stays: an event was told, and no buffer was taken
+pub record FreesFrame (old new : HostParts) (before after : ℕ) : Type 0 where
+  pub log : before ≤ after + 1
+  pub buffers : old.buffers.count ≤ new.buffers.count
+  pub loose : loose_frames new ≡ loose_frames old
+  pub free : free new.frames ≡ free old.frames + 1
+
+-- what a reclaim leaves of the room: it tells two events at most, and takes one buffer at most
+pub record LeavesRoom (answer : Reclaim) (old new : Parts) (before after : ℕ) : Type 0 where
+  pub log : before ≤ after + 2
+  pub buffers : old.memory.buffers.count ≤ new.memory.buffers.count + 1
+  pub freed : answer ≡ reclaim.Freed → FreesFrame old.memory new.memory before after
+  pub rows : old.memory.resident.spare ≤ new.memory.resident.spare
+  pub objects : old.memory.objects.rows ≤ new.memory.objects.rows
+  pub chains : new.chains ≡ old.chains
+  pub skip : vec_capacity old.skip ≤ vec_capacity new.skip
+  pub none : answer ≡ reclaim.Nothing → listed_pages new.memory.queues ≡ listed_pages old.memory.queues
+  pub fewer : (answer ≡ reclaim.Nothing → ⊥) → listed_pages new.memory.queues + 1 ≡ listed_pages old.memory.queues
+
+-- what a reclaim takes of the kernel's own parts is there still: a buffer, and the list of frames with its room
+pub record KeepsSpare (old new : Parts) : Type 0 where
+  pub buffers : new.memory.buffers ≡ old.memory.buffers
+  pub skip : new.skip ≡ old.skip
+  pub fewer : length new.waits.rows ≤ length old.waits.rows
+
+-- the list alone, where pages may be sent back
+pub record KeepsSkip (old new : Parts) : Type 0 where
+  pub skip : new.skip ≡ old.skip
+  pub fewer : length new.waits.rows ≤ length old.waits.rows
+
+-- there is room to serve the queue: for what is still to be told, for a page that is returned, and for so many events more
+pub record ServeRoom (more : ℕ) (k : Parts) (ids : Ids) (room : ℕ) : Type 0 where
+  pub has : HasRoom (more + 2) k ids room
+  pub buffers : 0 < k.memory.buffers.count
+  pub skip : IsSkipRoom k
+
+-- the front wanted a frame: there is room to serve on, or it has to wait, and then there is room for the marks and for so many events more
+pub record StopsRoom (stops : Bool) (more : ℕ) (k : Parts) (ids : Ids) (room : ℕ) : Type 0 where
+  pub on : stops ≡ false → ServeRoom more k ids room
+  pub off : stops ≡ true → ids.marks + more ≤ room
+
+abbrev pub rooms_of : Parts → Rooms
+rooms_of k = record {
+  rows = k.memory.resident.spare;
+  objects = k.memory.objects.rows;
+  marks = k.memory.objects.marks;
+  shadows = k.chains.spare;
+  buffers = k.memory.buffers.count;
+  accesses = k.waits.room;
+}
+
+-- one kernel with the rooms of another
+abbrev pub with_rooms_of : Parts → Parts → Parts
+with_rooms_of new old = record (with_rooms (rooms_of new) old) { skip = new.skip }
+
+-- the kernel with so many buffers
+abbrev pub with_buffers : ℕ → Parts → Parts
+with_buffers count k = record k { memory = record k.memory { buffers = record k.memory.buffers { count = count } } }
+
+-- there are buffers for the pages that a command returns in front of the accesses that are run, and for one more
+abbrev pub HasReturns : Command → Parts → Type 0
+HasReturns (command.Pageout host count) k = min count (listed_pages k.memory.queues) + 1 ≤ k.memory.buffers.count
+HasReturns other k = Unit {0}
