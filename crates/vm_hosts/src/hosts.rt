@@ -38,6 +38,8 @@ pub struct Hosts {
     alloc: Global,
     kernels: Vec<Kernel>,
     ids: Ids,
+    // The room that the log was asked for last.
+    asked: u32,
 }
 
 impl Model for Hosts {
@@ -66,6 +68,7 @@ impl Hosts {
             alloc,
             kernels,
             ids,
+            asked: 0,
         })
     }
 
@@ -84,7 +87,9 @@ impl Hosts {
         let Some(room) = events.checked_add(more) else {
             return Err(NoMemory);
         };
-        log.reserve(room)?;
+        let asked = room_to_ask(self.asked, room);
+        log.reserve(asked)?;
+        self.asked = asked;
         Ok(events)
     }
 
@@ -397,6 +402,17 @@ impl Hosts {
         }
         None
     }
+}
+
+// The room to ask a log for: what it was asked for last, or half as much again as is needed, so that it
+// seldom grows.
+fn room_to_ask(last: u32, needed: u32) -> u32
+    ensures { needed ≤ result }
+{
+    if needed <= last {
+        return last;
+    }
+    needed.saturating_add(needed / 2)
 }
 
 // Whether a host knows an object that is a file.
