@@ -27,8 +27,8 @@ use Rattle.vm_flat.proofs.Holds.{Holds}
 use Rattle.vm_flat.proofs.Law.{holds}
 use Rattle.vm_flat.proofs.Numbers.{NumberedAt}
 use Rattle.vm_flat.proofs.Takings.{TakingKeeps, lives_on_then, takings_keep}
-use Rattle.vm_legal.proofs.Groups.{cut}
-use Rattle.vm_legal.specs.Follows.{FollowsCut}
+use Rattle.vm_legal.proofs.Groups.{any_cut_caused}
+use Rattle.vm_legal.specs.Follows.{FollowsAnyCut}
 use Rattle.vm_model.specs.declared.command.Numbered.{Numbered}
 use Rattle.vm_flat.proofs.Translation.{sustained}
 use Rattle.vm_flat.proofs.Using.{by_cause}
@@ -160,12 +160,12 @@ stays header outside (event.Sent (Down at object control) m ∷ past) caused cur
 stays header outside (e ∷ past) caused current keeps prompt host o p inside file = stays header outside past caused.1 current.1 keeps.1 prompt host o p inside file
 
 -- where no control lives nothing of the file is here
-pub none_here : (header : Header) (outside : Outside) (commands : List Numbered) (history : List Event) → FollowsCut header outside commands history → EachEvent (CopiesCurrent header outside) history → BeforeSteps (Prompt header) history → (host o p : ℕ)
+pub none_here : (header : Header) (outside : Outside) (commands : List Numbered) (history : List Event) → FollowsAnyCut header outside commands history → EachEvent (CopiesCurrent header outside) history → BeforeSteps (Prompt header) history → (host o p : ℕ)
     → host < length header.frames.items → is_file header o ≡ true → live_control host o history ≡ None → (page_on header host o p history).here ≡ false
 none_here header outside commands history follows current prompt host o p inside file none = by (page_on header host o p history).here refl
   where
     lives : (page_on header host o p history).here ≡ true → is_some (live_control host o history) ≡ true
-    lives here = stays header outside history (cut header outside commands history follows) current (takings_keep header outside commands history follows) prompt host o p inside file here
+    lives here = stays header outside history (any_cut_caused header outside commands history follows) current (takings_keep header outside commands history follows) prompt host o p inside file here
 
     by : (b : Bool) → (page_on header host o p history).here ≡ b → b ≡ false
     by true is = absurd (let some = lives is in let bad : false ≡ true = sym (ap is_some none) ∙ some in cc)

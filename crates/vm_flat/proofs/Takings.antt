@@ -30,9 +30,9 @@ use Rattle.vm_model.specs.Regions.{next_object, next_region}
 use Rattle.vm_model.specs.Server.{first as oldest}
 use Rattle.vm_model.specs.Tasks.{entries_of, has_entry, host_of}
 use Rattle.vm_legal.proofs.Inside.{taken_more}
-use Rattle.vm_legal.specs.Follows.{Follows, FollowsCut, IsConsequence, IsGroup, IsRun, clean_head, copy_head, fork_head, head, inherits, inherits_all, map_head, next_behind, opening, say_head, take_head}
+use Rattle.vm_legal.specs.Follows.{Follows, FollowsAnyCut, IsBegun, IsConsequence, IsGroup, IsRun, clean_head, copy_head, fork_head, head, inherits, inherits_all, map_head, next_behind, opening, say_head, take_head}
 use Rattle.vm_legal.specs.Frames.{frames_wired}
-use Rattle.vm_legal.specs.Licences.{HasCause, IsUnheld}
+use Rattle.vm_legal.specs.Licences.{AllLicensed, HasCause, IsUnheld}
 use Rattle.vm_legal.specs.Outside.{Outside}
 use Rattle.vm_legal.specs.Pagers.{Known, known_below}
 use Rattle.vm_legal.specs.Prompt.{Prompt}
@@ -200,9 +200,30 @@ whole_keeps : (header : Header) (outside : Outside) (commands : List Numbered) (
 whole_keeps header outside [] history is = subst (EachEvent TakingKeeps) (sym is) tt
 whole_keeps header outside (numbered ∷ before) history (past, group, is, made, done, follows) = with_group header outside past numbered group history is made (whole_keeps header outside before past follows)
 
-pub takings_keep : (header : Header) (outside : Outside) (commands : List Numbered) (history : List Event) → FollowsCut header outside commands history → EachEvent TakingKeeps history
+-- wherever the history ends
+
+each_behind : (front past : List Event) → EachEvent TakingKeeps (front ++ past) → EachEvent TakingKeeps past
+each_behind [] past each = each
+each_behind (e ∷ front) past each = each_behind front past each.1
+
+begun_keeps : (header : Header) (outside : Outside) (past : List Event) (numbered : Numbered) (group : List Event) (refused : Option Code) (x : Option (List Event)) → head header past numbered.command ≡ x
+    → MatchOption refused
+    (MatchOption x ⊥ (λ first. IsRun header outside past numbered first group ⊎ (IsBegun first group × AllLicensed header outside numbered.command group (event.Line numbered.line ∷ past))))
+    (λ code. (group ≡ []) ⊎ (group ≡ event.Refused code ∷ []))
+    → EachEvent TakingKeeps past → EachEvent TakingKeeps (group ++ event.Line numbered.line ∷ past)
+begun_keeps header outside past numbered group None None is made was = absurd made
+begun_keeps header outside past numbered group None (Some first) is (inl run) was = group_keeps header outside past numbered group None (Some first) is run was
+begun_keeps header outside past numbered group None (Some first) is (inr begun) was =
+    let behind = event.Line numbered.line ∷ past in
+    let whole = behind_line first numbered.line past (is_head header past numbered.command first is) was in
+    each_behind begun.0.rest (group ++ behind) (subst (EachEvent TakingKeeps) (ap (λ z. z ++ behind) begun.0.is ∙ append_assoc begun.0.rest group behind) whole)
+begun_keeps header outside past numbered group (Some code) x is (inl none) was = subst (λ (g : List Event). EachEvent TakingKeeps (g ++ event.Line numbered.line ∷ past)) (sym none) ((λ letter taken. tt), was)
+begun_keeps header outside past numbered group (Some code) x is (inr made) was = group_keeps header outside past numbered group (Some code) x is made was
+
+pub takings_keep : (header : Header) (outside : Outside) (commands : List Numbered) (history : List Event) → FollowsAnyCut header outside commands history → EachEvent TakingKeeps history
 takings_keep header outside [] history is = subst (EachEvent TakingKeeps) (sym is) tt
-takings_keep header outside (numbered ∷ before) history (past, group, is, made, follows) = with_group header outside past numbered group history is made (whole_keeps header outside before past follows)
+takings_keep header outside (numbered ∷ before) history (past, group, is, made, follows) =
+    subst (EachEvent TakingKeeps) (sym is) (begun_keeps header outside past numbered group (refusal header past numbered.command) (head header past numbered.command) refl made (whole_keeps header outside before past follows))
 
 -- in such a step
 

@@ -13,7 +13,7 @@ ghost use Rattle.vm_model.specs.declared.event.Event.{Event};
 ghost use Rattle.vm_model.specs.declared.script.Header.{Header};
 ghost use Rattle.vm_legal.specs.Bytes.{CopiesCurrent, FlatBytes, LoadsCurrent, OwnBytes};
 ghost use Rattle.vm_legal.specs.Flat.{flat_page};
-ghost use Rattle.vm_legal.specs.Follows.{FollowsCut};
+ghost use Rattle.vm_legal.specs.Follows.{FollowsAnyCut};
 ghost use Rattle.vm_legal.specs.Licences.{HasCause, pager_has};
 ghost use Rattle.vm_legal.specs.Outside.{Outside, is_file, is_private, is_said};
 ghost use Rattle.vm_legal.specs.Pagers.{last_return};
@@ -59,7 +59,7 @@ pub fn places_are_local()
 #[tactic(auto, using(crate::proofs::Settled::settled, crate::proofs::Staying::none_here, crate::proofs::Beyond::none_beyond))]
 pub fn files_hold_the_flat_map()
     ensures settled { (header : Header) (outside : Outside) (history : List Event) → EachEvent (HasCause header outside) history → EachEvent (CopiesCurrent header outside) history → (host o p : ℕ) → is_file header o ≡ true → is_said header outside o ≡ false → in_use header host o history ≡ true → p < declared_pages header o → queue (up_port host o) history ≡ [] → ((page_on header host o p history).here ≡ true → (page_on header host o p history).dirty ≡ false) → pager_has header outside host o p history ≡ Some (flat_page header outside o p history) }
-    ensures away { (header : Header) (outside : Outside) (commands : List Numbered) (history : List Event) → FollowsCut header outside commands history → EachEvent (CopiesCurrent header outside) history → BeforeSteps (Prompt header) history → (host o p : ℕ) → host < length header.frames.items → is_file header o ≡ true → live_control host o history ≡ None → (page_on header host o p history).here ≡ false }
+    ensures away { (header : Header) (outside : Outside) (commands : List Numbered) (history : List Event) → FollowsAnyCut header outside commands history → EachEvent (CopiesCurrent header outside) history → BeforeSteps (Prompt header) history → (host o p : ℕ) → host < length header.frames.items → is_file header o ≡ true → live_control host o history ≡ None → (page_on header host o p history).here ≡ false }
     ensures beyond { (header : Header) (outside : Outside) (history : List Event) → EachEvent (HasCause header outside) history → EachEvent (CopiesCurrent header outside) history → (host o p : ℕ) → is_file header o ≡ true → declared_pages header o ≤ p → last_return host o p history ≡ None }
 {}
 

@@ -9,7 +9,7 @@ use Rattle.vm_model.specs.declared.event.Event.{Event}
 use Rattle.vm_model.specs.declared.event.Event.TheVariants as event
 use Rattle.vm_model.specs.declared.script.Header.{Header}
 use Rattle.vm_model.specs.Moments.{EachEvent}
-use Rattle.vm_legal.specs.Follows.{Follows, FollowsAnyCut, FollowsBy, FollowsCut, FollowsCutBy, FollowsSoFar, FollowsSoFarBy, IsBegun, IsDone, IsGroup, IsRun, SoFarBy, head}
+use Rattle.vm_legal.specs.Follows.{Follows, FollowsAnyCut, FollowsBy, FollowsSoFar, FollowsSoFarBy, IsBegun, IsDone, IsGroup, IsRun, SoFarBy, head}
 use Rattle.vm_legal.specs.Licences.{AllLicensed, HasCause}
 use Rattle.vm_legal.specs.Outside.{Outside}
 use Rattle.vm_legal.specs.Refusal.{refusal}
@@ -36,20 +36,9 @@ pub whole : (header : Header) (outside : Outside) (commands : List Numbered) (hi
 whole header outside [] history is = subst (λ (h : List Event). EachEvent (HasCause header outside) h) (sym is) tt
 whole header outside (numbered ∷ before) history (past, group, is, made, done, follows) = with_group header outside past numbered group history is made (whole header outside before past follows)
 
-pub cut : (header : Header) (outside : Outside) (commands : List Numbered) (history : List Event) → FollowsCut header outside commands history → EachEvent (HasCause header outside) history
-cut header outside [] history is = subst (λ (h : List Event). EachEvent (HasCause header outside) h) (sym is) tt
-cut header outside (numbered ∷ before) history (past, group, is, made, follows) = with_group header outside past numbered group history is made (whole header outside before past follows)
-
--- what follows its commands so far also follows them where its last step may be cut
-pub cut_by : (header : Header) (all done : Command → List Event → List Event → Type 0) (commands : List Numbered) (history : List Event) → FollowsSoFarBy all done header commands history → FollowsCutBy all done header commands history
-cut_by header all done [] history is = is
-cut_by header all done (numbered ∷ before) history (past, group, is, made, whole, follows) = (past, group, is, made, follows)
-
-pub cut_of : (header : Header) (outside : Outside) (commands : List Numbered) (history : List Event) → FollowsSoFar header outside commands history → FollowsCut header outside commands history
-cut_of header outside commands history follows = cut_by header (AllLicensed header outside) (IsDone header) commands history follows
-
 pub so_far : (header : Header) (outside : Outside) (commands : List Numbered) (history : List Event) → FollowsSoFar header outside commands history → EachEvent (HasCause header outside) history
-so_far header outside commands history follows = cut header outside commands history (cut_of header outside commands history follows)
+so_far header outside [] history is = subst (λ (h : List Event). EachEvent (HasCause header outside) h) (sym is) tt
+so_far header outside (numbered ∷ before) history (past, group, is, made, done, follows) = with_group header outside past numbered group history is made (whole header outside before past follows)
 
 -- and what follows them whole does so as far as it goes
 

@@ -15,9 +15,9 @@ use Rattle.vm_model.specs.declared.message.Message.{Message}
 use Rattle.vm_model.specs.declared.message.Message.TheVariants as message
 use Rattle.vm_model.specs.declared.script.Header.{Header}
 use Rattle.vm_model.specs.declared.script.Script.{Script}
-use Rattle.vm_legal.proofs.Groups.{cut_by, open_by}
-use Rattle.vm_legal.specs.Follows.{Follows, FollowsAnyCut, FollowsBy, FollowsCut, FollowsCutBy, FollowsSoFar, FollowsSoFarBy, IsBegun, IsDone, IsRun, IsRunBy, SoFarBy, head}
-use Rattle.vm_legal.specs.InTurn.{AllInTurn, CausedInTurn, DeviceFailsInTurn, FollowsCutInTurn, FollowsInTurn, FollowsSoFarInTurn, IsDoneInTurn, SendsInTurn}
+use Rattle.vm_legal.proofs.Groups.{open_by}
+use Rattle.vm_legal.specs.Follows.{Follows, FollowsAnyCut, FollowsBy, FollowsSoFar, FollowsSoFarBy, IsBegun, IsDone, IsRun, IsRunBy, SoFarBy, head}
+use Rattle.vm_legal.specs.InTurn.{AllInTurn, CausedInTurn, DeviceFailsInTurn, FollowsInTurn, FollowsSoFarInTurn, IsDoneInTurn, SendsInTurn}
 use Rattle.vm_legal.specs.Legal.{CanonicalFor, CanonicalSoFar, LegalFor, LegalSoFar}
 use Rattle.vm_legal.specs.Licences.{AllLicensed, Caused, DeviceFails, MaySendUp}
 use Rattle.vm_legal.specs.Outside.{Outside}
@@ -75,10 +75,6 @@ module _ (header : Header) (all all2 done done2 : Command → List Event → Lis
     follows_weaker before past follows,
   )
 
-  pub cut_weaker : (commands : List Numbered) (history : List Event) → FollowsCutBy all done header commands history → FollowsCutBy all2 done2 header commands history
-  cut_weaker [] history follows = follows
-  cut_weaker (numbered ∷ before) history (past, group, is, made, follows) = (past, group, is, group_weaker past numbered group (refusal header past numbered.command) (head header past numbered.command) made, follows_weaker before past follows)
-
 -- whole but for a settle that may be open
 so_far_weaker : (header : Header) (all all2 done done2 : Command → List Event → List Event → Type 0) → ((doing : Command) (group past : List Event) → all doing group past → all2 doing group past) → ((doing : Command) (group past : List Event) → done doing group past → done2 doing group past)
     → (commands : List Numbered) (history : List Event) → FollowsSoFarBy all done header commands history → FollowsSoFarBy all2 done2 header commands history
@@ -98,9 +94,6 @@ follows_of header outside commands history follows = follows_weaker header (AllI
 pub so_far_of : (header : Header) (outside : Outside) (commands : List Numbered) (history : List Event) → FollowsSoFarInTurn header outside commands history → FollowsSoFar header outside commands history
 so_far_of header outside commands history follows = so_far_weaker header (AllInTurn header outside) (AllLicensed header outside) (IsDoneInTurn header) (IsDone header) (all_of header outside) (done_of header) commands history follows
 
-pub cut_of : (header : Header) (outside : Outside) (commands : List Numbered) (history : List Event) → FollowsCutInTurn header outside commands history → FollowsCut header outside commands history
-cut_of header outside commands history follows = cut_weaker header (AllInTurn header outside) (AllLicensed header outside) (IsDoneInTurn header) (IsDone header) (all_of header outside) (done_of header) commands history follows
-
 pub legal_of : (header : Header) (outside : Outside) (commands : List Numbered) (history : List Event) → CanonicalFor header outside commands history → LegalFor header outside commands history
 legal_of header outside commands history is = record { follows = follows_of header outside commands history is.follows; holds = is.holds; rests = is.rests }
 
@@ -108,16 +101,13 @@ pub legal_so_far : (script : Script) (outside : Outside) (history : List Event) 
 legal_so_far script outside history is =
     record { later = is.later; run = is.run; order = is.order; follows = so_far_of script.header outside is.run history is.follows; holds = is.holds; rests = is.rests }
 
-pub cut_in_turn : (header : Header) (outside : Outside) (commands : List Numbered) (history : List Event) → FollowsSoFarInTurn header outside commands history → FollowsCutInTurn header outside commands history
-cut_in_turn header outside commands history follows = cut_by header (AllInTurn header outside) (IsDoneInTurn header) commands history follows
-
 pub open_in_turn : (header : Header) (outside : Outside) (commands : List Numbered) (history : List Event) → FollowsInTurn header outside commands history → FollowsSoFarInTurn header outside commands history
 open_in_turn header outside commands history follows = open_by header (AllInTurn header outside) (IsDoneInTurn header) commands history follows
 
 -- a history that is cut at a step's end is cut at an event
-pub any_cut : (header : Header) (outside : Outside) (commands : List Numbered) (history : List Event) → FollowsCut header outside commands history → FollowsAnyCut header outside commands history
+pub any_cut : (header : Header) (outside : Outside) (commands : List Numbered) (history : List Event) → FollowsSoFar header outside commands history → FollowsAnyCut header outside commands history
 any_cut header outside [] history follows = follows
-any_cut header outside (numbered ∷ before) history (past, group, is, made, follows) = (past, group, is, by (refusal header past numbered.command) (head header past numbered.command) made, follows)
+any_cut header outside (numbered ∷ before) history (past, group, is, made, done, follows) = (past, group, is, by (refusal header past numbered.command) (head header past numbered.command) made, follows)
   where
     by : (refused : Option Code) (first : Option (List Event))
         → MatchOption refused (MatchOption first ⊥ (λ events. IsRun header outside past numbered events group)) (λ code. group ≡ event.Refused code ∷ [])

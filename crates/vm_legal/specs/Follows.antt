@@ -254,18 +254,6 @@ FollowsSoFarBy all done header (numbered ∷ before) history =
 abbrev pub FollowsSoFar : Header → Outside → List Numbered → List Event → Type 0
 FollowsSoFar header outside commands history = FollowsSoFarBy (AllLicensed header outside) (IsDone header) header commands history
 
--- the same, but that the last step may be cut: whatever the last command is, it may have more to do
-abbrev pub FollowsCutBy : (all done : Command → List Event → List Event → Type 0) → Header → List Numbered → List Event → Type 0
-FollowsCutBy all done header [] history = history ≡ []
-FollowsCutBy all done header (numbered ∷ before) history =
-    (past : List Event) × (group : List Event)
-    × (history ≡ group ++ event.Line numbered.line ∷ past)
-    × IsGroupBy all header past numbered group
-    × FollowsBy all done header before past
-
-abbrev pub FollowsCut : Header → Outside → List Numbered → List Event → Type 0
-FollowsCut header outside commands history = FollowsCutBy (AllLicensed header outside) (IsDone header) header commands history
-
 -- a head that was begun: the group is its first events
 pub record IsBegun (first group : List Event) : Type 0 where
   pub rest : List Event

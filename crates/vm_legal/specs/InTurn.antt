@@ -18,7 +18,7 @@ use Rattle.vm_model.specs.Server.{Wanting, first, line, wants_write}
 use Rattle.vm_model.specs.Side.{side}
 use Rattle.vm_model.specs.Waiting.{Access, is_store}
 use Rattle.vm_legal.specs.Accesses.{Comes, FindsPage, HasPlace, Waits, begun_at, names, page_of}
-use Rattle.vm_legal.specs.Follows.{FollowsBy, FollowsCutBy, FollowsSoFarBy, IsDone, IsGroupBy, IsRunBy, IsWholeBy, SoFarBy}
+use Rattle.vm_legal.specs.Follows.{FollowsBy, FollowsSoFarBy, IsDone, IsGroupBy, IsRunBy, IsWholeBy, SoFarBy}
 use Rattle.vm_legal.specs.Frames.{frames_free}
 use Rattle.vm_legal.specs.Licences.{Caused, DeviceFails, DropCause, Drops, Ended, Fails, GivesBack, HasSlot, IsBackingOf, IsBehind, MaySendUp, ReturnCause, TakesReturn, Unreached}
 use Rattle.vm_legal.specs.Outside.{Outside, is_shared}
@@ -165,6 +165,3 @@ FollowsInTurn header outside commands history = FollowsBy (AllInTurn header outs
 
 abbrev pub FollowsSoFarInTurn : Header → Outside → List Numbered → List Event → Type 0
 FollowsSoFarInTurn header outside commands history = FollowsSoFarBy (AllInTurn header outside) (IsDoneInTurn header) header commands history
-
-abbrev pub FollowsCutInTurn : Header → Outside → List Numbered → List Event → Type 0
-FollowsCutInTurn header outside commands history = FollowsCutBy (AllInTurn header outside) (IsDoneInTurn header) header commands history

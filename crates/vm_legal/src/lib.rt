@@ -23,8 +23,7 @@ ghost use Rattle.vm_model.specs.declared.script.Header.{Header};
 ghost use Rattle.vm_model.specs.declared.script.Script.{Script};
 ghost use Rattle.vm_model.specs.Waiting.{Copying, Target, copy_target, waiting};
 ghost use Rattle.vm_legal.specs.Debts.{IsPaid};
-ghost use Rattle.vm_legal.specs.Follows.{Follows, FollowsAnyCut, FollowsCut, FollowsSoFar, IsDone, IsRun};
-ghost use Rattle.vm_legal.specs.InTurn.{FollowsCutInTurn};
+ghost use Rattle.vm_legal.specs.Follows.{Follows, FollowsAnyCut, FollowsSoFar, IsDone, IsRun};
 ghost use Rattle.vm_legal.specs.Legal.{CanonicalFor, CanonicalSoFar, LegalFor, LegalSoFar};
 ghost use Rattle.vm_legal.specs.Licences.{HasCause, Caused, Licensed, LockRequest, gives_back, is_answered_over, lock_taken, owed};
 ghost use Rattle.vm_legal.specs.Outside.{Outside};
@@ -36,23 +35,21 @@ ghost use Rattle.vm_legal.specs.Stretches.{EachOf};
 ghost use Rattle.vm_legal.specs.Walks.{page_on};
 
 /// Each event of a history that commands made has its cause: laws of histories whose events have their causes speak of what the
-/// program writes, also where its last command has more to do, or its last step is cut.
+/// program writes, also where its last command has more to do, and of what is left of it behind any of its events.
 #[tactic(auto, using(crate::proofs::Groups::any_cut_caused))]
 pub fn groups_have_causes()
     ensures whole { (header : Header) (outside : Outside) (commands : List Numbered) (history : List Event) → Follows header outside commands history → EachEvent (HasCause header outside) history }
     ensures so_far { (header : Header) (outside : Outside) (commands : List Numbered) (history : List Event) → FollowsSoFar header outside commands history → EachEvent (HasCause header outside) history }
-    ensures cut { (header : Header) (outside : Outside) (commands : List Numbered) (history : List Event) → FollowsCut header outside commands history → EachEvent (HasCause header outside) history }
     ensures any_cut { (header : Header) (outside : Outside) (commands : List Numbered) (history : List Event) → FollowsAnyCut header outside commands history → EachEvent (HasCause header outside) history }
 {}
 
-/// What the rules give for a script is legal, so far as it goes too. A history that ends at a step's end, or inside one that
-/// its kernel cut, is one that may end behind any event.
+/// What the rules give for a script is legal, so far as it goes too. A history that ends at a step's end is one that may end
+/// behind any event.
 #[tactic(auto, using(crate::proofs::Turns::legal_so_far, crate::proofs::Turns::any_cut))]
 pub fn canonical_histories_are_legal()
     ensures whole { (header : Header) (outside : Outside) (commands : List Numbered) (history : List Event) → CanonicalFor header outside commands history → LegalFor header outside commands history }
     ensures so_far { (script : Script) (outside : Outside) (history : List Event) → CanonicalSoFar script outside history → LegalSoFar script outside history }
-    ensures cut { (header : Header) (outside : Outside) (commands : List Numbered) (history : List Event) → FollowsCutInTurn header outside commands history → FollowsCut header outside commands history }
-    ensures any_cut { (header : Header) (outside : Outside) (commands : List Numbered) (history : List Event) → FollowsCut header outside commands history → FollowsAnyCut header outside commands history }
+    ensures any_cut { (header : Header) (outside : Outside) (commands : List Numbered) (history : List Event) → FollowsSoFar header outside commands history → FollowsAnyCut header outside commands history }
 {}
 
 /// A pageout isn't done where something else stands in its group behind fewer reclaims than it wants, while more could be reclaimed all along:

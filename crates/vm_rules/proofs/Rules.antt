@@ -5,10 +5,10 @@ use Rattle.vm_model.specs.declared.event.Event.{Event}
 use Rattle.vm_model.specs.declared.script.Header.{Header}
 use Rattle.vm_model.specs.declared.script.Script.{Script}
 use Rattle.vm_model.specs.Moments.{EachEvent, EachMoment}
-use Rattle.vm_legal.proofs.Groups.{any_cut_caused, cut_of, open_of}
+use Rattle.vm_legal.proofs.Groups.{any_cut_caused, open_of}
 use Rattle.vm_legal.proofs.Turns.{any_cut, legal_of, so_far_of}
 use Rattle.vm_legal.specs.Bytes.{FlatBytes, OwnBytes}
-use Rattle.vm_legal.specs.Follows.{FollowsCut, FollowsSoFar}
+use Rattle.vm_legal.specs.Follows.{FollowsAnyCut, FollowsSoFar}
 use Rattle.vm_legal.specs.Legal.{CanonicalFor, CanonicalSoFar, HasOneWriter, Holds, LegalFor, LegalSoFar}
 use Rattle.vm_legal.specs.Licences.{HasCause}
 use Rattle.vm_legal.specs.Outside.{NoneIsTemporary, Outside}
@@ -43,9 +43,9 @@ holds_of header outside run history kinds tests =
 
 -- what legal histories have of that
 
-pub cut_passes : (header : Header) (outside : Outside) (commands : List Numbered) (history : List Event) → FollowsCut header outside commands history → Holds header outside history → Tests header outside commands history
+pub cut_passes : (header : Header) (outside : Outside) (commands : List Numbered) (history : List Event) → FollowsAnyCut header outside commands history → Holds header outside history → Tests header outside commands history
 cut_passes header outside commands history follows holds = record {
-  follows = any_cut header outside commands history follows;
+  follows = follows;
   own_bytes = holds.own_bytes;
   frames = holds.frames;
   prompt = holds.prompt;
@@ -54,7 +54,7 @@ cut_passes header outside commands history follows holds = record {
 }
 
 passes : (header : Header) (outside : Outside) (run : List Numbered) (history : List Event) → FollowsSoFar header outside run history → Holds header outside history → Tests header outside run history
-passes header outside run history follows holds = cut_passes header outside run history (cut_of header outside run history follows) holds
+passes header outside run history follows holds = cut_passes header outside run history (any_cut header outside run history follows) holds
 
 pub legal_passes : (header : Header) (outside : Outside) (commands : List Numbered) (history : List Event) → LegalFor header outside commands history → Tests header outside commands history
 legal_passes header outside commands history is = passes header outside commands history (open_of header outside commands history is.follows) is.holds

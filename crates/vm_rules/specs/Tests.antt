@@ -11,7 +11,7 @@ use Rattle.vm_legal.specs.Frames.{FramesSuffice}
 use Rattle.vm_legal.specs.Outside.{Outside}
 use Rattle.vm_legal.specs.Prompt.{AllServed, Prompt}
 
--- each event, each moment and each step of the history is as the rules want it, for the commands that were run; the last step may be cut
+-- each event, each moment and each step of the history is as the rules want it, for the commands that were run; it may end behind any event
 pub record Tests (header : Header) (outside : Outside) (run : List Numbered) (history : List Event) : Type 0 where
   -- the groups are those of the commands, wherever the history ends, and each event has its cause
   pub follows : FollowsAnyCut header outside run history

@@ -9,7 +9,7 @@ ghost use Rattle.vm_model.specs.declared.command.Numbered.{Numbered};
 ghost use Rattle.vm_model.specs.declared.event.Event.{Event};
 ghost use Rattle.vm_model.specs.declared.script.Header.{Header};
 ghost use Rattle.vm_model.specs.declared.script.Script.{Script};
-ghost use Rattle.vm_legal.specs.Follows.{FollowsCut};
+ghost use Rattle.vm_legal.specs.Follows.{FollowsAnyCut};
 ghost use Rattle.vm_legal.specs.Legal.{CanonicalFor, CanonicalSoFar, Holds, LegalFor, LegalSoFar};
 ghost use Rattle.vm_legal.specs.Outside.{NoneIsTemporary, Outside};
 ghost use Rattle.vm_rules.specs.Tests.{Tests};
@@ -30,12 +30,12 @@ pub fn rules_are_all()
 {}
 
 /// Nothing is tested that a legal history might lack, so each history that the rules give for its commands passes, so far as it
-/// goes too. One whose last step was cut passes where all holds of it that holds of a legal one.
+/// goes too. One that ends behind any event passes where all holds of it that holds of a legal one.
 #[tactic(auto, using(crate::proofs::Rules::legal_passes, crate::proofs::Rules::canonical_passes, crate::proofs::Rules::legal_so_far_passes, crate::proofs::Rules::canonical_so_far_passes))]
 pub fn legal_histories_pass()
     ensures legal { (header : Header) (outside : Outside) (commands : List Numbered) (history : List Event) → LegalFor header outside commands history → Tests header outside commands history }
     ensures legal_so_far { (script : Script) (outside : Outside) (history : List Event) (is : LegalSoFar script outside history) → Tests script.header outside is.run history }
-    ensures cut { (header : Header) (outside : Outside) (commands : List Numbered) (history : List Event) → FollowsCut header outside commands history → Holds header outside history → Tests header outside commands history }
+    ensures cut { (header : Header) (outside : Outside) (commands : List Numbered) (history : List Event) → FollowsAnyCut header outside commands history → Holds header outside history → Tests header outside commands history }
     ensures canonical { (header : Header) (outside : Outside) (commands : List Numbered) (history : List Event) → CanonicalFor header outside commands history → Tests header outside commands history }
     ensures canonical_so_far { (script : Script) (outside : Outside) (history : List Event) (is : CanonicalSoFar script outside history) → Tests script.header outside is.run history }
 {}

@@ -49,7 +49,7 @@ pub use Rattle.vm_kernel.specs.Begun.{CreatesHere, IsLined, KernelSays, SomeKern
 pub use Rattle.vm_kernel.specs.Matches.{IsRanged, host_id}
 pub use Rattle.vm_kernel.specs.Taking.{IsAbsencePaid, IsErrorPaid, IsLockPaid, IsWord}
 pub use Rattle.vm_legal.specs.InTurn.{EndsAll}
-pub use Rattle.vm_legal.proofs.Groups.{cut_of, open_of, so_far}
+pub use Rattle.vm_legal.proofs.Groups.{open_of, so_far}
 pub use Rattle.vm_legal.proofs.Inside.{before_more, taken_more, takings_more}
 pub use Rattle.vm_legal.proofs.Locks.{no_request}
 pub use Rattle.vm_legal.proofs.Paying.{lock_more, paid_more}

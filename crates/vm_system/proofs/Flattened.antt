@@ -15,7 +15,7 @@ use Rattle.vm_model.specs.Channels.{up_port}
 use Rattle.vm_model.specs.Controls.{live_control}
 use Rattle.vm_model.specs.Moments.{EachEvent}
 use Rattle.vm_model.specs.Named.{declared_pages, named}
-use Rattle.vm_legal.proofs.Groups.{cut}
+use Rattle.vm_legal.proofs.Groups.{so_far}
 use Rattle.vm_legal.specs.Bytes.{CopiesCurrent}
 use Rattle.vm_legal.specs.Flat.{flat_page}
 use Rattle.vm_legal.specs.Licences.{DeviceFails, HasCause, pager_has, tells}
@@ -35,7 +35,7 @@ use Rattle.vm_outside.specs.Areas.{Told, read_at}
 use Rattle.pg_file.specs.Stands.{FileKept, IsStartTold, name_of}
 use Rattle.vm_system.specs.Flat.{FilesAreFlat, HasFlatPages, files_failed}
 use Rattle.vm_system.specs.Keeping.{FilesAreTold, FilesCarry, MayHave}
-use Rattle.vm_legal.proofs.Turns.{cut_in_turn, cut_of as weak_cut}
+use Rattle.vm_legal.proofs.Turns.{any_cut, so_far_of}
 use Rattle.vm_system.specs.Steps.{CanonicalOpen}
 use Rattle.vm_system.proofs.Homes.{homes}
 
@@ -102,7 +102,7 @@ pub flat_files : (header : Header) (outside : Outside) (start areas : List ℕ �
 flat_files header outside start areas run h legal current told carry = record { beyond = beyond; pages = pages }
   where
     causes : EachEvent (HasCause header outside) h
-    causes = cut header outside run h (weak_cut header outside run h (cut_in_turn header outside run h legal.follows))
+    causes = so_far header outside run h (so_far_of header outside run h legal.follows)
 
     beyond : (o : ℕ) (was : Option (List ℕ)) → is_file header o ≡ true → start (name_of header o) ≡ Some was
         → (now : Option (List ℕ)) × (areas (name_of header o) ≡ Some now) × (drop (declared_pages header o * header.size) (unwrap_or now []) ≡ drop (declared_pages header o * header.size) (unwrap_or was []))
@@ -127,7 +127,7 @@ flat_files header outside start areas run h legal current told carry = record { 
           kept.0,
           kept.1,
           λ p less.
-              let away : (page_on header host o p h).here ≡ false = none_here header outside run h (weak_cut header outside run h (cut_in_turn header outside run h legal.follows)) current legal.holds.prompt host o p inside file none in
+              let away : (page_on header host o p h).here ≡ false = none_here header outside run h (any_cut header outside run h (so_far_of header outside run h legal.follows)) current legal.holds.prompt host o p inside file none in
               let has : pager_has header outside host o p h ≡ Some (flat_page header outside o p h) =
               settled header outside h causes current host o p file silent used less (none_queued (up_port host o) h delivered) (λ here. absurd (let bad : false ≡ true = sym away ∙ here in cc)) in
               same_bytes (read_at (unwrap_or kept.0 []) (p * header.size) header.size) (flat_page header outside o p h) (holds host o p at.0 kept.0 file (never_lost header outside o p h causes file fine) at.2 (kept.2 host may) ∙ has),
