@@ -5,6 +5,7 @@ use crate::NoMemory;
 use std::alloc::Global;
 use std::collections::VecDeque;
 use std::marker::Model;
+use std::mem;
 
 const MOST: usize = 0xffff_ffff;
 
@@ -125,12 +126,19 @@ impl<T> Listing<T> {
         &self.items[i as usize]
     }
 
-    /// Takes the oldest item out.
+    /// Takes the oldest item out. A list that is empty begins at its first place again.
     pub fn take_first(&mut self) -> Option<T>
         ensures taken { MatchOption result ((self.old.items ≡ [])
             × (self.new.items ≡ [])) (λ item. self.old.items ≡ self.new.items ++ item ∷ []) }
         ensures room { self.old.room ≤ self.new.room }
     {
-        self.items.pop_front()
+        let item = self.items.pop_front();
+        if self.items.is_empty() {
+            let alloc = *self.items.allocator();
+            let items = mem::replace(&mut self.items, VecDeque::new(alloc));
+            let none = mem::replace(&mut self.items, VecDeque::from_vec(items.into_vec()));
+            none.destroy_empty();
+        }
+        item
     }
 }

@@ -5,12 +5,12 @@ use Rattle.std.proofs.lemmas.Bool.Decides.{nat_tests}
 use Rattle.std.specs.Borrow.{MutBor}
 use Rattle.std.specs.List.{list_any}
 use Rattle.std.specs.Option.{option_copied_mut}
-use Rattle.std.specs.Prelude.{◌||◌, IfSome, IsOk, IsSome, IsSomeAnd, OnOk, if◌then◌else◌}
+use Rattle.std.specs.Prelude.{IfSome, IsOk, IsSome, IsSomeAnd, OnOk, if◌then◌else◌}
 use Rattle.vm_base.specs.Keys.{is_page}
 use Rattle.vm_base.specs.declared.ids.ObjectId.{ObjectId}
 use Rattle.vm_base.specs.declared.ids.PageKey.{PageKey}
 use Rattle.vm_objects.specs.Marks.{AreMarks, row_of}
-use Rattle.vm_objects.specs.Objects.{ObjectTable, PutsAbsent, PutsObject, SameMarks, absent_among, absent_at, object_among, object_at}
+use Rattle.vm_objects.specs.Objects.{ObjectTable, PutsAbsent, PutsObject, SameMarks, absent_among, object_among, object_at}
 use Rattle.vm_objects.specs.declared.row.ObjectRow.{ObjectRow}
 
 pub object_is : (o : ℕ) (entries : List (ObjectId × ObjectRow)) → object_among o entries ≡ row_of entries o

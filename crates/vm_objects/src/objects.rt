@@ -1,5 +1,5 @@
 // The memory objects of a host.
-ghost use Rattle.std.specs.Prelude.{ℕ, ◌≡◌, ◌+◌, ◌-◌, ◌<◌, ◌≤◌, ◌^◌, [], Some, None, true, false, IfSome, IsOk, IsSome, OnErr, OnOk};
+ghost use Rattle.std.specs.Prelude.{ℕ, ◌≡◌, ◌+◌, ◌-◌, ◌<◌, ◌≤◌, ◌^◌, [], Some, None, true, false, length, IfSome, IsOk, IsSome, OnErr, OnOk};
 ghost use Rattle.vm_objects.specs.Objects.{PutsAbsent, PutsObject, SameMarks, SameObjects, SameOrRoomier, SameRooms, absent_at, object_at};
 ghost use Rattle.vm_objects.specs.declared.row.PagerState.TheVariants as state;
 
@@ -108,6 +108,14 @@ impl Objects {
         };
         self.rows.insert(id, row)?;
         Ok(())
+    }
+
+    /// The number of objects.
+    pub fn count(&self) -> usize
+        ensures count { result ≡ length self.now.entries }
+        ensures small { result < 2 ^ 63 }
+    {
+        self.rows.len()
     }
 
     /// What is known of an object, None where it isn't there.
