@@ -1,5 +1,6 @@
 -- What is still to be told on the hosts, and the room for it.
-use Rattle.vm_hosts.proofs.Common.{Bool, CanServe, CanServeOn, HostTable, Ids, IsReady, IsReadyOn, List, None, On, Parts, ServeRoom, Some, Waiting, [], add-one, ap, arith, dues_of, false, free, front, full_dues, inl, inr, is_again, is_frame, length, most, most_of, one, own_dues, refl, same_Some, set, slice_get, slice_get_within, subst, suc, sum_of_dues, sym, to_run, true, zero, ℕ, ◌+◌, ◌<◌, ◌==◌, ◌∙◌, ◌∷◌, ◌≡◌, ◌≤◌}
+use Rattle.vm_hosts.proofs.Common.{Bool, Breadth, CanServe, CanServeOn, HostTable, Ids, IsReady, IsReadyOn, List, None, On, Parts, ServeRoom, Some, Waiting, [], add-one, ap, arith, dues_of, false, free, front, full_dues, inl, inr, is_again, is_frame, length, marking, most, most_of, one, own_dues, refl, same_Some, set, slice_get, slice_get_within, subst, suc, sum_of_dues, sym, to_run, true, zero, ℕ, ◌+◌, ◌<◌, ◌==◌, ◌∙◌, ◌∷◌, ◌≡◌, ◌≤◌}
+use Rattle.vm_kernel.specs.declared.breadth.Breadth.TheVariants as wide
 use Rattle.vm_waits.specs.declared.waiting.On.TheVariants as on
 use Rattle.vm_hosts.proofs.Tables.{put, set_cases}
 
@@ -24,16 +25,24 @@ run_few (w ∷ ws) =
     omega (arith, here, rest)
 
 -- they are few, beside what a step adds at most
-own_few : (k : Parts) (ids : Ids) → own_dues k + (ids.marks + 1025) ≤ most k ids
-own_few k ids =
+marks_front : (b : Breadth) (k : Parts) (ids : Ids) → marking b ≤ front b k ids
+marks_front wide.Few k ids = omega arith
+marks_front wide.Entries k ids = omega arith
+marks_front wide.Pages k ids = omega arith
+marks_front wide.Word k ids = omega arith
+
+own_few : (b : Breadth) (k : Parts) (ids : Ids) → own_dues k + (ids.marks + marking b) ≤ most b k ids
+own_few b k ids =
     let run = run_few k.waits.rows in
     let full = one_most (free k.memory.frames == 0) in
-    omega (arith, run, full)
+    let made = marks_front b k ids in
+    omega (arith, run, full, made)
 
 -- behind what one host did in front, with few more marks
-pub serve_ready : (k : Parts) (ids next : Ids) → next.marks ≤ ids.marks + 1025 → IsReadyOn k ids → CanServeOn k next
-serve_ready k ids next marks ready =
-    let few = own_few k ids in
+pub serve_ready : (b : Breadth) (k : Parts) (ids next : Ids) → next.marks ≤ ids.marks + marking b → IsReadyOn b k ids → CanServeOn k next
+serve_ready b k ids next marks ready =
+    let few = own_few b k ids in
+    let made = marks_front b k ids in
     let rows = ready.rows in
     let shadows = ready.shadows in
     let objects = ready.objects in
@@ -41,8 +50,8 @@ serve_ready k ids next marks ready =
     let skip = ready.skip in
     record {
       rows = omega (arith, few, rows, marks);
-      shadows = omega (arith, few, shadows, marks);
-      objects = omega (arith, few, objects, marks);
+      shadows = omega (arith, made, shadows, marks);
+      objects = omega (arith, made, objects, marks);
       buffers = omega (arith, buffers);
       skip = omega (arith, skip);
     }
@@ -80,44 +89,44 @@ sum_set (x ∷ ks) (suc h) k less =
     swap_sums : (a b c d : ℕ) → c ≡ b + d → a + c ≡ b + (a + d)
     swap_sums a b c d is = omega (arith, is)
 
-all_few : (ks : List Parts) (ids : Ids) → sum_of_dues ks ≤ most_of ks ids
-all_few [] ids = omega arith
-all_few (k ∷ ks) ids = two_few (own_dues k) (ids.marks + 1025) (most k ids) (sum_of_dues ks) (most_of ks ids) (own_few k ids) (all_few ks ids)
+all_few : (b : Breadth) (ks : List Parts) (ids : Ids) → sum_of_dues ks ≤ most_of b ks ids
+all_few b [] ids = omega arith
+all_few b (k ∷ ks) ids = two_few (own_dues k) (ids.marks + marking b) (most b k ids) (sum_of_dues ks) (most_of b ks ids) (own_few b k ids) (all_few b ks ids)
   where
     two_few : (a b c d e : ℕ) → a + b ≤ c → d ≤ e → a + d ≤ c + e
     two_few a b c d e one rest = omega (arith, one, rest)
 
-others_few : (ks : List Parts) (h : ℕ) (k : Parts) (ids : Ids) → slice_get ks h ≡ Some k → most k ids + other_dues h ks ≤ most_of ks ids
-others_few [] h k ids at = absurd (let bad : None ≡ Some k = at in cc)
-others_few (x ∷ ks) zero k ids at =
-    let rest = all_few ks ids in
-    subst (λ (z : Parts). most z ids + sum_of_dues ks ≤ most x ids + most_of ks ids) (same_Some x k at) (omega (arith, rest))
-others_few (x ∷ ks) (suc h) k ids at = three_few (most k ids) (own_dues x) (ids.marks + 1025) (other_dues h ks) (most x ids) (most_of ks ids) (own_few x ids) (others_few ks h k ids at)
+others_few : (b : Breadth) (ks : List Parts) (h : ℕ) (k : Parts) (ids : Ids) → slice_get ks h ≡ Some k → most b k ids + other_dues h ks ≤ most_of b ks ids
+others_few b [] h k ids at = absurd (let bad : None ≡ Some k = at in cc)
+others_few b (x ∷ ks) zero k ids at =
+    let rest = all_few b ks ids in
+    subst (λ (z : Parts). most b z ids + sum_of_dues ks ≤ most b x ids + most_of b ks ids) (same_Some x k at) (omega (arith, rest))
+others_few b (x ∷ ks) (suc h) k ids at = three_few (most b k ids) (own_dues x) (ids.marks + marking b) (other_dues h ks) (most b x ids) (most_of b ks ids) (own_few b x ids) (others_few b ks h k ids at)
   where
     three_few : (a b c d e f : ℕ) → b + c ≤ e → a + d ≤ f → a + (b + d) ≤ e + f
     three_few a b c d e f one rest = omega (arith, one, rest)
 
-marks_few : (ks : List Parts) (ids : Ids) → 0 < length ks → ids.marks + sum_of_dues ks ≤ most_of ks ids
-marks_few [] ids some = absurd (omega arith)
-marks_few (k ∷ ks) ids some = sums_few ids.marks (own_dues k) (most k ids) (sum_of_dues ks) (most_of ks ids) (own_few k ids) (all_few ks ids)
+marks_few : (b : Breadth) (ks : List Parts) (ids : Ids) → 0 < length ks → ids.marks + sum_of_dues ks ≤ most_of b ks ids
+marks_few b [] ids some = absurd (omega arith)
+marks_few b (k ∷ ks) ids some = sums_few ids.marks (marking b) (own_dues k) (most b k ids) (sum_of_dues ks) (most_of b ks ids) (own_few b k ids) (all_few b ks ids)
   where
-    sums_few : (a b c d e : ℕ) → b + (a + 1025) ≤ c → d ≤ e → a + (b + d) ≤ c + e
-    sums_few a b c d e one rest = omega (arith, one, rest)
+    sums_few : (a m c d e f : ℕ) → c + (a + m) ≤ d → e ≤ f → a + (c + e) ≤ d + f
+    sums_few a m c d e f one rest = omega (arith, one, rest)
 
 -- where there is room for a step, there is room to serve at once
-pub can_serve : (hosts : HostTable) (events space : ℕ) → 0 < length hosts.kernels → IsReady events hosts space → CanServe hosts space
-can_serve hosts events space some ready =
-    let few = marks_few hosts.kernels hosts.ids some in
+pub can_serve : (b : Breadth) (hosts : HostTable) (events space : ℕ) → 0 < length hosts.kernels → IsReady b events hosts space → CanServe hosts space
+can_serve b hosts events space some ready =
+    let few = marks_few b hosts.kernels hosts.ids some in
     let enough = ready.enough in
     let room = ready.room in
-    record { each = λ h k found. serve_ready k hosts.ids hosts.ids (omega arith) (ready.each h k found); room = within_all few enough room }
+    record { each = λ h k found. serve_ready b k hosts.ids hosts.ids (omega arith) (ready.each h k found); room = within_all few enough room }
   where
     within_all : {a b c d : ℕ} → a ≤ b → b ≤ c → c ≤ d → a ≤ d
     within_all one two three = omega (arith, one, two, three)
 
 -- what they tell then is little
-pub served_few : (hosts : HostTable) (events space : ℕ) → 0 < length hosts.kernels → IsReady events hosts space → hosts.ids.marks + sum_of_dues hosts.kernels ≤ events
-served_few hosts events space some ready = between (marks_few hosts.kernels hosts.ids some) ready.enough
+pub served_few : (b : Breadth) (hosts : HostTable) (events space : ℕ) → 0 < length hosts.kernels → IsReady b events hosts space → hosts.ids.marks + sum_of_dues hosts.kernels ≤ events
+served_few b hosts events space some ready = between (marks_few b hosts.kernels hosts.ids some) ready.enough
   where
     between : {a b c : ℕ} → a ≤ b → b ≤ c → a ≤ c
     between one two = omega (arith, one, two)
@@ -127,9 +136,9 @@ module _ (hosts : HostTable) (h : ℕ) (new k : Parts) (next : Ids) (at : slice_
   within = slice_get_within hosts.kernels h k at
 
   -- a host may act, and the others serve behind it
-  pub front_room : (events space : ℕ) → IsReady events hosts space → most k hosts.ids + other_dues h hosts.kernels ≤ space
-  front_room events space ready =
-      let few = others_few hosts.kernels h k hosts.ids at in
+  pub front_room : (b : Breadth) (events space : ℕ) → IsReady b events hosts space → most b k hosts.ids + other_dues h hosts.kernels ≤ space
+  front_room b events space ready =
+      let few = others_few b hosts.kernels h k hosts.ids at in
       let enough = ready.enough in
       let room = ready.room in
       between few enough room
@@ -137,17 +146,17 @@ module _ (hosts : HostTable) (h : ℕ) (new k : Parts) (next : Ids) (at : slice_
       between : {a b c d : ℕ} → a ≤ b → b ≤ c → c ≤ d → a ≤ d
       between one two three = omega (arith, one, two, three)
 
-  pub front_fits : (events space : ℕ) → IsReady events hosts space → most k hosts.ids ≤ space
-  front_fits events space ready = first (most k hosts.ids) (other_dues h hosts.kernels) (front_room events space ready)
+  pub front_fits : (b : Breadth) (events space : ℕ) → IsReady b events hosts space → most b k hosts.ids ≤ space
+  front_fits b events space ready = first (most b k hosts.ids) (other_dues h hosts.kernels) (front_room b events space ready)
     where
       first : (a b : ℕ) → a + b ≤ space → a ≤ space
       first a b fits = omega (arith, fits)
 
-  pub acted_room : (events space left : ℕ) → IsReady events hosts space → ServeRoom (other_dues h hosts.kernels) new next left → next.marks ≤ hosts.ids.marks + 1025 → CanServe (put hosts h new next) left
-  acted_room events space left ready room marks = record {
+  pub acted_room : (b : Breadth) (events space left : ℕ) → IsReady b events hosts space → ServeRoom (other_dues h hosts.kernels) new next left → next.marks ≤ hosts.ids.marks + marking b → CanServe (put hosts h new next) left
+  acted_room b events space left ready room marks = record {
     each = λ g m found. elim (set_cases hosts.kernels h g new m within found) [
       | inl same ↦ subst (λ (z : Parts). CanServeOn z next) same.1 (serve_own (other_dues h hosts.kernels) new next left room)
-      | inr apart ↦ serve_ready m hosts.ids next marks (ready.each g m apart.1)
+      | inr apart ↦ serve_ready b m hosts.ids next marks (ready.each g m apart.1)
     ];
     room = rw (sum_set hosts.kernels h new within) (sum_room (other_dues h hosts.kernels) room.has.log);
   }
@@ -155,14 +164,14 @@ module _ (hosts : HostTable) (h : ℕ) (new k : Parts) (next : Ids) (at : slice_
       sum_room : (more : ℕ) → dues_of new next + (more + 2) ≤ left → next.marks + (own_dues new + more) ≤ left
       sum_room more log = omega (arith, log)
 
-  pub acted_few : (events space told last : ℕ) → IsReady events hosts space → told + dues_of new next ≤ full_dues k hosts.ids + front k hosts.ids → last ≤ told + (next.marks + sum_of_dues (set hosts.kernels h new)) → last ≤ events
-  acted_few events space told last ready few served =
+  pub acted_few : (b : Breadth) (events space told last : ℕ) → IsReady b events hosts space → told + dues_of new next ≤ full_dues k hosts.ids + front b k hosts.ids → last ≤ told + (next.marks + sum_of_dues (set hosts.kernels h new)) → last ≤ events
+  acted_few b events space told last ready few served =
       let sum = sum_set hosts.kernels h new within in
-      let others = others_few hosts.kernels h k hosts.ids at in
+      let others = others_few b hosts.kernels h k hosts.ids at in
       let enough = ready.enough in
-      by_sums (other_dues h hosts.kernels) (sum_of_dues (set hosts.kernels h new)) (most_of hosts.kernels hosts.ids) sum others enough few served
+      by_sums (other_dues h hosts.kernels) (sum_of_dues (set hosts.kernels h new)) (most_of b hosts.kernels hosts.ids) sum others enough few served
     where
-      by_sums : (more sum all : ℕ) → sum ≡ own_dues new + more → most k hosts.ids + more ≤ all → all ≤ events → told + dues_of new next ≤ full_dues k hosts.ids + front k hosts.ids → last ≤ told + (next.marks + sum) → last ≤ events
+      by_sums : (more sum all : ℕ) → sum ≡ own_dues new + more → most b k hosts.ids + more ≤ all → all ≤ events → told + dues_of new next ≤ full_dues k hosts.ids + front b k hosts.ids → last ≤ told + (next.marks + sum) → last ≤ events
       by_sums more sum all is others enough few served = omega (arith, is, others, enough, few, served)
 
 -- what the hosts from a number on have still to tell
@@ -234,19 +243,19 @@ serves_done total n hosts told space was = let few = was.few in less_all told (h
     less_all a b few = omega (arith, few)
 
 -- what a step adds at most stays, where one host's part of it does
-most_same : (ks : List Parts) (h : ℕ) (k new : Parts) (ids : Ids) → slice_get ks h ≡ Some k → most new ids ≡ most k ids → most_of (set ks h new) ids ≡ most_of ks ids
-most_same [] h k new ids at same = refl
-most_same (x ∷ ks) zero k new ids at same = ap (λ (z : ℕ). z + most_of ks ids) (same ∙ ap (λ (z : Parts). most z ids) (sym (same_Some x k at)))
-most_same (x ∷ ks) (suc h) k new ids at same = ap (λ (z : ℕ). most x ids + z) (most_same ks h k new ids at same)
+most_same : (b : Breadth) (ks : List Parts) (h : ℕ) (k new : Parts) (ids : Ids) → slice_get ks h ≡ Some k → most b new ids ≡ most b k ids → most_of b (set ks h new) ids ≡ most_of b ks ids
+most_same b [] h k new ids at same = refl
+most_same b (x ∷ ks) zero k new ids at same = ap (λ (z : ℕ). z + most_of b ks ids) (same ∙ ap (λ (z : Parts). most b z ids) (sym (same_Some x k at)))
+most_same b (x ∷ ks) (suc h) k new ids at same = ap (λ (z : ℕ). most b x ids + z) (most_same b ks h k new ids at same)
 
-pub ready_same : (hosts : HostTable) (h : ℕ) (k new : Parts) (events space : ℕ) → slice_get hosts.kernels h ≡ Some k → (IsReadyOn k hosts.ids → IsReadyOn new hosts.ids) → most new hosts.ids ≡ most k hosts.ids → IsReady events hosts space
-    → IsReady events (put hosts h new hosts.ids) space
-ready_same hosts h k new events space at keeps same ready = record {
+pub ready_same : (b : Breadth) (hosts : HostTable) (h : ℕ) (k new : Parts) (events space : ℕ) → slice_get hosts.kernels h ≡ Some k → (IsReadyOn b k hosts.ids → IsReadyOn b new hosts.ids) → most b new hosts.ids ≡ most b k hosts.ids → IsReady b events hosts space
+    → IsReady b events (put hosts h new hosts.ids) space
+ready_same b hosts h k new events space at keeps same ready = record {
   each = λ g m found. elim (set_cases hosts.kernels h g new m (slice_get_within hosts.kernels h k at) found) [
-    | inl is ↦ subst (λ (z : Parts). IsReadyOn z hosts.ids) is.1 (keeps (ready.each h k at))
+    | inl is ↦ subst (λ (z : Parts). IsReadyOn b z hosts.ids) is.1 (keeps (ready.each h k at))
     | inr apart ↦ ready.each g m apart.1
   ];
-  enough = subst (λ (z : ℕ). z ≤ events) (sym (most_same hosts.kernels h k new hosts.ids at same)) ready.enough;
+  enough = subst (λ (z : ℕ). z ≤ events) (sym (most_same b hosts.kernels h k new hosts.ids at same)) ready.enough;
   room = ready.room;
 }
 

@@ -1,5 +1,5 @@
 -- Each host makes room for a step in its tables: what the kernels stand for stays, and what they add is summed up.
-use Rattle.vm_hosts.proofs.Common.{AllQueued, AllRest, Event, HasQueue, Header, HostTable, Ids, IsReady, IsReadyOn, List, Parts, Rests, Some, [], add-one, ap, arith, inl, inr, length, length-set, most, most_of, refl, rests_roomier, rooms_of, set, slice_get, slice_get_within, subst, suc, sym, with_rooms, with_rooms_of, zero, ℕ, ◌+◌, ◌<◌, ◌∙◌, ◌∷◌, ◌≡◌, ◌≤◌}
+use Rattle.vm_hosts.proofs.Common.{AllQueued, AllRest, Breadth, Event, HasQueue, Header, HostTable, Ids, IsReady, IsReadyOn, List, Parts, Rests, Some, [], add-one, ap, arith, inl, inr, length, length-set, most, most_of, refl, rests_roomier, rooms_of, set, slice_get, slice_get_within, subst, suc, sym, with_rooms, with_rooms_of, zero, ℕ, ◌+◌, ◌<◌, ◌∙◌, ◌∷◌, ◌≡◌, ◌≤◌}
 use Rattle.std.specs.Prelude.{Err, Ok, OnErr, Result}
 use Rattle.vm_hosts.proofs.Tables.{put, set_cases}
 
@@ -78,66 +78,66 @@ module _ (hosts : HostTable) (h : ℕ) (new k : Parts) (next : Ids) (at : slice_
   ]
 
 -- how many events the kernels below a number add at most
-abbrev pub most_below : ℕ → List Parts → Ids → ℕ
-most_below zero ks ids = 0
-most_below (suc n) [] ids = 0
-most_below (suc n) (k ∷ ks) ids = most k ids + most_below n ks ids
+abbrev pub most_below : Breadth → ℕ → List Parts → Ids → ℕ
+most_below b zero ks ids = 0
+most_below b (suc n) [] ids = 0
+most_below b (suc n) (k ∷ ks) ids = most b k ids + most_below b n ks ids
 
-most_step : (ks : List Parts) (n : ℕ) (k : Parts) (ids : Ids) → n < length ks → most_below (suc n) (set ks n k) ids ≡ most_below n ks ids + most k ids
-most_step [] n k ids less = absurd (omega arith)
-most_step (x ∷ ks) zero k ids less = plus_none (most k ids)
+most_step : (b : Breadth) (ks : List Parts) (n : ℕ) (k : Parts) (ids : Ids) → n < length ks → most_below b (suc n) (set ks n k) ids ≡ most_below b n ks ids + most b k ids
+most_step b [] n k ids less = absurd (omega arith)
+most_step b (x ∷ ks) zero k ids less = plus_none (most b k ids)
   where
     plus_none : (a : ℕ) → a + 0 ≡ 0 + a
     plus_none a = omega arith
-most_step (x ∷ ks) (suc n) k ids less = plus_more (most x ids) (most_below (suc n) (set ks n k) ids) (most_below n ks ids) (most k ids) (most_step ks n k ids (omega (arith, less)))
+most_step b (x ∷ ks) (suc n) k ids less = plus_more (most b x ids) (most_below b (suc n) (set ks n k) ids) (most_below b n ks ids) (most b k ids) (most_step b ks n k ids (omega (arith, less)))
   where
     plus_more : (a b c d : ℕ) → b ≡ c + d → a + b ≡ a + c + d
     plus_more a b c d is = omega (arith, is)
 
-most_next : (ks : List Parts) (n : ℕ) (k : Parts) (ids : Ids) → n < length ks → most_below (n + 1) (set ks n k) ids ≡ most_below n ks ids + most k ids
-most_next ks n k ids less = subst (λ (z : ℕ). most_below z (set ks n k) ids ≡ most_below n ks ids + most k ids) (sym (add-one n)) (most_step ks n k ids less)
+most_next : (b : Breadth) (ks : List Parts) (n : ℕ) (k : Parts) (ids : Ids) → n < length ks → most_below b (n + 1) (set ks n k) ids ≡ most_below b n ks ids + most b k ids
+most_next b ks n k ids less = subst (λ (z : ℕ). most_below b z (set ks n k) ids ≡ most_below b n ks ids + most b k ids) (sym (add-one n)) (most_step b ks n k ids less)
 
-most_all : (ks : List Parts) (ids : Ids) → most_below (length ks) ks ids ≡ most_of ks ids
-most_all [] ids = refl
-most_all (k ∷ ks) ids = ap (λ (z : ℕ). most k ids + z) (most_all ks ids)
+most_all : (b : Breadth) (ks : List Parts) (ids : Ids) → most_below b (length ks) ks ids ≡ most_of b ks ids
+most_all b [] ids = refl
+most_all b (k ∷ ks) ids = ap (λ (z : ℕ). most b k ids + z) (most_all b ks ids)
 
 -- the hosts below a number have made room
-pub record Reserving (first : HostTable) (n sum : ℕ) (hosts : HostTable) : Type 0 where
+pub record Reserving (b : Breadth) (first : HostTable) (n sum : ℕ) (hosts : HostTable) : Type 0 where
   pub rests : (header : Header) (past : List Event) → AllRest header first past → AllRest header hosts past
   pub queues : (header : Header) (past : List Event) → AllRest header first past → AllQueued header first past → AllQueued header hosts past
-  pub each : (h : ℕ) (k : Parts) → h < n → slice_get hosts.kernels h ≡ Some k → IsReadyOn k hosts.ids
-  pub adds : sum ≡ most_below n hosts.kernels hosts.ids
+  pub each : (h : ℕ) (k : Parts) → h < n → slice_get hosts.kernels h ≡ Some k → IsReadyOn b k hosts.ids
+  pub adds : sum ≡ most_below b n hosts.kernels hosts.ids
 
-pub reserving_start : (hosts : HostTable) → Reserving hosts 0 0 hosts
-reserving_start hosts = record { rests = λ header past all. all; queues = λ header past all queues. queues; each = λ h k less found. absurd (omega arith); adds = refl }
+pub reserving_start : (b : Breadth) (hosts : HostTable) → Reserving b hosts 0 0 hosts
+reserving_start b hosts = record { rests = λ header past all. all; queues = λ header past all queues. queues; each = λ h k less found. absurd (omega arith); adds = refl }
 
 -- one more has tried to
-pub reserving_tried : (first hosts : HostTable) (n sum : ℕ) (new k : Parts) → slice_get hosts.kernels n ≡ Some k → new ≡ with_rooms_of new k → Reserving first n sum hosts
+pub reserving_tried : (b : Breadth) (first hosts : HostTable) (n sum : ℕ) (new k : Parts) → slice_get hosts.kernels n ≡ Some k → new ≡ with_rooms_of new k → Reserving b first n sum hosts
     → ((header : Header) (past : List Event) → AllRest header first past → AllRest header (put hosts n new hosts.ids) past)
     × ((header : Header) (past : List Event) → AllRest header first past → AllQueued header first past → AllQueued header (put hosts n new hosts.ids) past)
-reserving_tried first hosts n sum new k at is was = (
+reserving_tried b first hosts n sum new k at is was = (
   λ header past all. all_rooms hosts n new k hosts.ids at is refl header past (was.rests header past all),
   λ header past all queues. queued_rooms hosts n new k hosts.ids at is refl header past (was.queues header past all queues),
 )
 
-pub reserving_next : (first hosts : HostTable) (n sum told after : ℕ) (new k : Parts) → slice_get hosts.kernels n ≡ Some k → new ≡ with_rooms_of new k → IsReadyOn new hosts.ids → told ≡ most new hosts.ids → after ≡ sum + told → Reserving first n sum hosts
-    → Reserving first (n + 1) after (put hosts n new hosts.ids)
-reserving_next first hosts n sum told after new k at is ready tells adds was =
+pub reserving_next : (b : Breadth) (first hosts : HostTable) (n sum told after : ℕ) (new k : Parts) → slice_get hosts.kernels n ≡ Some k → new ≡ with_rooms_of new k → IsReadyOn b new hosts.ids → told ≡ most b new hosts.ids → after ≡ sum + told → Reserving b first n sum hosts
+    → Reserving b first (n + 1) after (put hosts n new hosts.ids)
+reserving_next b first hosts n sum told after new k at is ready tells adds was =
     let within = slice_get_within hosts.kernels n k at in
-    let tried = reserving_tried first hosts n sum new k at is was in
+    let tried = reserving_tried b first hosts n sum new k at is was in
     record {
       rests = tried.0;
       queues = tried.1;
       each = λ g m less found. elim (set_cases hosts.kernels n g new m within found) [
-        | inl same ↦ subst (λ (z : Parts). IsReadyOn z hosts.ids) same.1 ready
+        | inl same ↦ subst (λ (z : Parts). IsReadyOn b z hosts.ids) same.1 ready
         | inr apart ↦ was.each g m (let far = apart.0 in omega (arith, less, far)) apart.1
       ];
-      adds = adds ∙ (ap (λ (z : ℕ). sum + z) tells ∙ (ap (λ (z : ℕ). z + most new hosts.ids) was.adds ∙ sym (most_next hosts.kernels n new hosts.ids within)));
+      adds = adds ∙ (ap (λ (z : ℕ). sum + z) tells ∙ (ap (λ (z : ℕ). z + most b new hosts.ids) was.adds ∙ sym (most_next b hosts.kernels n new hosts.ids within)));
     }
 
-pub reserving_done : (first hosts : HostTable) (n sum space : ℕ) → length hosts.kernels ≡ n → sum ≤ space → Reserving first n sum hosts → IsReady sum hosts space
-reserving_done first hosts n sum space all room was =
-    let whole : most_below n hosts.kernels hosts.ids ≡ most_of hosts.kernels hosts.ids = subst (λ (z : ℕ). most_below z hosts.kernels hosts.ids ≡ most_of hosts.kernels hosts.ids) all (most_all hosts.kernels hosts.ids) in
+pub reserving_done : (b : Breadth) (first hosts : HostTable) (n sum space : ℕ) → length hosts.kernels ≡ n → sum ≤ space → Reserving b first n sum hosts → IsReady b sum hosts space
+reserving_done b first hosts n sum space all room was =
+    let whole : most_below b n hosts.kernels hosts.ids ≡ most_of b hosts.kernels hosts.ids = subst (λ (z : ℕ). most_below b z hosts.kernels hosts.ids ≡ most_of b hosts.kernels hosts.ids) all (most_all b hosts.kernels hosts.ids) in
     let is = was.adds in
     record {
       each = λ h k found. was.each h k (let within = slice_get_within hosts.kernels h k found in omega (arith, within, all)) found;
@@ -146,10 +146,10 @@ reserving_done first hosts n sum space all room was =
     }
 
 -- a number that fits, and room in the log for so many events more
-pub ready_whole : (adds events more sum space : ℕ) (hosts : HostTable) → events ≡ adds → sum ≡ events + more → sum ≤ space → ((z : ℕ) → adds ≤ z → IsReady adds hosts z) → IsReady events hosts space × (events + more ≤ space)
-ready_whole adds events more sum space hosts same is fits ready =
+pub ready_whole : (b : Breadth) (adds events more sum space : ℕ) (hosts : HostTable) → events ≡ adds → sum ≡ events + more → sum ≤ space → ((z : ℕ) → adds ≤ z → IsReady b adds hosts z) → IsReady b events hosts space × (events + more ≤ space)
+ready_whole b adds events more sum space hosts same is fits ready =
     let within : events + more ≤ space = omega (arith, is, fits) in
-    (subst (λ (z : ℕ). IsReady z hosts space) (sym same) (ready space (omega (arith, within, same))), within)
+    (subst (λ (z : ℕ). IsReady b z hosts space) (sym same) (ready space (omega (arith, within, same))), within)
 
 -- what holds where a call fails
 pub on_err : {A B P : Type 0} (r : Result A B) → P → OnErr r P

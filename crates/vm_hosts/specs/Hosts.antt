@@ -9,6 +9,7 @@ use Rattle.vm_abroad.specs.Home.{home_of}
 use Rattle.vm_abroad.specs.Sound.{Sound}
 use Rattle.vm_shadow.specs.declared.ids.Ids.{Ids}
 use Rattle.vm_kernel.specs.Matches.{IsRanged, Rests, first_ids}
+use Rattle.vm_kernel.specs.declared.breadth.Breadth.{Breadth}
 use Rattle.vm_kernel.specs.Rooms.{IsReady as IsReadyOn, IsSkipRoom, dues, dues_of, most, to_run}
 use Rattle.vm_kernel.specs.Serving.{HasQueue}
 use Rattle.vm_kernel.specs.declared.parts.Parts.{Parts}
@@ -43,14 +44,14 @@ pub record AreNew (header : Header) (number : ℕ) (kernels : List Parts) : Type
   pub queues : (h : ℕ) (k : Parts) → slice_get kernels h ≡ Some k → HasQueue header h k []
 
 -- how many events these kernels add to a step at most
-abbrev pub most_of : List Parts → Ids → ℕ
-most_of [] ids = 0
-most_of (k ∷ ks) ids = most k ids + most_of ks ids
+abbrev pub most_of : Breadth → List Parts → Ids → ℕ
+most_of breadth [] ids = 0
+most_of breadth (k ∷ ks) ids = most breadth k ids + most_of breadth ks ids
 
 -- there is room for a step of so many events at most: in the tables of each host, and in a log with so much room
-pub record IsReady (events : ℕ) (hosts : HostTable) (space : ℕ) : Type 0 where
-  pub each : (h : ℕ) (k : Parts) → slice_get hosts.kernels h ≡ Some k → IsReadyOn k hosts.ids
-  pub enough : most_of hosts.kernels hosts.ids ≤ events
+pub record IsReady (breadth : Breadth) (events : ℕ) (hosts : HostTable) (space : ℕ) : Type 0 where
+  pub each : (h : ℕ) (k : Parts) → slice_get hosts.kernels h ≡ Some k → IsReadyOn breadth k hosts.ids
+  pub enough : most_of breadth hosts.kernels hosts.ids ≤ events
   pub room : events ≤ space
 
 -- what is still to be told on a host, but for the shadows of marked regions, and a page that is returned at last

@@ -16,6 +16,8 @@ ghost use Rattle.vm_kernel.specs.Matches.{IsRanged};
 ghost use Rattle.vm_kernel.specs.Taking.{IsAbsencePaid, IsErrorPaid, IsLockPaid, IsWord};
 ghost use Rattle.vm_legal.specs.InTurn.{EndsAll};
 ghost use Rattle.vm_kernel.specs.Refusing.{maps_elsewhere, takes_name};
+ghost use Rattle.vm_kernel.specs.Rooms.{breadth_of};
+ghost use Rattle.vm_kernel.specs.declared.breadth.Breadth.TheVariants as wide;
 ghost use Rattle.vm_hosts.specs.Hosts.{AllQueued, AllRest, AreNew, CanServe, IsReady, knows_file, sum_of_dues};
 ghost use Rattle.vm_model.specs.declared.event.Event.{Event};
 ghost use Rattle.vm_model.specs.declared.script.Header.{Header};
@@ -25,7 +27,7 @@ ghost use Rattle.vm_hosts.specs.Steps.{ActsOn, Began, Going, HostsPart, PagerSte
 use std::alloc::Global;
 use std::marker::Model;
 use vm_base::{Code, HostId, NoMemory, ObjectId, ObjectKind, TaskId};
-use vm_kernel::Kernel;
+use vm_kernel::{Breadth, Kernel};
 use vm_model::{Command, Events, Header, Message};
 use vm_shadow::Ids;
 
@@ -72,15 +74,20 @@ impl Hosts {
         })
     }
 
-    /// Makes room for one step on all hosts, and for its events in the log, with so many more; gives how many
-    /// events the step adds at most. Nothing but room changes. It fails for want of memory alone.
-    pub fn reserve(&mut self, more: u32, log: &mut Events) -> Result<u32, NoMemory>
+    /// Makes room for one step of such a breadth on all hosts, and for its events in the log, with so many more;
+    /// gives how many events the step adds at most. Nothing but room changes. It fails for want of memory alone.
+    pub fn reserve(
+        &mut self,
+        breadth: Breadth,
+        more: u32,
+        log: &mut Events,
+    ) -> Result<u32, NoMemory>
         ensures rests { (header : Header) (past : List Event) → AllRest header self.old past → AllRest header self.new past }
         ensures queues { (header : Header) (past : List Event) → AllRest header self.old past → AllQueued header self.old past → AllQueued header self.new past }
         ensures items { log.new.items ≡ log.old.items }
-        ensures ready { IfOk result (λ events. IsReady events self.new log.new.room × (events + more ≤ log.new.room)) }
+        ensures ready { IfOk result (λ events. IsReady breadth events self.new log.new.room × (events + more ≤ log.new.room)) }
     {
-        let most = self.reserve_tables()?;
+        let most = self.reserve_tables(breadth)?;
         let Ok(events) = u32::try_from(most) else {
             return Err(NoMemory);
         };
@@ -94,16 +101,16 @@ impl Hosts {
     }
 
     // Makes room for one step in the tables of each host, and gives how many events the step adds at most.
-    fn reserve_tables(&mut self) -> Result<u64, NoMemory>
+    fn reserve_tables(&mut self, breadth: Breadth) -> Result<u64, NoMemory>
         ensures rests { (header : Header) (past : List Event) → AllRest header self.old past → AllRest header self.new past }
         ensures queues { (header : Header) (past : List Event) → AllRest header self.old past → AllQueued header self.old past → AllQueued header self.new past }
-        ensures ready { IfOk result (λ most. (space : ℕ) → most ≤ space → IsReady most self.new space) }
+        ensures ready { IfOk result (λ most. (space : ℕ) → most ≤ space → IsReady breadth most self.new space) }
     {
         let mut most: u64 = 0;
         'rooms: for host in 0..self.kernels.len() {
             let kernel = &mut self.kernels[host];
-            kernel.reserve(&self.ids)?;
-            let Some(sum) = most.checked_add(kernel.most(&self.ids)) else {
+            kernel.reserve(breadth, &self.ids)?;
+            let Some(sum) = most.checked_add(kernel.most(breadth, &self.ids)) else {
                 return Err(NoMemory);
             };
             most = sum;
@@ -122,9 +129,9 @@ impl Hosts {
         requires accepted { refusal given.header given.past command.now ≡ None }
         requires begins { IsLined given.past }
         requires empty { log.old.items ≡ [] }
-        requires ready { (events : ℕ) × IsReady events self.old log.old.room }
+        requires ready { (events : ℕ) × IsReady (breadth_of command.now) events self.old log.old.room }
         ensures began { OnOk result (Began given.header given.outside command.now given.past self.new log.new.items) }
-        ensures few { OnOk result ((events : ℕ) → IsReady events self.old log.old.room → length log.new.items ≤ events) }
+        ensures few { OnOk result ((events : ℕ) → IsReady (breadth_of command.now) events self.old log.old.room → length log.new.items ≤ events) }
         ensures err { OnErr result (AllRest given.header self.new given.past × ((AllQueued given.header self.old given.past → AllQueued given.header self.new given.past) × (log.new.items ≡ []))) }
     {
         let Some(host) = self.host_for(command) else {
@@ -152,13 +159,13 @@ impl Hosts {
         requires word { IsWord given.header.size message.now }
         requires licensed { LicensedInTurn given.header given.outside given.command (event.Taken (channels.Down host object control) message.now) given.past }
         requires empty { log.old.items ≡ [] }
-        requires ready { (events : ℕ) × IsReady events self.old log.old.room }
+        requires ready { (events : ℕ) × IsReady wide.Word events self.old log.old.room }
         ensures passed { OnOk result (HostsPart given.header given.outside given.command (event.Taken (channels.Down host object control) message.now ∷ given.past) self.new log.new.items) }
         ensures failed { OnOk result (IsErrorPaid given.header (log.new.items ++ event.Taken (channels.Down host object control) message.now ∷ given.past)) }
         ensures zeroed { OnOk result (IsAbsencePaid given.header (log.new.items ++ event.Taken (channels.Down host object control) message.now ∷ given.past)) }
         ensures locked { OnOk result (IsLockPaid given.header (log.new.items ++ event.Taken (channels.Down host object control) message.now ∷ given.past)) }
         ensures ended { OnOk result (EndsAll given.header (log.new.items ++ event.Taken (channels.Down host object control) message.now ∷ given.past)) }
-        ensures few { OnOk result ((events : ℕ) → IsReady events self.old log.old.room → length log.new.items ≤ events) }
+        ensures few { OnOk result ((events : ℕ) → IsReady wide.Word events self.old log.old.room → length log.new.items ≤ events) }
         ensures err { OnErr result (AllRest given.header self.new given.past × (AllQueued given.header self.new given.past × (log.new.items ≡ []))) }
     {
         self.hear(host, object, control, message, log)
@@ -171,9 +178,9 @@ impl Hosts {
         requires rests { AllRest given.header self.old given.past }
         requires answers { PagerStep given.header given.outside given.command host washed given.past given.front }
         requires empty { log.old.items ≡ [] }
-        requires ready { (events : ℕ) × IsReady events self.old log.old.room }
+        requires ready { (breadth : Breadth) × ((events : ℕ) × IsReady breadth events self.old log.old.room) }
         ensures passed { HostsPart given.header given.outside given.command (given.front ++ given.past) self.new log.new.items }
-        ensures few { (events : ℕ) → IsReady events self.old log.old.room → length log.new.items ≤ events }
+        ensures few { (breadth : Breadth) (events : ℕ) → IsReady breadth events self.old log.old.room → length log.new.items ≤ events }
     {
         self.behind(host, washed);
         self.serve_all(log);
@@ -196,13 +203,13 @@ impl Hosts {
         requires word { IsWord given.header.size message.now }
         requires licensed { LicensedInTurn given.header given.outside given.command (event.Taken (channels.Down host object control) message.now) given.past }
         requires empty { log.old.items ≡ [] }
-        requires ready { (events : ℕ) × IsReady events self.old log.old.room }
+        requires ready { (events : ℕ) × IsReady wide.Word events self.old log.old.room }
         ensures passed { OnOk result (HostsPart given.header given.outside given.command (given.front ++ given.past) self.new log.new.items) }
         ensures failed { OnOk result (IsErrorPaid given.header (log.new.items ++ (given.front ++ given.past))) }
         ensures zeroed { OnOk result (IsAbsencePaid given.header (log.new.items ++ (given.front ++ given.past))) }
         ensures locked { OnOk result (IsLockPaid given.header (log.new.items ++ (given.front ++ given.past))) }
         ensures ended { OnOk result (EndsAll given.header (log.new.items ++ (given.front ++ given.past))) }
-        ensures few { OnOk result ((events : ℕ) → IsReady events self.old log.old.room → length log.new.items ≤ events) }
+        ensures few { OnOk result ((events : ℕ) → IsReady wide.Word events self.old log.old.room → length log.new.items ≤ events) }
         ensures err { OnErr result (AllRest given.header self.new given.past × (AllQueued given.header self.new given.past × (log.new.items ≡ []))) }
     {
         self.kernels[host.0 as usize].take(object, control, message, &mut self.ids, log)?;
@@ -216,7 +223,7 @@ impl Hosts {
         requires rests { AllRest given.header self.old given.past }
         requires answers { PagerStep given.header given.outside given.command host washed given.past given.front }
         ensures rests { AllRest given.header self.new (given.front ++ given.past) }
-        ensures ready { (events room : ℕ) → IsReady events self.old room → IsReady events self.new room }
+        ensures ready { (breadth : Breadth) (events room : ℕ) → IsReady breadth events self.old room → IsReady breadth events self.new room }
     {
         if washed {
             self.kernels[host.0 as usize].laundered(&self.ids);
@@ -227,9 +234,9 @@ impl Hosts {
     pub fn serve(&mut self, log: &mut Events)
         ghost given: { Step }
         requires rests { AllRest given.header self.old (log.old.items ++ given.past) }
-        requires ready { (events : ℕ) × IsReady events self.old log.old.room }
+        requires ready { (breadth : Breadth) × ((events : ℕ) × IsReady breadth events self.old log.old.room) }
         ensures went { Went given.header given.outside given.command given.past log.old.items self.new log.new.items }
-        ensures few { (events : ℕ) → IsReady events self.old log.old.room → length log.new.items ≤ length log.old.items + events }
+        ensures few { (breadth : Breadth) (events : ℕ) → IsReady breadth events self.old log.old.room → length log.new.items ≤ length log.old.items + events }
     {
         self.serve_all(log);
     }

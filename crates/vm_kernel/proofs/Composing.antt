@@ -1,10 +1,12 @@
 -- What the parts of a step spend in front of the accesses that are run, and what they leave for those.
-use Rattle.vm_kernel.proofs.Common.{Bool, Err, Event, Header, Ids, List, Matches, ObjectTable, Ok, OnOk, On, Parts, Result, WaitTable, Waiting, [], ap, arith, false, frame_count, if◌then◌else◌, length, one_again, one_frame, refl, returns_out, suc, true, zero, ℕ, ◌++◌, ◌+◌, ◌*◌, ◌<◌, ◌∙◌, ◌∷◌, ◌≡◌, ◌≤◌}
+use Rattle.vm_kernel.proofs.Common.{Bool, Command, Err, Event, Header, Ids, List, Matches, ObjectTable, Ok, OnOk, On, Parts, Result, WaitTable, Waiting, [], ap, arith, false, frame_count, if◌then◌else◌, length, one_again, one_frame, refl, returns_out, subst, suc, sym, true, zero, ℕ, ◌++◌, ◌+◌, ◌*◌, ◌<◌, ◌∙◌, ◌∷◌, ◌≡◌, ◌≤◌}
 use Rattle.std.specs.Prelude.{IsOk, OnErr, vec_capacity}
 use Rattle.vm_base.specs.Listing.{Listed}
 use Rattle.vm_kernel.proofs.Departing.{frames_kept}
 use Rattle.vm_kernel.proofs.Holding.{room_once}
-use Rattle.vm_kernel.specs.Rooms.{HasBuffers, HasMore, HasRoom, IsSkipRoom, KeepsSkip, KeepsSpare, Spends, dues, front, full_dues, leaving, loose_frames, one_if_full, to_run}
+use Rattle.vm_kernel.proofs.LiveControls.{live_known}
+use Rattle.vm_kernel.specs.Rooms.{HasBuffers, HasMore, HasRoom, IsSkipRoom, KeepsSkip, KeepsSpare, Spends, breadth_of, dues, front, full_dues, leaving, loose_frames, marking, one_if_full, to_run}
+use Rattle.vm_kernel.specs.declared.breadth.Breadth.TheVariants as wide
 use Rattle.vm_objects.specs.Objects.{object_at}
 use Rattle.vm_parts.specs.Listed.{listed_pages}
 use Rattle.vm_queues.specs.Queues.{EachOnce}
@@ -80,14 +82,14 @@ listed_few {header} {h} {k} {ids} {past} m once =
     omega (arith, few, m.laundry.room)
 
 -- so an end takes less than there is in front
-pub leaving_few : {header : Header} {h : ℕ} {k : Parts} {ids : Ids} {past : List Event} → Matches header h k ids [] past → EachOnce (k.memory.queues.inactive ++ k.memory.queues.active) → 1 + leaving k ids ≤ front k ids
+pub leaving_few : {header : Header} {h : ℕ} {k : Parts} {ids : Ids} {past : List Event} → Matches header h k ids [] past → EachOnce (k.memory.queues.inactive ++ k.memory.queues.active) → 1 + leaving k ids ≤ front wide.Pages k ids
 leaving_few {header} {h} {k} {ids} {past} m once =
     let listed = listed_few m once in
-    let live = live_few k.memory.objects ids.next_object in
-    by (listed_pages k.memory.queues) (live_below k.memory.objects ids.next_object) (frame_count k.memory.frames) ids.next_object listed live
+    let live = live_known k.memory.objects ids.next_object in
+    by (listed_pages k.memory.queues) (live_below k.memory.objects ids.next_object) (frame_count k.memory.frames) (length k.memory.objects.entries) listed live
   where
-    by : (listed live frames next : ℕ) → listed ≤ frames → live ≤ next → 1 + (listed + live) ≤ 1025 + 2 * frames + next
-    by listed live frames next few fewer = omega (arith, few, fewer)
+    by : (listed live frames known : ℕ) → listed ≤ frames → live ≤ known → 1 + (listed + live) ≤ 2 * frames + known + 1
+    by listed live frames known few fewer = omega (arith, few, fewer)
 
 -- room for some is room for fewer
 pub more_fewer : (a n more : ℕ) (k : Parts) (ids : Ids) (room : ℕ) → HasMore a more k ids room → n ≤ a → HasMore n more k ids room
@@ -130,25 +132,25 @@ module _ {A B : Type 0} (r : Result A B) (old new : Parts) (was now : Ids) (befo
       by (Err e) is = tt
 
   -- a command that keeps its buffers
-  pub kept_ok : (cost more : ℕ) → cost ≤ front old was → OnOk r (Spends cost 0 old was before new now after) → OnOk r (KeepsSpare old new) → HasMore (front old was) more old was before.room → HasBuffers old → IsSkipRoom old → OnOk r (Leaves more new now after.room)
-  kept_ok cost more few spends kept had has skip = by r spends kept
+  pub kept_ok : (cost most more : ℕ) → cost ≤ most → OnOk r (Spends cost 0 old was before new now after) → OnOk r (KeepsSpare old new) → HasMore most more old was before.room → HasBuffers old → IsSkipRoom old → OnOk r (Leaves more new now after.room)
+  kept_ok cost most more few spends kept had has skip = by r spends kept
     where
       by : (r : Result A B) → OnOk r (Spends cost 0 old was before new now after) → OnOk r (KeepsSpare old new) → OnOk r (Leaves more new now after.room)
       by (Ok x) is keeps =
           let buffers = ap (λ z. z.count) keeps.buffers in
           let list = ap vec_capacity keeps.skip in
-          (room_behind old new was now before after cost more is (more_fewer (front old was) cost more old was before.room had few), (omega (arith, buffers, has), omega (arith, list, keeps.fewer, skip)))
+          (room_behind old new was now before after cost more is (more_fewer most cost more old was before.room had few), (omega (arith, buffers, has), omega (arith, list, keeps.fewer, skip)))
       by (Err e) is keeps = tt
 
   -- one that ends what it can
-  pub ended_ok : (cost more : ℕ) → cost ≤ front old was → OnOk r (Spends cost 0 old was before new now after) → OnOk r (HasBuffers old → HasBuffers new) → OnOk r (KeepsSkip old new) → HasMore (front old was) more old was before.room → HasBuffers old → IsSkipRoom old → OnOk r (Leaves more new now after.room)
-  ended_ok cost more few spends buffers kept had has skip = by r spends buffers kept
+  pub ended_ok : (cost most more : ℕ) → cost ≤ most → OnOk r (Spends cost 0 old was before new now after) → OnOk r (HasBuffers old → HasBuffers new) → OnOk r (KeepsSkip old new) → HasMore most more old was before.room → HasBuffers old → IsSkipRoom old → OnOk r (Leaves more new now after.room)
+  ended_ok cost most more few spends buffers kept had has skip = by r spends buffers kept
     where
       by : (r : Result A B) → OnOk r (Spends cost 0 old was before new now after) → OnOk r (HasBuffers old → HasBuffers new) → OnOk r (KeepsSkip old new) → OnOk r (Leaves more new now after.room)
       by (Ok x) is leaves keeps =
           let list = ap vec_capacity keeps.skip in
           let left = leaves has in
-          (room_behind old new was now before after cost more is (more_fewer (front old was) cost more old was before.room had few), (omega (arith, left), omega (arith, list, keeps.fewer, skip)))
+          (room_behind old new was now before after cost more is (more_fewer most cost more old was before.room had few), (omega (arith, left), omega (arith, list, keeps.fewer, skip)))
       by (Err e) is leaves keeps = tt
 
 -- an access that begins tells one event, and runs once
@@ -169,8 +171,15 @@ spare_behind k waits new one keeps =
     (omega (arith, buffers), (omega (arith, list), omega (arith, one, keeps.fewer)))
 
 -- what any command tells is below that in front
-pub up_to_front : (k : Parts) (ids : Ids) (told n : ℕ) → n ≤ front k ids → told + (full_dues k ids + n) ≤ told + (full_dues k ids + front k ids)
-up_to_front k ids told n few = omega (arith, few)
+pub up_to_front : (k : Parts) (ids : Ids) (told n most : ℕ) → n ≤ most → told + (full_dues k ids + n) ≤ told + (full_dues k ids + most)
+up_to_front k ids told n most few = omega (arith, few)
+
+-- what a command does in front goes by what it is
+pub few_in : (command doing : Command) (k : Parts) (ids : Ids) (n : ℕ) → command ≡ doing → n ≤ front (breadth_of doing) k ids → n ≤ front (breadth_of command) k ids
+few_in command doing k ids n is few = subst (λ (z : Command). n ≤ front (breadth_of z) k ids) (sym is) few
+
+pub marks_in : (command doing : Command) (n : ℕ) → command ≡ doing → n ≤ marking (breadth_of doing) → n ≤ marking (breadth_of command)
+marks_in command doing n is few = subst (λ (z : Command). n ≤ marking (breadth_of z)) (sym is) few
 
 pub on_err : {A B : Type 0} (r : Result A B) (P Q : Type 0) → (P → Q) → OnErr r P → OnErr r Q
 on_err (Ok x) P Q f p = tt
@@ -193,31 +202,31 @@ skip_fewer k skip = omega (arith, skip)
 
 -- what a word and its waking tell is below that in front
 heeded_few : (k mid : Parts) (ids : Ids) → listed_pages k.memory.queues ≤ frame_count k.memory.frames → listed_pages mid.memory.queues ≤ frame_count mid.memory.frames → frame_count mid.memory.frames ≡ frame_count k.memory.frames
-    → listed_pages k.memory.queues + 1 + leaving mid ids ≤ front k ids
+    → listed_pages k.memory.queues + 1 + leaving mid ids ≤ front wide.Word k ids
 heeded_few k mid ids few fewer same =
     by (listed_pages k.memory.queues) (listed_pages mid.memory.queues) (live_below mid.memory.objects ids.next_object) (frame_count k.memory.frames) (frame_count mid.memory.frames) ids.next_object few fewer same (live_few mid.memory.objects ids.next_object)
   where
-    by : (listed less live frames there next : ℕ) → listed ≤ frames → less ≤ there → there ≡ frames → live ≤ next → listed + 1 + (less + live) ≤ 1025 + 2 * frames + next
+    by : (listed less live frames there next : ℕ) → listed ≤ frames → less ≤ there → there ≡ frames → live ≤ next → listed + 1 + (less + live) ≤ 2 * frames + next + 1
     by listed less live frames there next few fewer same most = omega (arith, few, fewer, same, most)
 
-pub word_few : (k : Parts) (ids : Ids) → listed_pages k.memory.queues ≤ frame_count k.memory.frames → listed_pages k.memory.queues + 1 ≤ front k ids
+pub word_few : (k : Parts) (ids : Ids) → listed_pages k.memory.queues ≤ frame_count k.memory.frames → listed_pages k.memory.queues + 1 ≤ front wide.Word k ids
 word_few k ids few = by (listed_pages k.memory.queues) (frame_count k.memory.frames) ids.next_object few
   where
-    by : (listed frames next : ℕ) → listed ≤ frames → listed + 1 ≤ 1025 + 2 * frames + next
+    by : (listed frames next : ℕ) → listed ≤ frames → listed + 1 ≤ 2 * frames + next + 1
     by listed frames next few = omega (arith, few)
 
-pub out_few : (k : Parts) (ids : Ids) → listed_pages k.memory.queues ≤ frame_count k.memory.frames → 2 * listed_pages k.memory.queues ≤ front k ids
-out_few k ids few = by (listed_pages k.memory.queues) (frame_count k.memory.frames) ids.next_object few
+pub out_few : (k : Parts) (ids : Ids) → listed_pages k.memory.queues ≤ frame_count k.memory.frames → 2 * listed_pages k.memory.queues ≤ front wide.Pages k ids
+out_few k ids few = by (listed_pages k.memory.queues) (frame_count k.memory.frames) (length k.memory.objects.entries) few
   where
-    by : (listed frames next : ℕ) → listed ≤ frames → 2 * listed ≤ 1025 + 2 * frames + next
-    by listed frames next few = omega (arith, few)
+    by : (listed frames known : ℕ) → listed ≤ frames → 2 * listed ≤ 2 * frames + known + 1
+    by listed frames known few = omega (arith, few)
 
 -- what a word and the waking of those that it wakes cost
 abbrev pub heeding : Parts → Parts → Ids → ℕ
 heeding k mid ids = listed_pages k.memory.queues + 1 + leaving mid ids
 
 pub word_costs : (header : Header) (h : ℕ) (k mid : Parts) (ids : Ids) (past past2 : List Event) → Matches header h k ids [] past → Matches header h mid ids [] past2 → EachOnce (k.memory.queues.inactive ++ k.memory.queues.active)
-    → EachOnce (mid.memory.queues.inactive ++ mid.memory.queues.active) → heeding k mid ids ≤ front k ids
+    → EachOnce (mid.memory.queues.inactive ++ mid.memory.queues.active) → heeding k mid ids ≤ front wide.Word k ids
 word_costs header h k mid ids past past2 m n once later = heeded_few k mid ids (listed_few m once) (listed_few n later) (frames_kept header h k mid ids ids [] [] past past2 m n)
 
 pub word_spends : (k mid : Parts) (ids : Ids) (before after : Listed Event) → Spends (listed_pages k.memory.queues + 1) 0 k ids before mid ids after → Spends (heeding k mid ids) (leaving mid ids) k ids before mid ids after

@@ -45,6 +45,7 @@ pub mod Known
 pub mod Landing
 pub mod Laundering
 pub mod Leading
+pub mod LiveControls
 pub mod Locked
 pub mod Locking
 pub mod Losing

@@ -1,19 +1,35 @@
 -- A kernel that has room for a step.
 use Rattle.vm_kernel.proofs.Common.{Err, Event, Header, List, Ok, OnOk, Parts, Result, Rests, Starts, ap, arith, frame_count, length, refl, subst, sym, ℕ, ◌+◌, ◌≡◌, ◌≤◌}
 use Rattle.vm_kernel.proofs.Roomier.{rests_roomier}
-use Rattle.vm_kernel.specs.Rooms.{HasMore, IsReady, IsRoomy, front, most, returning, rooms_of, with_buffers, with_rooms, with_rooms_of}
+use Rattle.vm_kernel.specs.declared.breadth.Breadth.{Breadth}
+use Rattle.vm_kernel.specs.declared.breadth.Breadth.TheVariants as wide
+use Rattle.vm_kernel.specs.Rooms.{HasMore, IsReady, front, most, returning, rooms_of, with_buffers, with_rooms_of}
 use Rattle.vm_model.specs.declared.command.Command.{Command}
 use Rattle.vm_shadow.specs.declared.ids.Ids.{Ids}
 use Rattle.std.specs.Prelude.{OnErr, vec_capacity}
 
--- a frame that is given back leaves the room
-module _ (k new : Parts) (ids : Ids) (is : new ≡ record k { memory = record k.memory { frames = new.memory.frames }; laundry = new.laundry }) (frames : frame_count new.memory.frames ≡ frame_count k.memory.frames) where
-  pub most_washed : most new ids ≡ most k ids
-  most_washed = let rows = ap (λ (z : Parts). length z.waits.rows) is in omega (arith, rows, frames)
+-- as much may be told in front where there are as many frames and objects
+pub front_same : (breadth : Breadth) (k new : Parts) (ids : Ids) → frame_count new.memory.frames ≡ frame_count k.memory.frames → length new.memory.objects.entries ≡ length k.memory.objects.entries → front breadth new ids ≡ front breadth k ids
+front_same wide.Few k new ids frames known = refl
+front_same wide.Entries k new ids frames known = refl
+front_same wide.Pages k new ids frames known = omega (arith, frames, known)
+front_same wide.Word k new ids frames known = omega (arith, frames)
 
-  pub ready_washed : IsReady k ids → IsReady new ids
+-- a frame that is given back leaves the room
+module _ (breadth : Breadth) (k new : Parts) (ids : Ids) (is : new ≡ record k { memory = record k.memory { frames = new.memory.frames }; laundry = new.laundry }) (frames : frame_count new.memory.frames ≡ frame_count k.memory.frames) where
+  front_washed : front breadth new ids ≡ front breadth k ids
+  front_washed = front_same breadth k new ids frames (ap (λ (z : Parts). length z.memory.objects.entries) is)
+
+  pub most_washed : most breadth new ids ≡ most breadth k ids
+  most_washed =
+      let rows = ap (λ (z : Parts). length z.waits.rows) is in
+      let same = front_washed in
+      omega (arith, rows, frames, same)
+
+  pub ready_washed : IsReady breadth k ids → IsReady breadth new ids
   ready_washed was =
       let same = most_washed in
+      let first = front_washed in
       let spare = ap (λ (z : Parts). z.memory.resident.spare) is in
       let shadows = ap (λ (z : Parts). z.chains.spare) is in
       let objects = ap (λ (z : Parts). z.memory.objects.rows) is in
@@ -25,8 +41,8 @@ module _ (k new : Parts) (ids : Ids) (is : new ≡ record k { memory = record k.
       let capacity = ap (λ (z : Parts). vec_capacity z.skip) is in
       record {
         rows = omega (arith, was.rows, same, spare);
-        shadows = omega (arith, was.shadows, same, shadows);
-        objects = omega (arith, was.objects, same, objects);
+        shadows = omega (arith, was.shadows, first, shadows);
+        objects = omega (arith, was.objects, first, objects);
         mark = omega (arith, was.mark, marks);
         access = omega (arith, was.access, room);
         buffers = omega (arith, was.buffers, here, count);
@@ -48,20 +64,28 @@ module _ (k : Parts) (count : ℕ) where
     nothing = was.nothing;
   }
 
-  pub ready_buffers : (ids : Ids) → k.memory.buffers.count ≤ count → IsReady k ids → IsReady (with_buffers count k) ids
-  ready_buffers ids more was = record {
-    rows = was.rows;
-    shadows = was.shadows;
-    objects = was.objects;
-    mark = was.mark;
-    access = was.access;
-    buffers = omega (arith, was.buffers, more);
-    skip = was.skip;
-  }
+  pub front_buffers : (breadth : Breadth) (ids : Ids) → front breadth (with_buffers count k) ids ≡ front breadth k ids
+  front_buffers breadth ids = front_same breadth k (with_buffers count k) ids refl refl
+
+  pub most_buffers : (breadth : Breadth) (ids : Ids) → most breadth (with_buffers count k) ids ≡ most breadth k ids
+  most_buffers breadth ids = let same = front_buffers breadth ids in omega (arith, same)
+
+  pub ready_buffers : (breadth : Breadth) (ids : Ids) → k.memory.buffers.count ≤ count → IsReady breadth k ids → IsReady breadth (with_buffers count k) ids
+  ready_buffers breadth ids more was =
+      let first = front_buffers breadth ids in
+      record {
+        rows = omega (arith, was.rows, first);
+        shadows = omega (arith, was.shadows, first);
+        objects = omega (arith, was.objects, first);
+        mark = was.mark;
+        access = was.access;
+        buffers = omega (arith, was.buffers, more);
+        skip = was.skip;
+      }
 
 -- there is room for what comes first, and for so many events more
-pub ready_more : (k : Parts) (ids : Ids) (room more : ℕ) → IsReady k ids → most k ids + more ≤ room → HasMore (front k ids) (more + 2) k ids room
-ready_more k ids room more ready log = record {
+pub ready_more : (breadth : Breadth) (k : Parts) (ids : Ids) (room more : ℕ) → IsReady breadth k ids → most breadth k ids + more ≤ room → HasMore (front breadth k ids) (more + 2) k ids room
+ready_more breadth k ids room more ready log = record {
   tables = record {
     log = omega (arith, log);
     rows = omega (arith, ready.rows);

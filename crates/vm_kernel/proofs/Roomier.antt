@@ -1,24 +1,22 @@
 -- What a kernel stands for doesn't depend on how much room its tables have.
-use Rattle.vm_kernel.proofs.Common.{All, AllRows, Bool, Entry, Event, FrameTable, Header, List, None, Option, PageKey, Parts, Some, [], inl, inr, rows_map, suc, zero, ◌∷◌, ◌≡◌, ℕ}
+use Rattle.vm_kernel.proofs.Common.{All, Bool, Entry, Event, FrameTable, Header, List, Option, PageKey, Parts, [], inl, inr, rows_map, suc, zero, ℕ}
 use Rattle.vm_base.specs.declared.ids.FrameNo.{FrameNo}
 use Rattle.vm_fault.specs.Walks.{ChainsFit, IsAt, IsUnder}
-use Rattle.vm_kernel.specs.Fits.{PartsFit}
-use Rattle.vm_kernel.specs.Matches.{HasWaits, Matches, Rests, UsesAll, Works}
+use Rattle.vm_kernel.specs.Matches.{HasWaits, Matches, Rests, UsesAll}
 use Rattle.vm_kernel.specs.Rooms.{Rooms, memory_with, with_rooms}
 use Rattle.vm_maps.specs.Maps.{Mapped}
-use Rattle.vm_model.specs.Waiting.{Access, Target}
+use Rattle.vm_model.specs.Waiting.{Target}
 use Rattle.vm_objects.specs.Objects.{ObjectTable}
-use Rattle.vm_parts.specs.Controls.{AllLive, HasNumbers}
 use Rattle.vm_parts.specs.Fits.{Fit}
 use Rattle.vm_parts.specs.declared.parts.HostParts.{HostParts}
-use Rattle.vm_resident.specs.Resident.{IsOwned, ResidentTable}
+use Rattle.vm_resident.specs.Resident.{ResidentTable}
 use Rattle.vm_shadow.specs.Chains.{ChainTable}
 use Rattle.vm_shadow.specs.declared.ids.Ids.{Ids}
-use Rattle.vm_state.specs.Filling.{AllUsed, FitsCopy, HasCopies, IsAlone, IsSlow}
+use Rattle.vm_state.specs.Filling.{AllUsed, FitsCopy, HasCopies, IsAlone}
 use Rattle.vm_state.specs.Passed.{IsPlaceBehind, LeadsOver, Passed}
 use Rattle.vm_state.specs.References.{AllReferred}
 use Rattle.vm_state.specs.Stands.{HasControls, HasEntries, HasKinds, HasLaundry, HasPages, HasRegions, IsInside, IsWashed}
-use Rattle.vm_state.specs.Waiters.{HasWaiters, IsAsked, IsLockedFor, IsPagerTold, IsPlaceOf, LeadsTo, Reason}
+use Rattle.vm_state.specs.Waiters.{IsPlaceOf, LeadsTo, Reason}
 use Rattle.vm_supply.specs.declared.woken.Woken.{Woken}
 use Rattle.vm_supply.specs.declared.woken.Woken.TheVariants as woken
 use Rattle.vm_terminate.specs.Finishes.{IsReferred}

@@ -1,13 +1,12 @@
 -- At the end of a step whoever waits beside its page wants a frame: a page that is here lies neither above the place where an access waits, nor there, nor behind it.
-use Rattle.vm_kernel.proofs.Common.{Access, Event, HasQueue, Header, Ids, IsPagerTold, List, Matches, ObjectRow, On, PageKey, Parts, Reason, Rests, Some, Waiting, Waits, Want, [], access_in, address_in, ap, arith, backing_of, copies_to, entries_in, entries_of, entry, entry_at, false, inl, inr, is_again, is_frame, is_some, is_store, named, next_page, none_again, none_queued, page_at, page_of, page_on, refl, region_of, rows_in, sight, some_is, subst, suc, sym, true, zero, ℕ, ◌&&◌, ◌+◌, ◌∙◌, ◌≡◌, ◌⊎◌}
+use Rattle.vm_kernel.proofs.Common.{Access, Event, HasQueue, Header, Ids, IsPagerTold, List, Matches, On, PageKey, Parts, Reason, Rests, Some, Waiting, Waits, Want, [], access_in, address_in, ap, backing_of, copies_to, entries_in, entries_of, entry, entry_at, false, inl, inr, is_again, is_frame, is_some, is_store, named, next_page, none_again, none_queued, page_at, page_of, page_on, refl, region_of, rows_in, sight, some_is, subst, suc, sym, true, zero, ℕ, ◌&&◌, ◌∙◌, ◌≡◌}
 use Rattle.std.specs.Prelude.{not}
 use Rattle.vm_base.specs.declared.entry.Entry.{Entry}
-use Rattle.vm_fault.specs.Walks.{top_place}
 use Rattle.vm_kernel.proofs.Prompting.{at_home, has_row}
 use Rattle.vm_kernel.proofs.Shown.{page_of_want, shown_at, want_address}
 use Rattle.vm_legal.specs.Accesses.{Comes, names}
 use Rattle.vm_legal.specs.Frames.{frames_free}
-use Rattle.vm_legal.specs.InTurn.{ComesToPage, NoneSleepsOn}
+use Rattle.vm_legal.specs.InTurn.{NoneSleepsOn}
 use Rattle.vm_legal.specs.Returned.{OnlyReturned}
 use Rattle.vm_legal.specs.Walks.{IsTop, Passes, Walks}
 use Rattle.vm_model.specs.Local.{is_known_absent}

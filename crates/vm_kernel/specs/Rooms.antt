@@ -16,6 +16,8 @@ use Rattle.vm_shadow.specs.declared.ids.Ids.{Ids}
 use Rattle.vm_terminate.specs.Counts.{live_below}
 use Rattle.vm_waits.specs.Waits.{count_again, one, queued}
 use Rattle.vm_waits.specs.declared.waiting.Waiting.{Waiting}
+use Rattle.vm_kernel.specs.declared.breadth.Breadth.{Breadth}
+use Rattle.vm_kernel.specs.declared.breadth.Breadth.TheVariants as breadth
 use Rattle.vm_kernel.specs.declared.parts.Parts.{Parts}
 
 -- a page that is here is changed or precious: only a return lets it go
@@ -94,20 +96,37 @@ returning k = if length k.declared.items == 0 then 0 else listed_pages k.memory.
 abbrev pub HasBuffers : Parts → Type 0
 HasBuffers k = returning k + 1 ≤ k.memory.buffers.count
 
--- what any command or message tells at most in front of the accesses that are run: a fork makes a task and copies 256 entries, an exit ends each page and each control,
--- and a pageout reclaims each page, of which a new pager may be told
-abbrev pub front : Parts → Ids → ℕ
-front k ids = 1025 + 2 * frame_count k.memory.frames + ids.next_object
+-- how much a command may tell
+abbrev pub breadth_of : Command → Breadth
+breadth_of (command.Fork task child) = breadth.Entries
+breadth_of (command.Exit task) = breadth.Pages
+breadth_of (command.Deallocate task address bytes) = breadth.Pages
+breadth_of (command.Pageout host count) = breadth.Pages
+breadth_of other = breadth.Few
+
+-- What is told at most in front of the accesses that are run: some events; a fork makes a task and copies 256 entries; an end takes each page and each control, and a
+-- pageout reclaims each page, of which a new pager may be told; and behind the word of a pager pages are given back, and those end that wait for a page in vain.
+abbrev pub front : Breadth → Parts → Ids → ℕ
+front breadth.Few k ids = 5
+front breadth.Entries k ids = 1025
+front breadth.Pages k ids = 2 * frame_count k.memory.frames + length k.memory.objects.entries + 1
+front breadth.Word k ids = 2 * frame_count k.memory.frames + ids.next_object + 1
+
+-- how many marks a command may make
+abbrev pub marking : Breadth → ℕ
+marking breadth.Few = 5
+marking breadth.Entries = 1025
+marking other = 0
 
 -- how many events a step adds on the host at most
-abbrev pub most : Parts → Ids → ℕ
-most k ids = full_dues k ids + front k ids + 2
+abbrev pub most : Breadth → Parts → Ids → ℕ
+most breadth k ids = full_dues k ids + front breadth k ids + 2
 
 -- there is room for a step in the tables of a host
-pub record IsReady (k : Parts) (ids : Ids) : Type 0 where
-  pub rows : most k ids ≤ k.memory.resident.spare
-  pub shadows : most k ids ≤ k.chains.spare
-  pub objects : most k ids ≤ k.memory.objects.rows
+pub record IsReady (breadth : Breadth) (k : Parts) (ids : Ids) : Type 0 where
+  pub rows : most breadth k ids ≤ k.memory.resident.spare
+  pub shadows : ids.marks + front breadth k ids ≤ k.chains.spare
+  pub objects : ids.marks + front breadth k ids ≤ k.memory.objects.rows
   pub mark : 0 < k.memory.objects.marks
   pub access : 0 < k.waits.room
   pub buffers : HasBuffers k

@@ -17,13 +17,15 @@ ghost use Rattle.vm_supply.specs.Answers.{outcome_of};
 ghost use Rattle.vm_state.specs.Stands.{HasTasks};
 ghost use Rattle.vm_kernel.specs.Matches.{IsRanged, Rests, first_ids, host_id};
 ghost use Rattle.vm_kernel.specs.Refusing.{maps_elsewhere, takes_name};
-ghost use Rattle.vm_kernel.specs.Rooms.{IsReady, ServeRoom, dues_of, front, full_dues, most, with_rooms_of};
+ghost use Rattle.vm_kernel.specs.Rooms.{IsReady, ServeRoom, breadth_of, dues_of, front, full_dues, marking, most, with_rooms_of};
+ghost use Rattle.vm_kernel.specs.declared.breadth.Breadth.TheVariants as wide;
 ghost use Rattle.vm_kernel.specs.Taking.{IsAbsencePaid, IsErrorPaid, IsLockPaid, IsWord};
 ghost use Rattle.vm_legal.specs.InTurn.{EndsAll, NoneSleepsOn};
 ghost use Rattle.vm_legal.specs.Returned.{OnlyReturned};
 ghost use Rattle.vm_model.specs.Named.{named};
 ghost use Rattle.vm_kernel.specs.Turns.{KeepsOthers, LeavesInTurn, Restarted};
 
+use crate::breadth::Breadth;
 use crate::parts::Parts;
 use std::alloc::Global;
 use std::marker::Model;
@@ -85,20 +87,20 @@ impl Kernel {
 
     /// The most events that the next `begin`, `take` or `laundered` and the serving behind it add on this
     /// host. It takes no memory.
-    pub fn most(&self, ids: &Ids) -> u64
-        ensures { result ≡ most self.now ids.now }
+    pub fn most(&self, breadth: Breadth, ids: &Ids) -> u64
+        ensures { result ≡ most breadth self.now ids.now }
     {
-        self.parts.most(ids)
+        self.parts.most(ids, breadth)
     }
 
     /// Makes room for a step in the host's tables; nothing but room changes. It fails for want of memory
     /// alone. Then `serve` and `laundered` want none, nor does a `take` but for a lock request of an object
     /// that isn't declared; and where `begin` does, it leaves all as it was.
-    pub fn reserve(&mut self, ids: &Ids) -> Result<(), NoMemory>
+    pub fn reserve(&mut self, breadth: Breadth, ids: &Ids) -> Result<(), NoMemory>
         ensures is { self.new ≡ with_rooms_of self.new self.old }
-        ensures ready { OnOk result (IsReady self.new ids.now) }
+        ensures ready { OnOk result (IsReady breadth self.new ids.now) }
     {
-        self.parts.reserve(ids)
+        self.parts.reserve(ids, breadth)
     }
 
     /// Runs a command that isn't refused, and adds what happened behind its line to the log, which is
@@ -123,10 +125,10 @@ impl Kernel {
         ensures plays { OnOk result (PlaysBy given.header (may_reclaim command.now self.old.waits.queue given.past) given.past [] (paging self.old) log.new.items (paging self.new)) }
         ensures restarts { OnOk result (Restarted given.header given.host self.new.waits.rows given.past self.old.waits.queue self.new.waits.queue log.new.items) }
         ensures ends { OnOk result (EndsByAddress given.header given.past command.now log.new.items) }
-        ensures few { OnOk result (length log.new.items + dues_of self.new ids.new ≤ full_dues self.old ids.old + front self.old ids.old) }
-        ensures room { (more : ℕ) → IsReady self.old ids.old → most self.old ids.old + more ≤ log.old.room → OnOk result (ServeRoom more self.new ids.new log.new.room) }
-        ensures marks { OnOk result (ids.new.marks ≤ ids.old.marks + 1025) }
-        ensures err { IsReady self.old ids.old → most self.old ids.old ≤ log.old.room → OnErr result ((self.new ≡ with_rooms_of self.new self.old) × ((ids.new ≡ ids.old) × (log.new.items ≡ []))) }
+        ensures few { OnOk result (length log.new.items + dues_of self.new ids.new ≤ full_dues self.old ids.old + front (breadth_of command.now) self.old ids.old) }
+        ensures room { (more : ℕ) → IsReady (breadth_of command.now) self.old ids.old → most (breadth_of command.now) self.old ids.old + more ≤ log.old.room → OnOk result (ServeRoom more self.new ids.new log.new.room) }
+        ensures marks { OnOk result (ids.new.marks ≤ ids.old.marks + marking (breadth_of command.now)) }
+        ensures err { IsReady (breadth_of command.now) self.old ids.old → most (breadth_of command.now) self.old ids.old ≤ log.old.room → OnErr result ((self.new ≡ with_rooms_of self.new self.old) × ((ids.new ≡ ids.old) × (log.new.items ≡ []))) }
     {
         self.parts.reserve_for(command)?;
         self.parts.run(command, ids, log)
@@ -162,10 +164,10 @@ impl Kernel {
         ensures plays { OnOk result (PlaysAnswer given.header (given.front ++ given.past) object (outcome_of (object_at self.old.memory.objects object.0) control (row_at self.old.memory.resident object.0) message.now) (paging self.old) log.new.items (paging self.new)) }
         ensures ended { HasQueue given.header given.host self.old given.past → OnOk result (EndsAll given.header (log.new.items ++ (given.front ++ given.past))) }
         ensures restarts { OnOk result (Restarted given.header given.host self.new.waits.rows (given.front ++ given.past) self.old.waits.queue self.new.waits.queue log.new.items) }
-        ensures few { OnOk result (length log.new.items + dues_of self.new ids.new ≤ full_dues self.old ids.old + front self.old ids.old) }
-        ensures room { (more : ℕ) → IsReady self.old ids.old → most self.old ids.old + more ≤ log.old.room → OnOk result (ServeRoom more self.new ids.new log.new.room) }
+        ensures few { OnOk result (length log.new.items + dues_of self.new ids.new ≤ full_dues self.old ids.old + front wide.Word self.old ids.old) }
+        ensures room { (more : ℕ) → IsReady wide.Word self.old ids.old → most wide.Word self.old ids.old + more ≤ log.old.room → OnOk result (ServeRoom more self.new ids.new log.new.room) }
         ensures marks { OnOk result (ids.new.marks ≤ ids.old.marks) }
-        ensures err { IsReady self.old ids.old → most self.old ids.old ≤ log.old.room → OnErr result ((self.new ≡ with_rooms_of self.new self.old) × ((ids.new ≡ ids.old) × (log.new.items ≡ []))) }
+        ensures err { IsReady wide.Word self.old ids.old → most wide.Word self.old ids.old ≤ log.old.room → OnErr result ((self.new ≡ with_rooms_of self.new self.old) × ((ids.new ≡ ids.old) × (log.new.items ≡ []))) }
     {
         self.parts.reserve_for_word(message)?;
         self.parts.take(ids, object, control, message, log)
@@ -181,8 +183,8 @@ impl Kernel {
         ensures passed { Passed given.header given.host given.outside given.command (given.front ++ given.past) self.new ids.now [] }
         ensures pages { paging self.new ≡ paging self.old }
         ensures waits { self.new.waits ≡ self.old.waits }
-        ensures ready { IsReady self.old ids.now → IsReady self.new ids.now }
-        ensures most { most self.new ids.now ≡ most self.old ids.now }
+        ensures ready { (breadth : Breadth) → IsReady breadth self.old ids.now → IsReady breadth self.new ids.now }
+        ensures most { (breadth : Breadth) → most breadth self.new ids.now ≡ most breadth self.old ids.now }
     {
         self.parts.launder(ids);
     }

@@ -3,6 +3,7 @@
 
 mod access;
 mod attempt;
+mod breadth;
 mod building;
 mod changes;
 mod copying;
@@ -22,6 +23,7 @@ mod slow;
 mod sweeping;
 mod taking;
 
+pub use breadth::Breadth;
 pub use changes::{enter, inheritance, protection, removal};
 pub use kernel::Kernel;
 pub use others::others_leave_the_kernel;

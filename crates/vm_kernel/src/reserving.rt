@@ -1,43 +1,79 @@
 // Room for a step.
-ghost use Rattle.std.specs.Prelude.{◌≡◌, ◌+◌, ◌≤◌, OnOk, true};
-ghost use Rattle.vm_kernel.specs.Rooms.{HasReturns, IsReady, most, returning, with_buffers, with_rooms_of};
+ghost use Rattle.std.specs.Prelude.{◌≡◌, ◌+◌, ◌<◌, ◌≤◌, ◌^◌, OnOk, length, true, vec_capacity};
+ghost use Rattle.vm_kernel.specs.Rooms.{HasReturns, IsReady, front, most, returning, with_buffers, with_rooms_of};
 ghost use Rattle.vm_kernel.specs.Taking.{is_lock_request};
 ghost use Rattle.vm_parts.specs.Listed.{listed_pages};
 
+use crate::breadth::Breadth;
 use crate::parts::Parts;
 use vm_base::NoMemory;
 use vm_model::{Command, Message};
 use vm_shadow::Ids;
 
-// What a command or a message tells at most in front of the accesses that are run, but for the pages
-// and objects that there are; and what a reclaim for the frame queue tells last.
-const TOLD_FIRST: u64 = 1028;
+// What a fork tells: it makes a task, and copies 256 entries.
+const TOLD_OF_ENTRIES: u64 = 1025;
+
+// What the other commands tell, and what a reclaim for the frame queue tells last.
+const TOLD_FIRST: u64 = 5;
+
+const TOLD_LAST: u64 = 3;
 
 impl Parts {
     /// The most events that a step adds on this host. It takes no memory.
-    pub fn most(&self, ids: &Ids) -> u64
-        ensures { result ≡ most self.now ids.now }
+    pub fn most(&self, ids: &Ids, breadth: Breadth) -> u64
+        ensures { result ≡ most breadth self.now ids.now }
     {
         let accesses = u64::from(self.waits.count());
         let frames = u64::from(self.memory.frames.count());
-        3 * accesses + u64::from(ids.marks) + 4 * frames + u64::from(ids.next_object) + TOLD_FIRST
+        let marks = u64::from(ids.marks);
+        3 * accesses + marks + 2 * frames + self.front(ids, breadth) + TOLD_LAST
+    }
+
+    // The most events that a step tells in front of the accesses that are run.
+    fn front(&self, ids: &Ids, breadth: Breadth) -> u64
+        ensures front { result ≡ front breadth self.now ids.now }
+        ensures small { result < 2 ^ 63 + 2 ^ 34 }
+    {
+        let frames = u64::from(self.memory.frames.count());
+        let made = u64::from(ids.next_object);
+        match breadth {
+            Breadth::Few => TOLD_FIRST,
+            Breadth::Entries => TOLD_OF_ENTRIES,
+            Breadth::Pages => 2 * frames + self.memory.objects.count() as u64 + 1,
+            Breadth::Word => 2 * frames + made + 1,
+        }
     }
 
     /// Makes room for a step in the host's tables; it fails for want of memory alone.
-    pub fn reserve(&mut self, ids: &Ids) -> Result<(), NoMemory>
+    pub fn reserve(&mut self, ids: &Ids, breadth: Breadth) -> Result<(), NoMemory>
         ensures is { self.new ≡ with_rooms_of self.new self.old }
-        ensures ready { OnOk result (IsReady self.new ids.now) }
+        ensures ready { OnOk result (IsReady breadth self.new ids.now) }
     {
-        let Ok(events) = u32::try_from(self.most(ids)) else {
+        let Ok(events) = u32::try_from(self.most(ids, breadth)) else {
+            return Err(NoMemory);
+        };
+        let Ok(made) = u32::try_from(u64::from(ids.marks) + self.front(ids, breadth)) else {
             return Err(NoMemory);
         };
         self.memory.resident.reserve(events)?;
-        self.memory.objects.reserve(events, 1)?;
-        self.chains.reserve(events)?;
+        self.memory.objects.reserve(made, 1)?;
+        self.chains.reserve(made)?;
         self.waits.reserve(1)?;
-        self.skip.clear();
-        self.skip.reserve(self.waits.count() as usize + 2)?;
+        self.reserve_skip()?;
         self.reserve_buffers(self.returning())
+    }
+
+    // Empties the list of the frames that a reclaim passes over, with room for one of each access.
+    fn reserve_skip(&mut self) -> Result<(), NoMemory>
+        ensures is { self.new ≡ record self.old { skip = self.new.skip } }
+        ensures room { OnOk result (length self.new.waits.rows + 1 < vec_capacity self.new.skip) }
+    {
+        self.skip.clear();
+        let wanted = self.waits.count() as usize + 2;
+        if self.skip.capacity() < wanted {
+            self.skip.reserve(2 * wanted)?;
+        }
+        Ok(())
     }
 
     /// Makes room for the returns that a command makes in front of the accesses that are run, and for one

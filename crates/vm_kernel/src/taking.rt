@@ -14,6 +14,7 @@ ghost use Rattle.vm_resident.specs.Resident.{row_at};
 ghost use Rattle.vm_supply.specs.Answers.{IsAnswer, outcome_of};
 ghost use Rattle.vm_kernel.specs.Plays.{Plays, PlaysAnswer, paging};
 ghost use Rattle.vm_kernel.specs.Rooms.{HasBuffers, HasMore, HasRoom, IsRoomy, IsSkipRoom, KeepsSkip, Spends, dues, front, full_dues, leaving, to_run};
+ghost use Rattle.vm_kernel.specs.declared.breadth.Breadth.TheVariants as wide;
 ghost use Rattle.vm_kernel.specs.Turns.{IsBrought, Restarted, RunsNobody};
 
 use crate::parts::Parts;
@@ -150,8 +151,8 @@ impl Parts {
         ensures plays { OnOk result (PlaysAnswer given.header (given.front ++ given.past) object (outcome_of (object_at self.old.memory.objects object.0) control (row_at self.old.memory.resident object.0) message.now) (paging self.old) log.new.items (paging self.new)) }
         ensures ended { OnOk result (EndsEach given.header self.old.waits.rows (log.new.items ++ (given.front ++ given.past))) }
         ensures restarts { OnOk result (Restarted given.header given.host self.new.waits.rows (given.front ++ given.past) self.old.waits.queue self.new.waits.queue log.new.items) }
-        ensures few { OnOk result (length log.new.items + dues (to_run self.new.waits.rows) self.new.memory ids.new.marks ≤ length log.old.items + (full_dues self.old ids.old + front self.old ids.old)) }
-        ensures room { (more : ℕ) → HasMore (front self.old ids.old) more self.old ids.old log.old.room → 0 < self.old.memory.objects.marks → HasBuffers self.old → IsSkipRoom self.old → (is_lock_request message.now ≡ true → listed_pages self.old.memory.queues + 1 ≤ self.old.memory.buffers.count) → IsOk result × (HasRoom more self.new ids.new log.new.room × (0 < self.new.memory.buffers.count × IsSkipRoom self.new)) }
+        ensures few { OnOk result (length log.new.items + dues (to_run self.new.waits.rows) self.new.memory ids.new.marks ≤ length log.old.items + (full_dues self.old ids.old + front wide.Word self.old ids.old)) }
+        ensures room { (more : ℕ) → HasMore (front wide.Word self.old ids.old) more self.old ids.old log.old.room → 0 < self.old.memory.objects.marks → HasBuffers self.old → IsSkipRoom self.old → (is_lock_request message.now ≡ true → listed_pages self.old.memory.queues + 1 ≤ self.old.memory.buffers.count) → IsOk result × (HasRoom more self.new ids.new log.new.room × (0 < self.new.memory.buffers.count × IsSkipRoom self.new)) }
         ensures marks { OnOk result (ids.new.marks ≤ ids.old.marks) }
     {
         self.memory.queues.stand_once();

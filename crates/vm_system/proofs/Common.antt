@@ -42,6 +42,7 @@ pub use Rattle.vm_hosts.proofs.Nobodys.{MakesNoControl, all_lined, all_nobodys, 
 pub use Rattle.vm_hosts.proofs.Stretches.{stretch_none}
 pub use Rattle.vm_hosts.proofs.Tables.{all_suffice, common_all}
 pub use Rattle.vm_hosts.specs.Hosts.{AllQueued, AllRest, HostTable, IsReady}
+pub use Rattle.vm_kernel.specs.declared.breadth.Breadth.{Breadth}
 pub use Rattle.vm_hosts.specs.Steps.{Began, Going, HostsPart, Step, Stretch, Went}
 pub use Rattle.vm_kernel.proofs.Growing.{paid_of}
 pub use Rattle.vm_kernel.specs.Abroad.{IsNobodys}

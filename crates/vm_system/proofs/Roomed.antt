@@ -1,5 +1,5 @@
 -- A step takes its memory in front: nothing but room changes, and where memory is wanting nothing is done.
-use Rattle.vm_system.proofs.Common.{AllQueued, AllRest, ArmedLater, Arming, Channel, ChannelId, Command, Event, HasRoom, Header, HostTable, IsReady, IsSent, List, Listed, Makes, MayTakeFrom, Message, None, Numbered, ObjectId, OnErr, OnlyRoom, Option, Outside, Result, SameHosts, ServerStands, ServerTable, Some, Spares, StandsStill, State, Step, SystemStands, [], all_lined, ap, arith, last_control, lined, live_control, marked_regions, named, next_object, next_region, object_home, refl, region_of, slice_get, subst, sym, ℕ, ◌++◌, ◌+◌, ◌∙◌, ◌∷◌, ◌≡◌, ◌≤◌}
+use Rattle.vm_system.proofs.Common.{AllQueued, AllRest, ArmedLater, Arming, Breadth, Channel, ChannelId, Command, Event, HasRoom, Header, HostTable, IsReady, IsSent, List, Listed, Makes, MayTakeFrom, Message, None, Numbered, ObjectId, OnErr, OnlyRoom, Option, Outside, Result, SameHosts, ServerStands, ServerTable, Some, Spares, StandsStill, State, Step, SystemStands, [], all_lined, ap, arith, last_control, lined, live_control, marked_regions, named, next_object, next_region, object_home, refl, region_of, slice_get, subst, sym, ℕ, ◌++◌, ◌+◌, ◌∙◌, ◌∷◌, ◌≡◌, ◌≤◌}
 use Rattle.sms_server.specs.Answers.{most_told}
 use Rattle.sms_server.specs.Table.{IsSameTable}
 use Rattle.vm_ports.specs.Ports.{queue as queue_on}
@@ -220,8 +220,8 @@ fewer_room n m s less room = record {
 }
 
 -- the hosts' room is there still, where hosts and log are as they were
-pub ready_still : (most : ℕ) (s t : State) → t.hosts ≡ s.hosts → t.log ≡ s.log → IsReady most s.hosts s.log.room → IsReady most t.hosts t.log.room
-ready_still most s t hosts log ready = rw (hosts, log) ready
+pub ready_still : (breadth : Breadth) (most : ℕ) (s t : State) → t.hosts ≡ s.hosts → t.log ≡ s.log → IsReady breadth most s.hosts s.log.room → IsReady breadth most t.hosts t.log.room
+ready_still breadth most s t hosts log ready = rw (hosts, log) ready
 
 -- behind the taking and its line there is room for the rest
 
@@ -321,8 +321,8 @@ pub tells_asked : (most long : ℕ) (t told : State) → long ≤ most + 1 → H
 tells_asked most long t told few room less = less_room 1 long (most + 2) t told (omega (arith, few)) room less
 
 -- with one event in the log there is room for those of the hosts
-pub ready_put : (most : ℕ) (hosts : HostTable) (old new : ℕ) → IsReady most hosts old → most + 2 ≤ old → old ≤ new + 1 → IsReady most hosts new
-ready_put most hosts old new ready room less = record { each = ready.each; enough = ready.enough; room = omega (arith, room, less) }
+pub ready_put : (breadth : Breadth) (most : ℕ) (hosts : HostTable) (old new : ℕ) → IsReady breadth most hosts old → most + 2 ≤ old → old ≤ new + 1 → IsReady breadth most hosts new
+ready_put breadth most hosts old new ready room less = record { each = ready.each; enough = ready.enough; room = omega (arith, room, less) }
 
 -- where the hosts took nothing, they stand for what they stood for
 pub still_taken : (given : Step) (line : Option ℕ) (number : ChannelId) (channel : Channel) (t : State) (hosts : HostTable) (log : Listed Event) → MayTakeFrom given line number channel t → AllRest given.header hosts given.past

@@ -12,6 +12,7 @@ use Rattle.vm_legal.specs.Undelivered.{is_made, undelivered}
 use Rattle.vm_ports.specs.Ports.{spare_channels}
 use Rattle.vm_ports.specs.declared.letter.Letter.{Letter as Posted}
 use Rattle.vm_hosts.specs.Hosts.{AllQueued, AllRest, IsReady}
+use Rattle.vm_kernel.specs.declared.breadth.Breadth.{Breadth}
 use Rattle.vm_model.specs.declared.script.Header.{Header}
 use Rattle.vm_system.specs.Channels.{channel_number}
 use Rattle.vm_system.specs.declared.state.State.{State}
@@ -91,8 +92,8 @@ pub record OnlyRoom (old new : State) : Type 0 where
   pub server : new.server ≡ old.server
 
 -- there is room for a step in which the hosts do so many events at most, and for so many more
-pub record IsPrepared (most more : ℕ) (s : State) : Type 0 where
-  pub hosts : IsReady most s.hosts s.log.room
+pub record IsPrepared (breadth : Breadth) (most more : ℕ) (s : State) : Type 0 where
+  pub hosts : IsReady breadth most s.hosts s.log.room
   pub log : most + more ≤ s.log.room
   pub room : HasRoom (most + more) s
   pub buffer : 0 < s.buffers.count

@@ -14,6 +14,7 @@ ghost use Rattle.vm_system.specs.Steps.{lined};
 use crate::state::State;
 use std::mem;
 use vm_base::{ChannelId, Listing, NoMemory};
+use vm_kernel::Breadth;
 use vm_model::{Channel, Event, Events, History, Message};
 
 // The message of a letter, which stands in the event that sent it.
@@ -48,12 +49,13 @@ impl State {
         self.buffers.reserve(1)
     }
 
-    // Takes the memory of a step of the hosts, and of so many further events; nothing but room changes.
-    pub fn prepare(&mut self, more: u32) -> Result<(), NoMemory>
+    // Takes the memory of a step of the hosts of such a breadth, and of so many further events; nothing but room
+    // changes.
+    pub fn prepare(&mut self, breadth: Breadth, more: u32) -> Result<(), NoMemory>
         ensures same { OnlyRoom self.old self.new }
-        ensures ready { OnOk result ((most : ℕ) × IsPrepared most more self.new) }
+        ensures ready { OnOk result ((most : ℕ) × IsPrepared breadth most more self.new) }
     {
-        let most = self.hosts.reserve(more, &mut self.log)?;
+        let most = self.hosts.reserve(breadth, more, &mut self.log)?;
         let Some(count) = most.checked_add(more) else {
             return Err(NoMemory);
         };

@@ -16,6 +16,7 @@ ghost use Rattle.vm_system.specs.Steps.{Setting, is_idle};
 
 use crate::state::State;
 use vm_base::{Buffers, Code, HostId, NoMemory, ObjectId};
+use vm_kernel::Breadth;
 use vm_model::{Channel, Command, Event, Events, Message};
 
 // Puts what is asked, one event at most, into an empty list that has room for it.
@@ -47,7 +48,7 @@ impl State {
         ensures spares { Spares given.header given.outside self.old self.new }
         ensures err { OnErr result (StandsStill given.header given.outside self.old self.new) }
     {
-        self.prepare(1)?;
+        self.prepare(Breadth::of(command), 1)?;
         self.hosts.begin(command, &mut self.log)?;
         self.tell(Event::Line { line });
         self.commit_log();
@@ -67,7 +68,7 @@ impl State {
         ensures spares { Spares given.header given.outside self.old self.new }
         ensures err { OnErr result (StandsStill given.header given.outside self.old self.new) }
     {
-        self.prepare(2)?;
+        self.prepare(Breadth::Few, 2)?;
         let asked = self.asked(command)?;
         put(asked, &mut self.log);
         self.hosts.serve(&mut self.log);

@@ -12,6 +12,7 @@ ghost use Rattle.vm_system.specs.Making.{Spares, SparesFiles, SparesPaging};
 ghost use Rattle.sms_server.specs.Answers.{IsToServer, most_told};
 ghost use Rattle.sms_server.specs.Table.{IsSameTable};
 ghost use Rattle.vm_hosts.specs.Hosts.{IsReady};
+ghost use Rattle.vm_kernel.specs.declared.breadth.Breadth.TheVariants as wide;
 ghost use Rattle.vm_model.specs.declared.message.Message.{Message};
 ghost use Rattle.vm_outside.specs.Arming.{KeepsArming};
 ghost use Rattle.vm_ports.specs.Ports.{queue as queue_on};
@@ -26,6 +27,7 @@ ghost use Rattle.vm_system.specs.Takings.{Followed, MayTakeFrom, PagerHasAnswere
 use crate::committing::sent;
 use crate::state::State;
 use vm_base::{ChannelId, HostId, NoMemory, ObjectId, ObjectKind};
+use vm_kernel::Breadth;
 use vm_model::{Channel, Message};
 use vm_outside::{Armed, Backing};
 
@@ -91,7 +93,7 @@ impl State {
         ensures err { OnErr result (StandsStill given.header given.outside self.old self.new) }
         ensures spares { Spares given.header given.outside self.old self.new }
     {
-        self.prepare(2)?;
+        self.prepare(Breadth::Word, 2)?;
         let Some(index) = self.ports.head(number) else {
             unreachable!()
         };
@@ -172,7 +174,7 @@ impl State {
         ensures unmoved { OnErr result (KeepsArming paging.old paging.new) }
         ensures later { ⟦<Armed<P> as Backing>⟧.later paging.old paging.new }
     {
-        self.prepare(4)?;
+        self.prepare(Breadth::Few, 4)?;
         let Some(index) = self.ports.head(number) else {
             unreachable!()
         };
@@ -208,7 +210,7 @@ impl State {
         ensures unmoved { OnErr result (KeepsArming files.old files.new) }
         ensures files_later { ⟦<Armed<F> as Backing>⟧.later files.old files.new }
     {
-        self.prepare(4)?;
+        self.prepare(Breadth::Few, 4)?;
         let Some(index) = self.ports.head(number) else {
             unreachable!()
         };
@@ -237,7 +239,7 @@ impl State {
         ensures err { OnErr result (StandsStill given.header given.outside self.old self.new) }
         ensures spares { Spares given.header given.outside self.old self.new }
     {
-        self.prepare(2)?;
+        self.prepare(Breadth::Few, 2)?;
         let Some(index) = self.ports.head(number) else {
             unreachable!()
         };
@@ -267,7 +269,7 @@ impl State {
         let Some(more) = most.checked_add(2) else {
             return Err(NoMemory);
         };
-        self.prepare(more)?;
+        self.prepare(Breadth::Few, more)?;
         let Some(index) = self.ports.head(number) else {
             unreachable!()
         };
@@ -304,7 +306,7 @@ impl State {
         ghost given: { Going }
         requires front { length given.front ≡ fresh }
         requires answered { PagerHasAnswered given host washed self.old }
-        requires ready { (most : ℕ) × (IsReady most self.old.hosts self.old.log.room × HasRoom most self.old) }
+        requires ready { (most : ℕ) × (IsReady wide.Few most self.old.hosts self.old.log.room × HasRoom most self.old) }
         ensures followed { Followed given self.new }
         ensures pagers { self.new.pagers ≡ self.old.pagers }
         ensures files { self.new.files ≡ self.old.files }

@@ -7,6 +7,7 @@ use Rattle.vm_model.specs.declared.command.Command.{Command}
 use Rattle.vm_model.specs.declared.command.Command.TheVariants as command
 use Rattle.vm_model.specs.declared.command.Numbered.{Numbered}
 use Rattle.vm_model.specs.declared.script.Header.{Header}
+use Rattle.vm_model.specs.declared.script.Script.{Script}
 use Rattle.vm_model.specs.Moments.{before_last_line}
 use Rattle.vm_model.specs.Ranges.{InRange}
 use Rattle.vm_legal.specs.Steps.{before_step, takings}
@@ -14,7 +15,9 @@ use Rattle.vm_outside.specs.Arming.{Arming, ArmedLater}
 use Rattle.vm_outside.specs.Causes.{CountRises, next_count, sum_count}
 use Rattle.vm_system.specs.Steps.{DevicesHaveCause, GrowsWithinLimit, LeavesBacking, arms, devices, took_up}
 use Rattle.vm_system.proofs.Growth.{devices_grow}
+use Rattle.vm_top.specs.Always.{BackingKept, Counts}
 use Rattle.vm_top.specs.Arming.{FailuresCounted, armings, is_untouched, last_arming, ran_of}
+use Rattle.vm_top.specs.Top.{BackingEnds}
 use Rattle.vm_top.specs.Running.{Arms, BackingRuns, FaultCounts, Running, counted}
 use Rattle.vm_top.proofs.Counting.{untouched_line, untouched_taking}
 
@@ -146,3 +149,11 @@ arms_of given run h f p here files paging = record {
 -- the failures that were told are bounded by the backing's own and by the commands
 pub bounded : (d i0 i1 r0 r1 l k : ℕ) → (d + sum_count i0 r0 ≤ sum_count i1 r1) ⊎ CountRises (sum_count i1 r1) (sum_count i1 r1) → r1 + min 1 l ≤ r0 + k → (d + i0 ≤ i1 + k) ⊎ CountRises (sum_count i1 r1) (sum_count i1 r1)
 bounded d i0 i1 r0 r1 l k counted few = grind arith
+
+-- whoever lets all coming calls pass first leaves a backing as it is left behind that
+pub kept_disarmed : {B : Type 0} (who : Device) (script : Option Script) (history : List Event) (old new : Arming B) (counts : Counts) → BackingKept who script history (record { inner = old.inner; left = 0; reached = old.reached }) new counts → BackingKept who script history old new counts
+kept_disarmed {B} who script history old new counts is = record { ends = by script is.ends; counted = is.counted; bounded = is.bounded }
+  where
+    by : (script : Option Script) → BackingEnds who script history (record { inner = old.inner; left = 0; reached = old.reached }) new → BackingEnds who script history old new
+    by None ends = ends
+    by (Some run) ends = record { none = ends.none; some = ends.some; untouched = ends.untouched; few = ends.few }

@@ -1,3 +1,4 @@
+pub mod Always
 pub mod Arming
 pub mod Ending
 pub mod Flat

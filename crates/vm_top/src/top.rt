@@ -7,17 +7,12 @@ ghost use Rattle.vm_model.specs.declared.fault.ScriptFault.{ScriptFault};
 ghost use Rattle.vm_model.specs.declared.script.Script.{Script};
 ghost use Rattle.vm_model.specs.Ranges.{IsBetween, KeepsRanges};
 ghost use Rattle.vm_outside.specs.Causes.{CountRises};
+ghost use Rattle.vm_top.specs.Always.{BackingKept, HoldsAlways, LosesNothingElse};
 ghost use Rattle.vm_top.specs.Ending.{EndsAs, RunHasEnded, Tells, status_after};
-ghost use Rattle.vm_top.specs.Flat.{FilesFlatAt};
-ghost use Rattle.vm_top.specs.Top.{IsBad, IsRunDone, IsEventLimit, NothingRun, IsOutputFault, IsNoMemory, NothingDone, OfBytes, KeptAt, FilesKeptAt, BackingEnds, bad_text, commands_run, usage_text};
+ghost use Rattle.vm_top.specs.Top.{IsBad, IsRunDone, IsEventLimit, NothingRun, IsOutputFault, IsNoMemory, NothingDone, OfBytes, bad_text, usage_text};
 ghost use Rattle.vm_legal.specs.Outside.{Outside};
-ghost use Rattle.vm_system.specs.Steps.{IsBelowLimit};
-ghost use Rattle.vm_top.specs.Arming.{FailuresBounded, FailuresCounted};
-ghost use Rattle.vm_top.specs.Losses.{HasNotFailed, LosesUnslotted};
-ghost use Rattle.vm_top.specs.Memory.{MemoryIsOne};
 ghost use Rattle.vm_top.specs.Making.{Generates};
 ghost use Rattle.vm_top.specs.Reading.{LeavesBytes, LeavesSource};
-ghost use Rattle.vm_top.specs.Resting.{CarriesAll, WaitsForFramesAlone};
 ghost use Rattle.vm_top.specs.Run.{IsRunnable, RanAs, outside_of};
 ghost use Rattle.vm_top.specs.Status.{status_number};
 ghost use Rattle.vm_top.specs.Words.{asked_by};
@@ -162,24 +157,12 @@ fn run_read<K: Sink, F: Backing, P: Backing>(
     requires files { files.old.left ≡ 0 }
     requires paging { paging.old.left ≡ 0 }
     ensures ended { RunHasEnded report script (outside_of (F.area files.old.inner) (P.area paging.old.inner) script.header) result.script result.history.items (K.written out.old) (K.written out.new) result.status }
-    ensures quiet { WaitsForFramesAlone result.script result.history.items }
-    ensures carried { CarriesAll result.script result.history.items }
-    ensures limit { IsBelowLimit result.history.items }
     ensures cause { result.status ≡ Status.OutputFault → CountRises (K.faults out.old) (K.faults out.new) }
     ensures later { K.faults out.old ≤ K.faults out.new }
-    ensures kept { KeptAt (outside_of (F.area files.old.inner) (P.area paging.old.inner)) (P.area paging.old.inner) (P.area paging.new.inner) result.script result.history.items }
-    ensures files_kept { FilesKeptAt (F.area files.old.inner) (F.area files.new.inner) result.script result.history.items }
-    ensures files_flat { FilesFlatAt (outside_of (F.area files.old.inner) (P.area paging.old.inner)) (F.area files.old.inner) (F.area files.new.inner) result.script result.history.items }
-    ensures files { BackingEnds device.Files result.script result.history.items files.old files.new }
-    ensures paging { BackingEnds device.Paging result.script result.history.items paging.old paging.new }
-    ensures files_devices { FailuresCounted device.Files (⟦<Armed<F> as Backing>⟧.faults files.old) (⟦<Armed<F> as Backing>⟧.faults files.new) result.history.items }
-    ensures devices { FailuresCounted device.Paging (⟦<Armed<P> as Backing>⟧.faults paging.old) (⟦<Armed<P> as Backing>⟧.faults paging.new) result.history.items }
-    ensures files_bounded { FailuresBounded device.Files (commands_run result.script result.history.items) (F.faults files.old.inner) (F.faults files.new.inner) (⟦<Armed<F> as Backing>⟧.faults files.new) result.history.items }
-    ensures bounded { FailuresBounded device.Paging (commands_run result.script result.history.items) (P.faults paging.old.inner) (P.faults paging.new.inner) (⟦<Armed<P> as Backing>⟧.faults paging.new) result.history.items }
-    ensures losses { HasNotFailed device.Files (commands_run result.script result.history.items) (F.faults files.old.inner) (F.faults files.new.inner) (⟦<Armed<F> as Backing>⟧.faults files.new)
-        → HasNotFailed device.Paging (commands_run result.script result.history.items) (P.faults paging.old.inner) (P.faults paging.new.inner) (⟦<Armed<P> as Backing>⟧.faults paging.new)
-        → LosesUnslotted result.script result.history.items }
-    ensures linear { MemoryIsOne (outside_of (F.area files.old.inner) (P.area paging.old.inner)) result.script result.history.items }
+    ensures always { HoldsAlways (F.area files.old.inner) (F.area files.new.inner) (P.area paging.old.inner) (P.area paging.new.inner) result.script result.history.items }
+    ensures files { BackingKept device.Files result.script result.history.items files.old files.new (record { old = ⟦<Armed<F> as Backing>⟧.faults files.old; new = ⟦<Armed<F> as Backing>⟧.faults files.new; own_old = F.faults files.old.inner; own_new = F.faults files.new.inner }) }
+    ensures paging { BackingKept device.Paging result.script result.history.items paging.old paging.new (record { old = ⟦<Armed<P> as Backing>⟧.faults paging.old; new = ⟦<Armed<P> as Backing>⟧.faults paging.new; own_old = P.faults paging.old.inner; own_new = P.faults paging.new.inner }) }
+    ensures losses { LosesNothingElse (record { old = ⟦<Armed<F> as Backing>⟧.faults files.old; new = ⟦<Armed<F> as Backing>⟧.faults files.new; own_old = F.faults files.old.inner; own_new = F.faults files.new.inner }) (record { old = ⟦<Armed<P> as Backing>⟧.faults paging.old; new = ⟦<Armed<P> as Backing>⟧.faults paging.new; own_old = P.faults paging.old.inner; own_new = P.faults paging.new.inner }) result.script result.history.items }
 {
     let ran = run_script(alloc, report, &script, out, files, paging);
     let status = finish(alloc, report, &ran, out);
@@ -209,28 +192,16 @@ fn run<S: Source, K: Sink, F: Backing, P: Backing>(
     ensures output { result.status ≡ Status.OutputFault → IsOutputFault (S.left source.old) (outside_of (F.area files.old.inner) (P.area paging.old.inner)) report result.script result.history.items (K.written out.old) (K.written out.new) }
     ensures memory { result.status ≡ Status.NoMemory → IsNoMemory (S.left source.old) (outside_of (F.area files.old.inner) (P.area paging.old.inner)) report result.script result.history.items (K.written out.old) (K.written out.new) }
     ensures full { result.status ≡ Status.EventLimit → IsEventLimit (S.left source.old) (outside_of (F.area files.old.inner) (P.area paging.old.inner)) report result.script result.history.items (K.written out.old) (K.written out.new) }
-    ensures quiet { WaitsForFramesAlone result.script result.history.items }
-    ensures carried { CarriesAll result.script result.history.items }
     ensures ranges { IfSome result.script KeepsRanges }
-    ensures limit { IsBelowLimit result.history.items }
     ensures source { OfBytes (S.left source.old) (λ bytes. LeavesBytes result.status result.script bytes (S.left source.new)) }
     ensures read_cause { result.status ≡ Status.ReadFault → CountRises (S.faults source.old) (S.faults source.new) }
     ensures output_cause { result.status ≡ Status.OutputFault → CountRises (K.faults out.old) (K.faults out.new) }
     ensures source_later { S.faults source.old ≤ S.faults source.new }
     ensures sink_later { K.faults out.old ≤ K.faults out.new }
-    ensures kept { KeptAt (outside_of (F.area files.old.inner) (P.area paging.old.inner)) (P.area paging.old.inner) (P.area paging.new.inner) result.script result.history.items }
-    ensures files_kept { FilesKeptAt (F.area files.old.inner) (F.area files.new.inner) result.script result.history.items }
-    ensures files_flat { FilesFlatAt (outside_of (F.area files.old.inner) (P.area paging.old.inner)) (F.area files.old.inner) (F.area files.new.inner) result.script result.history.items }
-    ensures files { BackingEnds device.Files result.script result.history.items files.old files.new }
-    ensures paging { BackingEnds device.Paging result.script result.history.items paging.old paging.new }
-    ensures files_devices { FailuresCounted device.Files (⟦<Armed<F> as Backing>⟧.faults files.old) (⟦<Armed<F> as Backing>⟧.faults files.new) result.history.items }
-    ensures devices { FailuresCounted device.Paging (⟦<Armed<P> as Backing>⟧.faults paging.old) (⟦<Armed<P> as Backing>⟧.faults paging.new) result.history.items }
-    ensures files_bounded { FailuresBounded device.Files (commands_run result.script result.history.items) (F.faults files.old.inner) (F.faults files.new.inner) (⟦<Armed<F> as Backing>⟧.faults files.new) result.history.items }
-    ensures bounded { FailuresBounded device.Paging (commands_run result.script result.history.items) (P.faults paging.old.inner) (P.faults paging.new.inner) (⟦<Armed<P> as Backing>⟧.faults paging.new) result.history.items }
-    ensures losses { HasNotFailed device.Files (commands_run result.script result.history.items) (F.faults files.old.inner) (F.faults files.new.inner) (⟦<Armed<F> as Backing>⟧.faults files.new)
-        → HasNotFailed device.Paging (commands_run result.script result.history.items) (P.faults paging.old.inner) (P.faults paging.new.inner) (⟦<Armed<P> as Backing>⟧.faults paging.new)
-        → LosesUnslotted result.script result.history.items }
-    ensures linear { MemoryIsOne (outside_of (F.area files.old.inner) (P.area paging.old.inner)) result.script result.history.items }
+    ensures always { HoldsAlways (F.area files.old.inner) (F.area files.new.inner) (P.area paging.old.inner) (P.area paging.new.inner) result.script result.history.items }
+    ensures files { BackingKept device.Files result.script result.history.items files.old files.new (record { old = ⟦<Armed<F> as Backing>⟧.faults files.old; new = ⟦<Armed<F> as Backing>⟧.faults files.new; own_old = F.faults files.old.inner; own_new = F.faults files.new.inner }) }
+    ensures paging { BackingKept device.Paging result.script result.history.items paging.old paging.new (record { old = ⟦<Armed<P> as Backing>⟧.faults paging.old; new = ⟦<Armed<P> as Backing>⟧.faults paging.new; own_old = P.faults paging.old.inner; own_new = P.faults paging.new.inner }) }
+    ensures losses { LosesNothingElse (record { old = ⟦<Armed<F> as Backing>⟧.faults files.old; new = ⟦<Armed<F> as Backing>⟧.faults files.new; own_old = F.faults files.old.inner; own_new = F.faults files.new.inner }) (record { old = ⟦<Armed<P> as Backing>⟧.faults paging.old; new = ⟦<Armed<P> as Backing>⟧.faults paging.new; own_old = P.faults paging.old.inner; own_new = P.faults paging.new.inner }) result.script result.history.items }
 {
     let bytes = match read_all(alloc, source) {
         Ok(bytes) => bytes,
@@ -264,25 +235,13 @@ fn generate<K: Sink, F: Backing, P: Backing>(
     ensures bad { (line : ℕ) → (kind : ScriptFault) → ¬ (result.status ≡ Status.BadScript line kind) }
     ensures usage { ¬ (result.status ≡ Status.Usage) }
     ensures read { ¬ (result.status ≡ Status.ReadFault) }
-    ensures quiet { WaitsForFramesAlone result.script result.history.items }
-    ensures carried { CarriesAll result.script result.history.items }
     ensures ranges { IfSome result.script KeepsRanges }
-    ensures limit { IsBelowLimit result.history.items }
     ensures output_cause { result.status ≡ Status.OutputFault → CountRises (K.faults out.old) (K.faults out.new) }
     ensures sink_later { K.faults out.old ≤ K.faults out.new }
-    ensures kept { KeptAt (outside_of (F.area files.old.inner) (P.area paging.old.inner)) (P.area paging.old.inner) (P.area paging.new.inner) result.script result.history.items }
-    ensures files_kept { FilesKeptAt (F.area files.old.inner) (F.area files.new.inner) result.script result.history.items }
-    ensures files_flat { FilesFlatAt (outside_of (F.area files.old.inner) (P.area paging.old.inner)) (F.area files.old.inner) (F.area files.new.inner) result.script result.history.items }
-    ensures files { BackingEnds device.Files result.script result.history.items files.old files.new }
-    ensures paging { BackingEnds device.Paging result.script result.history.items paging.old paging.new }
-    ensures files_devices { FailuresCounted device.Files (⟦<Armed<F> as Backing>⟧.faults files.old) (⟦<Armed<F> as Backing>⟧.faults files.new) result.history.items }
-    ensures devices { FailuresCounted device.Paging (⟦<Armed<P> as Backing>⟧.faults paging.old) (⟦<Armed<P> as Backing>⟧.faults paging.new) result.history.items }
-    ensures files_bounded { FailuresBounded device.Files (commands_run result.script result.history.items) (F.faults files.old.inner) (F.faults files.new.inner) (⟦<Armed<F> as Backing>⟧.faults files.new) result.history.items }
-    ensures bounded { FailuresBounded device.Paging (commands_run result.script result.history.items) (P.faults paging.old.inner) (P.faults paging.new.inner) (⟦<Armed<P> as Backing>⟧.faults paging.new) result.history.items }
-    ensures losses { HasNotFailed device.Files (commands_run result.script result.history.items) (F.faults files.old.inner) (F.faults files.new.inner) (⟦<Armed<F> as Backing>⟧.faults files.new)
-        → HasNotFailed device.Paging (commands_run result.script result.history.items) (P.faults paging.old.inner) (P.faults paging.new.inner) (⟦<Armed<P> as Backing>⟧.faults paging.new)
-        → LosesUnslotted result.script result.history.items }
-    ensures linear { MemoryIsOne (outside_of (F.area files.old.inner) (P.area paging.old.inner)) result.script result.history.items }
+    ensures always { HoldsAlways (F.area files.old.inner) (F.area files.new.inner) (P.area paging.old.inner) (P.area paging.new.inner) result.script result.history.items }
+    ensures files { BackingKept device.Files result.script result.history.items files.old files.new (record { old = ⟦<Armed<F> as Backing>⟧.faults files.old; new = ⟦<Armed<F> as Backing>⟧.faults files.new; own_old = F.faults files.old.inner; own_new = F.faults files.new.inner }) }
+    ensures paging { BackingKept device.Paging result.script result.history.items paging.old paging.new (record { old = ⟦<Armed<P> as Backing>⟧.faults paging.old; new = ⟦<Armed<P> as Backing>⟧.faults paging.new; own_old = P.faults paging.old.inner; own_new = P.faults paging.new.inner }) }
+    ensures losses { LosesNothingElse (record { old = ⟦<Armed<F> as Backing>⟧.faults files.old; new = ⟦<Armed<F> as Backing>⟧.faults files.new; own_old = F.faults files.old.inner; own_new = F.faults files.new.inner }) (record { old = ⟦<Armed<P> as Backing>⟧.faults paging.old; new = ⟦<Armed<P> as Backing>⟧.faults paging.new; own_old = P.faults paging.old.inner; own_new = P.faults paging.new.inner }) result.script result.history.items }
 {
     match make_script(alloc, number, lines) {
         Ok(script) => run_read(alloc, Report::Summary, script, out, files, paging),
@@ -341,55 +300,24 @@ pub fn pagers_main<S: Source, K: Sink, F: Backing, P: Backing>(
     ensures memory { result.status ≡ Status.NoMemory → (report : Report) → asked_by words.now ≡ Some (jobs.Run report)
         → IsNoMemory (S.left script.old) (outside_of (F.area files.old.inner) (P.area paging.old.inner)) report result.script result.history.items (K.written out.old) (K.written out.new) }
 
-    // The history is full while a step is left; and no step of any history began where it was full.
+    // The history is full while a step is left.
     ensures full { result.status ≡ Status.EventLimit → (report : Report)
         → asked_by words.now ≡ Some (jobs.Run report)
         → IsEventLimit (S.left script.old) (outside_of (F.area files.old.inner) (P.area paging.old.inner)) report result.script result.history.items (K.written out.old) (K.written out.new) }
-    ensures limit { IsBelowLimit result.history.items }
 
-    // Words that ask for no run leave the source as it was; a run reads it to its end, or beyond what a script may have.
+    // Words that ask for no run leave the source as it was; a run reads it to its end, or beyond what a script may have. Whatever it tells, the script
+    // that is held keeps the grammar's ranges. Counts of faults never fall.
     ensures source { LeavesSource S.left (asked_by words.now) result.status result.script script.old script.new }
-
-    // Whatever the source tells, the script that is held keeps the grammar's ranges.
     ensures ranges { IfSome result.script KeepsRanges }
-
-    // Wherever a script is held, the history ends with a whole step. Once nothing is undelivered there no access
-    // waits while frames are reclaimable, but on a wild object; and whoever is asked has a message on its way.
-    ensures quiet { WaitsForFramesAlone result.script result.history.items }
-    ensures carried { CarriesAll result.script result.history.items }
-
-    // Counts of faults never fall.
     ensures source_later { S.faults script.old ≤ S.faults script.new }
     ensures sink_later { K.faults out.old ≤ K.faults out.new }
 
-    // At every status, where the paging area told before it tells now, and each page that was returned and not lost stands at its slot; and
-    // each declared file has what was returned, and else what it had. An arming that stood before is gone, and `fail` alone arms. Failures of
-    // a backing are told at most as often as its count of faults rose, and as the backing within failed of its own and `fail` commands were
-    // run; where none is told the count stays.
-    ensures kept { KeptAt (outside_of (F.area files.old.inner) (P.area paging.old.inner)) (P.area paging.old.inner) (P.area paging.new.inner) result.script result.history.items }
-    ensures files_kept { FilesKeptAt (F.area files.old.inner) (F.area files.new.inner) result.script result.history.items }
-    ensures files { BackingEnds device.Files result.script result.history.items files.old files.new }
-    ensures paging { BackingEnds device.Paging result.script result.history.items paging.old paging.new }
-    ensures files_devices { FailuresCounted device.Files (⟦<Armed<F> as Backing>⟧.faults files.old) (⟦<Armed<F> as Backing>⟧.faults files.new) result.history.items }
-    ensures devices { FailuresCounted device.Paging (⟦<Armed<P> as Backing>⟧.faults paging.old) (⟦<Armed<P> as Backing>⟧.faults paging.new) result.history.items }
-    ensures files_bounded { FailuresBounded device.Files (commands_run result.script result.history.items) (F.faults files.old.inner) (F.faults files.new.inner) (⟦<Armed<F> as Backing>⟧.faults files.new) result.history.items }
-    ensures bounded { FailuresBounded device.Paging (commands_run result.script result.history.items) (P.faults paging.old.inner) (P.faults paging.new.inner) (⟦<Armed<P> as Backing>⟧.faults paging.new) result.history.items }
-
-    // At every status: where neither backing within failed in this call and no `fail` was run, unless a whole count stands at its last value,
-    // no event tells of a device that failed, and each access that fails, but for one to a wild object, is to a page of temporary memory for
-    // which there was no slot.
-    ensures losses { HasNotFailed device.Files (commands_run result.script result.history.items) (F.faults files.old.inner) (F.faults files.new.inner) (⟦<Armed<F> as Backing>⟧.faults files.new)
-        → HasNotFailed device.Paging (commands_run result.script result.history.items) (P.faults paging.old.inner) (P.faults paging.new.inner) (⟦<Armed<P> as Backing>⟧.faults paging.new)
-        → LosesUnslotted result.script result.history.items }
-
-    // At every status: memory is one. Each load and each store takes effect at one moment between its beginning and its end, and a load reads what
-    // was stored last in the order of these moments, which keeps the order of each task.
-    ensures linear { MemoryIsOne (outside_of (F.area files.old.inner) (P.area paging.old.inner)) result.script result.history.items }
-
-    // At every status: where nothing is undelivered, no `device files` event stands in the history, and no control of a declared file lives on
-    // its host, the file, with zeros past its end, begins with the bytes of the flat map, as far as its object goes. What stands past its
-    // object's end is as it was.
-    ensures files_flat { FilesFlatAt (outside_of (F.area files.old.inner) (P.area paging.old.inner)) (F.area files.old.inner) (F.area files.new.inner) result.script result.history.items }
+    // At every status: what holds of the history, and of what files and paging area tell; how each of them is armed, and how often it failed; and what
+    // alone is lost.
+    ensures always { HoldsAlways (F.area files.old.inner) (F.area files.new.inner) (P.area paging.old.inner) (P.area paging.new.inner) result.script result.history.items }
+    ensures files { BackingKept device.Files result.script result.history.items files.old files.new (record { old = ⟦<Armed<F> as Backing>⟧.faults files.old; new = ⟦<Armed<F> as Backing>⟧.faults files.new; own_old = F.faults files.old.inner; own_new = F.faults files.new.inner }) }
+    ensures paging { BackingKept device.Paging result.script result.history.items paging.old paging.new (record { old = ⟦<Armed<P> as Backing>⟧.faults paging.old; new = ⟦<Armed<P> as Backing>⟧.faults paging.new; own_old = P.faults paging.old.inner; own_new = P.faults paging.new.inner }) }
+    ensures losses { LosesNothingElse (record { old = ⟦<Armed<F> as Backing>⟧.faults files.old; new = ⟦<Armed<F> as Backing>⟧.faults files.new; own_old = F.faults files.old.inner; own_new = F.faults files.new.inner }) (record { old = ⟦<Armed<P> as Backing>⟧.faults paging.old; new = ⟦<Armed<P> as Backing>⟧.faults paging.new; own_old = P.faults paging.old.inner; own_new = P.faults paging.new.inner }) result.script result.history.items }
 {
     files.disarm();
     paging.disarm();

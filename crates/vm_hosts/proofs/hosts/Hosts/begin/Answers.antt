@@ -1,4 +1,4 @@
-use Rattle.vm_hosts.proofs.Common.{AllQueued, AllRest, Command, HostTable, IsReady, Went, length, subst, sym}
+use Rattle.vm_hosts.proofs.Common.{AllQueued, AllRest, Command, HostTable, IsReady, Went, breadth_of, length, subst, sym}
 use Rattle.vm_hosts.proofs.Dues.{acted_few, acted_room, front_fits, front_room, other_dues}
 use Rattle.vm_hosts.proofs.Rooms.{all_rooms, on_err, queued_rooms}
 use Rattle.vm_hosts.proofs.Starting.{began, rests_ran, starts_of}
@@ -23,10 +23,10 @@ serve_all-requires g c =
     let k = c.index_mut.result.now in
     let at = found given.header hosts given.past h k all c.in-Some.ensures.known c.index_mut.ensures.value in
     let some = c.requires.1.1.1.1.1.1.1 in
-    let ready : IsReady some.0 hosts c.args.log.now.room = subst (λ (z : HostTable). IsReady some.0 z c.args.log.now.room) (sym c.self.view_is) some.1 in
-    let room = c.in_ok-begin.ensures.room (other_dues h hosts.kernels) (ready.each h k at.at) (front_room hosts h c.begin.new.self k c.begin.new.ids at.at some.0 c.args.log.now.room ready) in (
+    let ready : IsReady (breadth_of c.args.command.now) some.0 hosts c.args.log.now.room = subst (λ (z : HostTable). IsReady (breadth_of c.args.command.now) some.0 z c.args.log.now.room) (sym c.self.view_is) some.1 in
+    let room = c.in_ok-begin.ensures.room (other_dues h hosts.kernels) (ready.each h k at.at) (front_room hosts h c.begin.new.self k c.begin.new.ids at.at (breadth_of c.args.command.now) some.0 c.args.log.now.room ready) in (
       rests_ran given.header given.outside c.args.command.now given.past c.begin.new.log.items hosts h k.host.0 c.begin.new.self c.begin.new.ids at.number c.in-Some.ensures.known all c.in_ok-begin.ensures.ran,
-      acted_room hosts h c.begin.new.self k c.begin.new.ids at.at some.0 c.args.log.now.room c.begin.new.log.room ready room c.in_ok-begin.ensures.marks,
+      acted_room hosts h c.begin.new.self k c.begin.new.ids at.at (breadth_of c.args.command.now) some.0 c.args.log.now.room c.begin.new.log.room ready room c.in_ok-begin.ensures.marks,
     )
 
 pub returns-clause-began : goal.returns-clause-began
@@ -47,8 +47,8 @@ returns-clause-few g c = λ events able.
     let h = c.in-Some.host.0 in
     let k = c.index_mut.result.now in
     let at = found given.header hosts given.past h k all c.in-Some.ensures.known c.index_mut.ensures.value in
-    let ready : IsReady events hosts c.args.log.now.room = subst (λ (z : HostTable). IsReady events z c.args.log.now.room) (sym c.self.view_is) able in
-    acted_few hosts h c.begin.new.self k c.begin.new.ids at.at events c.args.log.now.room (length c.begin.new.log.items) (length c.serve_all.new.log.items) ready c.in_ok-begin.ensures.few c.serve_all.ensures.few
+    let ready : IsReady (breadth_of c.args.command.now) events hosts c.args.log.now.room = subst (λ (z : HostTable). IsReady (breadth_of c.args.command.now) events z c.args.log.now.room) (sym c.self.view_is) able in
+    acted_few hosts h c.begin.new.self k c.begin.new.ids at.at (breadth_of c.args.command.now) events c.args.log.now.room (length c.begin.new.log.items) (length c.serve_all.new.log.items) ready c.in_ok-begin.ensures.few c.serve_all.ensures.few
 
 pub returns-in_err-begin-clause-err : goal.returns-in_err-begin-clause-err
 returns-in_err-begin-clause-err g c =
@@ -59,8 +59,8 @@ returns-in_err-begin-clause-err g c =
     let k = c.index_mut.result.now in
     let at = found given.header hosts given.past h k all c.in-Some.ensures.known c.index_mut.ensures.value in
     let some = c.requires.1.1.1.1.1.1.1 in
-    let ready : IsReady some.0 hosts c.args.log.now.room = subst (λ (z : HostTable). IsReady some.0 z c.args.log.now.room) (sym c.self.view_is) some.1 in
-    let failed = c.in_err-begin.ensures.err (ready.each h k at.at) (front_fits hosts h c.begin.new.self k c.begin.new.ids at.at some.0 c.args.log.now.room ready) in
+    let ready : IsReady (breadth_of c.args.command.now) some.0 hosts c.args.log.now.room = subst (λ (z : HostTable). IsReady (breadth_of c.args.command.now) some.0 z c.args.log.now.room) (sym c.self.view_is) some.1 in
+    let failed = c.in_err-begin.ensures.err (ready.each h k at.at) (front_fits hosts h c.begin.new.self k c.begin.new.ids at.at (breadth_of c.args.command.now) some.0 c.args.log.now.room ready) in
     on_err c.from_residual.result (
       all_rooms hosts h c.begin.new.self k c.begin.new.ids at.at failed.0 failed.1.0 given.header given.past all,
       (λ was. queued_rooms hosts h c.begin.new.self k c.begin.new.ids at.at failed.0 failed.1.0 given.header given.past (subst (λ (z : HostTable). AllQueued given.header z given.past) (sym c.self.view_is) was), failed.1.1),

@@ -29,13 +29,13 @@ returns-then-washed-clause-rests g c =
     c.laundered.ensures.passed refl
 
 pub returns-then-washed-clause-ready : goal.returns-then-washed-clause-ready
-returns-then-washed-clause-ready g c = λ events room able.
+returns-then-washed-clause-ready g c = λ breadth events room able.
     let given = g.given in
     let hosts : HostTable = record { kernels = c.self.inside.kernels.items; ids = c.self.inside.ids } in
     let all : AllRest given.header hosts given.past = subst (λ (z : HostTable). AllRest given.header z given.past) (sym c.self.view_is) c.requires.0 in
     let k = c.index_mut.result.now in
     let at = found given.header hosts given.past c.args.host.0 k all c.requires.1.known c.index_mut.ensures.value in
-    ready_same hosts c.args.host.0 k c.laundered.new.self events room at.at c.laundered.ensures.ready c.laundered.ensures.most (subst (λ (z : HostTable). IsReady events z room) (sym c.self.view_is) able)
+    ready_same breadth hosts c.args.host.0 k c.laundered.new.self events room at.at (c.laundered.ensures.ready breadth) (c.laundered.ensures.most breadth) (subst (λ (z : HostTable). IsReady breadth events z room) (sym c.self.view_is) able)
 
 pub returns-else-washed-clause-rests : goal.returns-else-washed-clause-rests
 returns-else-washed-clause-rests g c = behind_kept g.given.header g.given.outside g.given.command c.args.host g.given.past g.given.front c.args.washed c.args.self.now c.if-washed.false c.requires.1 c.requires.0

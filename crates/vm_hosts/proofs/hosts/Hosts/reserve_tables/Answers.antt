@@ -6,7 +6,7 @@ use Rattle.vm_hosts.proofs.hosts.Hosts.reserve_tables.Goals as goal
 pub rooms-init : goal.rooms-init
 rooms-init c =
     let hosts : HostTable = record { kernels = c.self.inside.kernels.items; ids = c.self.inside.ids } in
-    record { reserving = subst (λ (z : HostTable). Reserving z 0 0 hosts) c.self.view_is (reserving_start hosts); same = refl }
+    record { reserving = subst (λ (z : HostTable). Reserving c.args.breadth z 0 0 hosts) c.self.view_is (reserving_start c.args.breadth hosts); same = refl }
 
 pub returns-in_err-reserve-clause-rests : goal.returns-in_err-reserve-clause-rests
 returns-in_err-reserve-clause-rests c =
@@ -18,7 +18,7 @@ returns-in_err-reserve-clause-rests c =
     let within : c.rooms.host < length hosts.kernels = omega (arith, same, count, test) in
     let k = c.index_mut-kernel.result.now in
     let at = kernel_read hosts.kernels c.rooms.host k within c.index_mut-kernel.ensures.value in
-    (reserving_tried c.args.self.now hosts c.rooms.host c.rooms.most c.reserve.new.self k at c.reserve.ensures.is was.reserving).0
+    (reserving_tried c.args.breadth c.args.self.now hosts c.rooms.host c.rooms.most c.reserve.new.self k at c.reserve.ensures.is was.reserving).0
 
 pub returns-in_err-reserve-clause-queues : goal.returns-in_err-reserve-clause-queues
 returns-in_err-reserve-clause-queues c =
@@ -30,7 +30,7 @@ returns-in_err-reserve-clause-queues c =
     let within : c.rooms.host < length hosts.kernels = omega (arith, same, count, test) in
     let k = c.index_mut-kernel.result.now in
     let at = kernel_read hosts.kernels c.rooms.host k within c.index_mut-kernel.ensures.value in
-    (reserving_tried c.args.self.now hosts c.rooms.host c.rooms.most c.reserve.new.self k at c.reserve.ensures.is was.reserving).1
+    (reserving_tried c.args.breadth c.args.self.now hosts c.rooms.host c.rooms.most c.reserve.new.self k at c.reserve.ensures.is was.reserving).1
 
 pub returns-in_default-clause-rests : goal.returns-in_default-clause-rests
 returns-in_default-clause-rests c =
@@ -42,7 +42,7 @@ returns-in_default-clause-rests c =
     let within : c.rooms.host < length hosts.kernels = omega (arith, same, count, test) in
     let k = c.index_mut-kernel.result.now in
     let at = kernel_read hosts.kernels c.rooms.host k within c.index_mut-kernel.ensures.value in
-    (reserving_tried c.args.self.now hosts c.rooms.host c.rooms.most c.reserve.new.self k at c.reserve.ensures.is was.reserving).0
+    (reserving_tried c.args.breadth c.args.self.now hosts c.rooms.host c.rooms.most c.reserve.new.self k at c.reserve.ensures.is was.reserving).0
 
 pub returns-in_default-clause-queues : goal.returns-in_default-clause-queues
 returns-in_default-clause-queues c =
@@ -54,7 +54,7 @@ returns-in_default-clause-queues c =
     let within : c.rooms.host < length hosts.kernels = omega (arith, same, count, test) in
     let k = c.index_mut-kernel.result.now in
     let at = kernel_read hosts.kernels c.rooms.host k within c.index_mut-kernel.ensures.value in
-    (reserving_tried c.args.self.now hosts c.rooms.host c.rooms.most c.reserve.new.self k at c.reserve.ensures.is was.reserving).1
+    (reserving_tried c.args.breadth c.args.self.now hosts c.rooms.host c.rooms.most c.reserve.new.self k at c.reserve.ensures.is was.reserving).1
 
 pub rooms-preserved : goal.rooms-preserved
 rooms-preserved c =
@@ -68,7 +68,7 @@ rooms-preserved c =
     let at = kernel_read hosts.kernels c.rooms.host k within c.index_mut-kernel.ensures.value in
     record {
       reserving =
-          reserving_next c.args.self.now hosts c.rooms.host c.rooms.most c.most.result c.in-Some.sum c.reserve.new.self k at c.reserve.ensures.is c.in_ok-reserve.ensures.ready c.most.ensures c.in-Some.ensures.1 was.reserving;
+          reserving_next c.args.breadth c.args.self.now hosts c.rooms.host c.rooms.most c.most.result c.in-Some.sum c.reserve.new.self k at c.reserve.ensures.is c.in_ok-reserve.ensures.ready c.most.ensures c.in-Some.ensures.1 was.reserving;
       same = length-set {A = Parts} hosts.kernels c.rooms.host c.reserve.new.self ∙ same;
     }
 
@@ -81,4 +81,4 @@ returns-clause-ready c = λ space room.
     let test = c.rooms-test.false in
     let below = c.rooms.auto.host-end in
     let all : length hosts.kernels ≡ c.rooms.host = omega (arith, same, count, test, below) in
-    reserving_done c.args.self.now hosts c.rooms.host c.rooms.most space all room was.reserving
+    reserving_done c.args.breadth c.args.self.now hosts c.rooms.host c.rooms.most space all room was.reserving

@@ -10,6 +10,7 @@ use Rattle.vm_kernel.proofs.Composing.{few_behind, heeding, listed_few, more_few
 use Rattle.vm_kernel.proofs.Departing.{roomy_fewer, roomy_on, spends_less}
 use Rattle.vm_kernel.proofs.Spending.{spends_both}
 use Rattle.vm_kernel.specs.Rooms.{Spends, front}
+use Rattle.vm_kernel.specs.declared.breadth.Breadth.TheVariants as wide
 use Rattle.vm_kernel.proofs.parts.Parts.take.Goals as goal
 
 -- the history behind the taking
@@ -58,7 +59,7 @@ returns-clause-restarts g c =
     (λ restarts. subst (λ (z : List TaskId). Restarted g.given.header g.given.host c.restart.new.self.waits.rows (taken g) z c.restart.new.self.waits.queue c.restart.new.log.items) (quiet.queue ∙ c.in_ok-woken.ensures.queue) (restarts yet))
     c.restart.ensures.restarts
 
-cost_few : (g : given.Over) (c : goal.After-restart g) → heeding c.args.self.now c.heed.new.self c.args.ids.now ≤ front c.args.self.now c.args.ids.now
+cost_few : (g : given.Over) (c : goal.After-restart g) → heeding c.args.self.now c.heed.new.self c.args.ids.now ≤ front wide.Word c.args.self.now c.args.ids.now
 cost_few g c =
     word_costs g.given.header g.given.host c.args.self.now c.heed.new.self c.args.ids.now g.given.past (c.heed.new.log.items ++ taken g) c.requires.0.matches c.in_ok-woken.ensures.works.matches c.stand_once.ensures c.stand_once-2.ensures
 
@@ -71,7 +72,7 @@ all_spends g c =
 
 pub returns-clause-few : goal.returns-clause-few
 returns-clause-few g c =
-    let few = told_behind c.args.self.now c.wake.new.self c.args.ids.now c.args.ids.now c.args.log.now c.wake.new.log (heeding c.args.self.now c.heed.new.self c.args.ids.now) (front c.args.self.now c.args.ids.now) (cost_few g c) (all_spends g c) in
+    let few = told_behind c.args.self.now c.wake.new.self c.args.ids.now c.args.ids.now c.args.log.now c.wake.new.log (heeding c.args.self.now c.heed.new.self c.args.ids.now) (front wide.Word c.args.self.now c.args.ids.now) (cost_few g c) (all_spends g c) in
     on_ok c.restart.result _ _ (λ more. few_behind more few) c.restart.ensures.few
 
 pub returns-clause-room : goal.returns-clause-room

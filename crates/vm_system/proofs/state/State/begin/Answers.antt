@@ -1,4 +1,4 @@
-use Rattle.vm_system.proofs.Common.{AllQueued, AllRest, Began, Event, HasRoom, IsLined, Listed, None, Step, all_lined, ap, arith, length, queued_lined, refl, refusal, subst, sym, ◌∙◌, ◌∷◌, ◌≡◌}
+use Rattle.vm_system.proofs.Common.{AllQueued, AllRest, Began, Breadth, Event, HasRoom, IsLined, IsReady, Listed, None, Step, all_lined, ap, arith, length, queued_lined, refl, refusal, subst, sym, ◌∙◌, ◌∷◌, ◌≡◌}
 use Rattle.vm_model.specs.declared.event.Event.TheVariants as event
 use Rattle.vm_system.proofs.Beginning.{can_tell, makes_told, spares_told, told_said}
 use Rattle.vm_system.proofs.Following.{both_spares, same_all}
@@ -30,7 +30,7 @@ begin-requires g c =
               subst (λ (z : Step). refusal z.header z.past doing ≡ None) to (refusal_line given.header c.args.line h doing ∙ rw r.history c.requires.1.1.1.1),
               (
                 subst (λ (z : Step). IsLined z.past) to (record { line = c.args.line; before = h; is = refl }),
-                (stands.log, (c.in_ok-prepare.ensures.ready.0, c.in_ok-prepare.ensures.ready.1.hosts)),
+                (stands.log, (c.in_ok-prepare.ensures.ready.0, subst (λ (z : Breadth). IsReady z c.in_ok-prepare.ensures.ready.0 t.hosts t.log.room) c.of.ensures c.in_ok-prepare.ensures.ready.1.hosts)),
               ),
             ),
           ),
@@ -62,7 +62,7 @@ pub commit_log-requires-clause-room : goal.commit_log-requires-clause-room
 commit_log-requires-clause-room g c =
     let ready = c.in_ok-prepare.ensures.ready in
     let t = c.prepare.new.self in
-    let few = c.in_ok-begin.ensures.few ready.0 ready.1.hosts in
+    let few = c.in_ok-begin.ensures.few ready.0 (subst (λ (z : Breadth). IsReady z ready.0 t.hosts t.log.room) c.of.ensures ready.1.hosts) in
     subst (λ (z : Listed Event). HasRoom (length z.items) c.tell.new.self) (sym c.tell.ensures.hosts.log) (tells_line ready.0 (length c.begin.new.log.items) t c.tell.new.self few ready.1.room (λ n h d s l. c.tell.ensures.room n (record { history = h; channels = d; numbers = s; letters = l })))
 
 pub returns-clause-made : goal.returns-clause-made

@@ -4,6 +4,7 @@ use Rattle.vm_system.proofs.Beginning.{asked_of, asked_rests, can_ask, head_of, 
 use Rattle.vm_system.proofs.Following.{both_spares}
 use Rattle.vm_system.proofs.Legal.{legal_passed}
 use Rattle.vm_system.proofs.Roomed.{line_and_log, line_then_log, makes_roomed, on_err, ready_put, room_for, spares_roomed, stands_roomed, still_roomed, tells_asked}
+use Rattle.vm_kernel.specs.declared.breadth.Breadth.TheVariants as wide
 use Rattle.vm_system.proofs.state.State.pass.Goals as goal
 use Rattle.vm_system.proofs.Sharing.{none_temporary}
 
@@ -49,9 +50,9 @@ serve-requires g c =
     let accepted : refusal given.header t.history.items doing ≡ None = rw r.history c.requires.1.1.1.1 in
     let says = asked_of given.header given.outside doing c.args.line t given.past asked stands c.requires.1.1.0 accepted c.requires.1.1.1.0 past c.in_ok-asked.ensures.head in
     let ready = c.in_ok-prepare.ensures.ready in
-    let held = ready_put ready.0 t.hosts t.log.room c.put.new.log.room ready.1.hosts ready.1.log c.put.ensures.room in
+    let held = ready_put wide.Few ready.0 t.hosts t.log.room c.put.new.log.room ready.1.hosts ready.1.log c.put.ensures.room in
     let rests : AllRest given.header t.hosts (asked ++ given.past) = subst (λ (z : List Event). AllRest given.header t.hosts (asked ++ z)) (sym past) (asked_rests given.header given.outside doing c.args.line asked t stands says) in
-    (rw c.put.ensures.items rests, (ready.0, held))
+    (rw c.put.ensures.items rests, (wide.Few, (ready.0, held)))
 
 pub tell-requires-clause-room : goal.tell-requires-clause-room
 tell-requires-clause-room g c =
@@ -82,8 +83,8 @@ pub commit_log-requires-clause-room : goal.commit_log-requires-clause-room
 commit_log-requires-clause-room g c =
     let t = c.prepare.new.self in
     let ready = c.in_ok-prepare.ensures.ready in
-    let held = ready_put ready.0 t.hosts t.log.room c.put.new.log.room ready.1.hosts ready.1.log c.put.ensures.room in
-    let few = c.serve.ensures.few ready.0 held in
+    let held = ready_put wide.Few ready.0 t.hosts t.log.room c.put.new.log.room ready.1.hosts ready.1.log c.put.ensures.room in
+    let few = c.serve.ensures.few wide.Few ready.0 held in
     let one = c.in_ok-asked.ensures.few in
     let put = ap (λ (z : List Event). length z) c.put.ensures.items in
     subst (λ (z : Listed Event). HasRoom (length z.items) c.tell.new.self) (sym c.tell.ensures.hosts.log) (tells_asked ready.0 (length c.serve.new.log.items) t c.tell.new.self (omega (arith, few, one, put)) ready.1.room (λ n h d s l. c.tell.ensures.room n (record { history = h; channels = d; numbers = s; letters = l })))

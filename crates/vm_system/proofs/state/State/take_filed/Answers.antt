@@ -8,6 +8,7 @@ use Rattle.vm_system.proofs.Roomed.{arming_kept, behind_answers, behind_first, m
 use Rattle.vm_system.proofs.Taken.{first_told, may_head, may_only, may_port, may_read, may_some, may_there}
 use Rattle.vm_system.proofs.TakenFiled.{answered_filed, can_reply_filed, carried_failed, carried_filed, devices_filed, filed_failed, filed_known, filed_reply, kept_filed, spares_filed, stands_filed, took_filed, up_filed}
 use Rattle.vm_system.proofs.TakenUp.{front_is, front_length, pager_read, set_same}
+use Rattle.vm_kernel.specs.declared.breadth.Breadth.TheVariants as wide
 use Rattle.vm_system.proofs.state.State.take_filed.Goals as goal
 
 pub head-requires : goal.head-requires
@@ -181,7 +182,7 @@ follow-requires g c =
     (answered_filed given c.args.host c.args.object m t now old table events reply (same_pagers _ _ both) files (same_declared _ _ both ∙ any.stands.agrees.declared) both.server both.hosts (both.size ∙ any.stands.agrees.size) items c.commit.ensures.posts (ap (λ (z : Listed Event). z.items) both.log ∙ any.stands.log)) in
     let ready = c.in_ok-prepare.ensures.ready in
     let room = behind_answers ready.0 2 (length events) c.take_first.new.self now c.in_ok-replies.ensures.few (behind_first ready.0 2 t c.take_first.new.self ready.1.room (λ n h d s l. c.take_first.ensures.room n (record { history = h; channels = d; numbers = s; letters = l }))) c.commit.ensures.room in
-    (front_length n now.history.items events (event.Taken channel m) front count, (done, (ready.0, (ready_still ready.0 t now both.hosts both.log ready.1.hosts, room))))
+    (front_length n now.history.items events (event.Taken channel m) front count, (done, (ready.0, (ready_still wide.Few ready.0 t now both.hosts both.log ready.1.hosts, room))))
 
 pub returns-clause-files_kept : goal.returns-clause-files_kept
 returns-clause-files_kept g c =

@@ -6,6 +6,7 @@ use Rattle.vm_system.proofs.Following.{both_filing, kept_same, same_files, same_
 use Rattle.vm_system.proofs.Roomed.{arming_kept, behind_answers, behind_first, may_roomed, on_err, ready_still, room_for, roomed_files, roomed_pagers, still_alike, still_roomed}
 use Rattle.vm_system.proofs.Taken.{first_told, may_head, may_only, may_port, may_read, may_some, may_there}
 use Rattle.vm_system.proofs.TakenUp.{answered_up, can_reply, devices_up, front_is, front_length, kept_failed, kept_up, pager_read, reply_of, set_same, spares_up, took_up, up_known, up_word}
+use Rattle.vm_kernel.specs.declared.breadth.Breadth.TheVariants as wide
 use Rattle.vm_system.proofs.state.State.take_paged.Goals as goal
 
 pub head-requires : goal.head-requires
@@ -169,7 +170,7 @@ follow-requires g c =
     rw (front, c.gives_frame-washed.ensures) (answered_up given c.args.host c.args.object m t now old slots events reply pagers (same_files _ _ both) (same_declared _ _ both ∙ any.stands.agrees.declared) both.server both.hosts (both.size ∙ any.stands.agrees.size) items c.commit.ensures.posts (ap (λ (z : Listed Event). z.items) both.log ∙ any.stands.log)) in
     let ready = c.in_ok-prepare.ensures.ready in
     let room = behind_answers ready.0 2 (length events) c.take_first.new.self now c.in_ok-answers.ensures.few (behind_first ready.0 2 t c.take_first.new.self ready.1.room (λ n h d s l. c.take_first.ensures.room n (record { history = h; channels = d; numbers = s; letters = l }))) c.commit.ensures.room in
-    (front_length n now.history.items events (event.Taken channel m) front count, (done, (ready.0, (ready_still ready.0 t now both.hosts both.log ready.1.hosts, room))))
+    (front_length n now.history.items events (event.Taken channel m) front count, (done, (ready.0, (ready_still wide.Few ready.0 t now both.hosts both.log ready.1.hosts, room))))
 
 pub returns-clause-kept : goal.returns-clause-kept
 returns-clause-kept g c =

@@ -6,6 +6,7 @@ use Rattle.vm_system.proofs.Roomed.{behind_answers, behind_first, may_roomed, ma
 use Rattle.vm_system.proofs.Taken.{first_told, may_head, may_only, may_port, may_read, may_some, may_there}
 use Rattle.vm_system.proofs.TakenShared.{answered_shared, can_reply_shared, shared_reply, spares_shared, took_shared, up_shared}
 use Rattle.vm_system.proofs.TakenUp.{front_is, front_length}
+use Rattle.vm_kernel.specs.declared.breadth.Breadth.TheVariants as wide
 use Rattle.vm_system.proofs.state.State.take_shared.Goals as goal
 
 pub head-requires : goal.head-requires
@@ -165,7 +166,7 @@ follow-requires g c =
     let few = shared_few given c.args.line c.args.number channel c.args.object c.in-Some-head.index.now c.sent-message.result.now c.in_ok-most.most (length c.in_ok-words.words.items) s u t c.requires.0 any c.expect.ensures.same r.letters r.history r.server c.in-Some-head.ensures c.sent-message.ensures c.in_ok-most.ensures.most c.in_ok-words.ensures.few_told in
     let room_all = subst (λ (z : ℕ). HasRoom (ready.0 + z) t) (omega (arith, c.in-Some.ensures)) ready.1.room in
     let room = behind_answers ready.0 more (length events) c.take_first.new.self now few (behind_first ready.0 more t c.take_first.new.self room_all (λ n h d s l. c.take_first.ensures.room n (record { history = h; channels = d; numbers = s; letters = l }))) c.commit.ensures.room in
-    (front_length n now.history.items events (event.Taken channel m) front count, (done, (ready.0, (ready_still ready.0 t now both.hosts both.log ready.1.hosts, room))))
+    (front_length n now.history.items events (event.Taken channel m) front count, (done, (ready.0, (ready_still wide.Few ready.0 t now both.hosts both.log ready.1.hosts, room))))
 
 pub returns-clause-took : goal.returns-clause-took
 returns-clause-took g c =

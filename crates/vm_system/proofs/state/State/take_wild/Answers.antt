@@ -5,6 +5,7 @@ use Rattle.vm_system.proofs.Roomed.{behind_all, may_roomed, on_err, ready_still,
 use Rattle.vm_system.proofs.Taken.{first_told, may_head, may_only, may_port, may_read, may_some, may_there}
 use Rattle.vm_system.proofs.TakenUp.{front_is, front_length}
 use Rattle.vm_system.proofs.TakenWild.{answered_wild, heard_of, spares_wild, took_wild}
+use Rattle.vm_kernel.specs.declared.breadth.Breadth.TheVariants as wide
 use Rattle.vm_system.proofs.state.State.take_wild.Goals as goal
 
 pub head-requires : goal.head-requires
@@ -77,7 +78,7 @@ follow-requires g c =
     rw (front, c.gives_frame-washed.ensures)
     (answered_wild given c.args.host c.args.object m t now heard (same_pagers _ _ f) (same_files _ _ f) (same_declared _ _ f ∙ any.stands.agrees.declared) f.server f.hosts (f.size ∙ any.stands.agrees.size) items c.take_first.ensures.posts (ap (λ (z : Listed Event). z.items) f.log ∙ any.stands.log)) in
     let ready = c.in_ok-prepare.ensures.ready in
-    (front_length 1 now.history.items [] (event.Taken channel m) front refl, (done, (ready.0, (ready_still ready.0 t now f.hosts f.log ready.1.hosts, behind_all ready.0 t now ready.1.room (λ n h d s l. c.take_first.ensures.room n (record { history = h; channels = d; numbers = s; letters = l }))))))
+    (front_length 1 now.history.items [] (event.Taken channel m) front refl, (done, (ready.0, (ready_still wide.Few ready.0 t now f.hosts f.log ready.1.hosts, behind_all ready.0 t now ready.1.room (λ n h d s l. c.take_first.ensures.room n (record { history = h; channels = d; numbers = s; letters = l }))))))
 
 pub returns-clause-took : goal.returns-clause-took
 returns-clause-took g c =
