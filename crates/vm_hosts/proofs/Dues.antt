@@ -25,24 +25,23 @@ run_few (w ∷ ws) =
     omega (arith, here, rest)
 
 -- they are few, beside what a step adds at most
-marks_front : (b : Breadth) (k : Parts) (ids : Ids) → marking b ≤ front b k ids
-marks_front wide.Few k ids = omega arith
-marks_front wide.Entries k ids = omega arith
-marks_front wide.Pages k ids = omega arith
-marks_front wide.Word k ids = omega arith
+marks_front : (b : Breadth) (k : Parts) → marking b ≤ front b k
+marks_front wide.Few k = omega arith
+marks_front wide.Entries k = omega arith
+marks_front wide.Pages k = omega arith
 
 own_few : (b : Breadth) (k : Parts) (ids : Ids) → own_dues k + (ids.marks + marking b) ≤ most b k ids
 own_few b k ids =
     let run = run_few k.waits.rows in
     let full = one_most (free k.memory.frames == 0) in
-    let made = marks_front b k ids in
+    let made = marks_front b k in
     omega (arith, run, full, made)
 
 -- behind what one host did in front, with few more marks
 pub serve_ready : (b : Breadth) (k : Parts) (ids next : Ids) → next.marks ≤ ids.marks + marking b → IsReadyOn b k ids → CanServeOn k next
 serve_ready b k ids next marks ready =
     let few = own_few b k ids in
-    let made = marks_front b k ids in
+    let made = marks_front b k in
     let rows = ready.rows in
     let shadows = ready.shadows in
     let objects = ready.objects in
@@ -164,14 +163,14 @@ module _ (hosts : HostTable) (h : ℕ) (new k : Parts) (next : Ids) (at : slice_
       sum_room : (more : ℕ) → dues_of new next + (more + 2) ≤ left → next.marks + (own_dues new + more) ≤ left
       sum_room more log = omega (arith, log)
 
-  pub acted_few : (b : Breadth) (events space told last : ℕ) → IsReady b events hosts space → told + dues_of new next ≤ full_dues k hosts.ids + front b k hosts.ids → last ≤ told + (next.marks + sum_of_dues (set hosts.kernels h new)) → last ≤ events
+  pub acted_few : (b : Breadth) (events space told last : ℕ) → IsReady b events hosts space → told + dues_of new next ≤ full_dues k hosts.ids + front b k → last ≤ told + (next.marks + sum_of_dues (set hosts.kernels h new)) → last ≤ events
   acted_few b events space told last ready few served =
       let sum = sum_set hosts.kernels h new within in
       let others = others_few b hosts.kernels h k hosts.ids at in
       let enough = ready.enough in
       by_sums (other_dues h hosts.kernels) (sum_of_dues (set hosts.kernels h new)) (most_of b hosts.kernels hosts.ids) sum others enough few served
     where
-      by_sums : (more sum all : ℕ) → sum ≡ own_dues new + more → most b k hosts.ids + more ≤ all → all ≤ events → told + dues_of new next ≤ full_dues k hosts.ids + front b k hosts.ids → last ≤ told + (next.marks + sum) → last ≤ events
+      by_sums : (more sum all : ℕ) → sum ≡ own_dues new + more → most b k hosts.ids + more ≤ all → all ≤ events → told + dues_of new next ≤ full_dues k hosts.ids + front b k → last ≤ told + (next.marks + sum) → last ≤ events
       by_sums more sum all is others enough few served = omega (arith, is, others, enough, few, served)
 
 -- what the hosts from a number on have still to tell

@@ -16,8 +16,7 @@ ghost use Rattle.vm_kernel.specs.Matches.{IsRanged};
 ghost use Rattle.vm_kernel.specs.Taking.{IsAbsencePaid, IsErrorPaid, IsLockPaid, IsWord};
 ghost use Rattle.vm_legal.specs.InTurn.{EndsAll};
 ghost use Rattle.vm_kernel.specs.Refusing.{maps_elsewhere, takes_name};
-ghost use Rattle.vm_kernel.specs.Rooms.{breadth_of};
-ghost use Rattle.vm_kernel.specs.declared.breadth.Breadth.TheVariants as wide;
+ghost use Rattle.vm_kernel.specs.Rooms.{breadth_of, word_breadth};
 ghost use Rattle.vm_hosts.specs.Hosts.{AllQueued, AllRest, AreNew, CanServe, IsReady, knows_file, sum_of_dues};
 ghost use Rattle.vm_model.specs.declared.event.Event.{Event};
 ghost use Rattle.vm_model.specs.declared.script.Header.{Header};
@@ -159,13 +158,13 @@ impl Hosts {
         requires word { IsWord given.header.size message.now }
         requires licensed { LicensedInTurn given.header given.outside given.command (event.Taken (channels.Down host object control) message.now) given.past }
         requires empty { log.old.items ≡ [] }
-        requires ready { (events : ℕ) × IsReady wide.Word events self.old log.old.room }
+        requires ready { (events : ℕ) × IsReady (word_breadth message.now) events self.old log.old.room }
         ensures passed { OnOk result (HostsPart given.header given.outside given.command (event.Taken (channels.Down host object control) message.now ∷ given.past) self.new log.new.items) }
         ensures failed { OnOk result (IsErrorPaid given.header (log.new.items ++ event.Taken (channels.Down host object control) message.now ∷ given.past)) }
         ensures zeroed { OnOk result (IsAbsencePaid given.header (log.new.items ++ event.Taken (channels.Down host object control) message.now ∷ given.past)) }
         ensures locked { OnOk result (IsLockPaid given.header (log.new.items ++ event.Taken (channels.Down host object control) message.now ∷ given.past)) }
         ensures ended { OnOk result (EndsAll given.header (log.new.items ++ event.Taken (channels.Down host object control) message.now ∷ given.past)) }
-        ensures few { OnOk result ((events : ℕ) → IsReady wide.Word events self.old log.old.room → length log.new.items ≤ events) }
+        ensures few { OnOk result ((events : ℕ) → IsReady (word_breadth message.now) events self.old log.old.room → length log.new.items ≤ events) }
         ensures err { OnErr result (AllRest given.header self.new given.past × (AllQueued given.header self.new given.past × (log.new.items ≡ []))) }
     {
         self.hear(host, object, control, message, log)
@@ -203,13 +202,13 @@ impl Hosts {
         requires word { IsWord given.header.size message.now }
         requires licensed { LicensedInTurn given.header given.outside given.command (event.Taken (channels.Down host object control) message.now) given.past }
         requires empty { log.old.items ≡ [] }
-        requires ready { (events : ℕ) × IsReady wide.Word events self.old log.old.room }
+        requires ready { (events : ℕ) × IsReady (word_breadth message.now) events self.old log.old.room }
         ensures passed { OnOk result (HostsPart given.header given.outside given.command (given.front ++ given.past) self.new log.new.items) }
         ensures failed { OnOk result (IsErrorPaid given.header (log.new.items ++ (given.front ++ given.past))) }
         ensures zeroed { OnOk result (IsAbsencePaid given.header (log.new.items ++ (given.front ++ given.past))) }
         ensures locked { OnOk result (IsLockPaid given.header (log.new.items ++ (given.front ++ given.past))) }
         ensures ended { OnOk result (EndsAll given.header (log.new.items ++ (given.front ++ given.past))) }
-        ensures few { OnOk result ((events : ℕ) → IsReady wide.Word events self.old log.old.room → length log.new.items ≤ events) }
+        ensures few { OnOk result ((events : ℕ) → IsReady (word_breadth message.now) events self.old log.old.room → length log.new.items ≤ events) }
         ensures err { OnErr result (AllRest given.header self.new given.past × (AllQueued given.header self.new given.past × (log.new.items ≡ []))) }
     {
         self.kernels[host.0 as usize].take(object, control, message, &mut self.ids, log)?;

@@ -1,15 +1,19 @@
 -- What the parts of a step spend in front of the accesses that are run, and what they leave for those.
-use Rattle.vm_kernel.proofs.Common.{Bool, Command, Err, Event, Header, Ids, List, Matches, ObjectTable, Ok, OnOk, On, Parts, Result, WaitTable, Waiting, [], ap, arith, false, frame_count, if◌then◌else◌, length, one_again, one_frame, refl, returns_out, subst, suc, sym, true, zero, ℕ, ◌++◌, ◌+◌, ◌*◌, ◌<◌, ◌∙◌, ◌∷◌, ◌≡◌, ◌≤◌}
+use Rattle.vm_kernel.proofs.Common.{Bool, Command, Err, Event, Header, Ids, List, Matches, ObjectTable, Ok, OnOk, On, PageKey, Parts, Result, WaitTable, Waiting, [], ap, arith, false, frame_count, if◌then◌else◌, length, one_again, one_frame, refl, returns_out, subst, suc, sym, true, zero, ℕ, ◌++◌, ◌+◌, ◌*◌, ◌<◌, ◌∙◌, ◌∷◌, ◌≡◌, ◌≤◌}
 use Rattle.std.specs.Prelude.{IsOk, OnErr, vec_capacity}
 use Rattle.vm_base.specs.Listing.{Listed}
-use Rattle.vm_kernel.proofs.Departing.{frames_kept}
 use Rattle.vm_kernel.proofs.Holding.{room_once}
 use Rattle.vm_kernel.proofs.LiveControls.{live_known}
-use Rattle.vm_kernel.specs.Rooms.{HasBuffers, HasMore, HasRoom, IsSkipRoom, KeepsSkip, KeepsSpare, Spends, breadth_of, dues, front, full_dues, leaving, loose_frames, marking, one_if_full, to_run}
+use Rattle.vm_kernel.specs.Rooms.{Dies, HasBuffers, HasMore, HasRoom, IsSkipRoom, KeepsSkip, KeepsSpare, Spends, breadth_of, dues, front, full_dues, heeding, leaving, loose_frames, marking, one_if_full, to_run, waking, word_breadth}
+use Rattle.vm_kernel.specs.declared.breadth.Breadth.{Breadth}
 use Rattle.vm_kernel.specs.declared.breadth.Breadth.TheVariants as wide
+use Rattle.vm_model.specs.declared.message.Message.{Message}
+use Rattle.vm_model.specs.declared.message.Message.TheVariants as message
 use Rattle.vm_objects.specs.Objects.{object_at}
 use Rattle.vm_parts.specs.Listed.{listed_pages}
 use Rattle.vm_queues.specs.Queues.{EachOnce}
+use Rattle.vm_supply.specs.declared.woken.Woken.{Woken}
+use Rattle.vm_supply.specs.declared.woken.Woken.TheVariants as who
 use Rattle.vm_terminate.specs.Counts.{is_live_row, live_below}
 use Rattle.vm_waits.specs.Waits.{one}
 use Rattle.vm_waits.specs.declared.waiting.On.TheVariants as on
@@ -62,18 +66,6 @@ dues_full k ids = by (to_run k.waits.rows) (length k.waits.rows) (loose_frames k
     by : (run rows loose frames full : ℕ) → run ≤ rows → loose ≤ frames → full ≤ 1 → 3 * run + ids.marks + 2 * loose + full ≤ 3 * rows + ids.marks + 2 * frames + 1
     by run rows loose frames full few most once = omega (arith, few, most, once)
 
--- no more controls live than were made
-pub live_few : (objects : ObjectTable) (n : ℕ) → live_below objects n ≤ n
-live_few objects zero = omega arith
-live_few objects (suc n) =
-    let here = by (is_live_row (object_at objects n)) in
-    let rest = live_few objects n in
-    omega (arith, here, rest)
-  where
-    by : (b : Bool) → (if b then 1 else 0) ≤ 1
-    by true = omega arith
-    by false = omega arith
-
 -- each page that is here has its own frame
 pub listed_few : {header : Header} {h : ℕ} {k : Parts} {ids : Ids} {past : List Event} → Matches header h k ids [] past → EachOnce (k.memory.queues.inactive ++ k.memory.queues.active) → listed_pages k.memory.queues ≤ frame_count k.memory.frames
 listed_few {header} {h} {k} {ids} {past} m once =
@@ -82,7 +74,7 @@ listed_few {header} {h} {k} {ids} {past} m once =
     omega (arith, few, m.laundry.room)
 
 -- so an end takes less than there is in front
-pub leaving_few : {header : Header} {h : ℕ} {k : Parts} {ids : Ids} {past : List Event} → Matches header h k ids [] past → EachOnce (k.memory.queues.inactive ++ k.memory.queues.active) → 1 + leaving k ids ≤ front wide.Pages k ids
+pub leaving_few : {header : Header} {h : ℕ} {k : Parts} {ids : Ids} {past : List Event} → Matches header h k ids [] past → EachOnce (k.memory.queues.inactive ++ k.memory.queues.active) → 1 + leaving k ids ≤ front wide.Pages k
 leaving_few {header} {h} {k} {ids} {past} m once =
     let listed = listed_few m once in
     let live = live_known k.memory.objects ids.next_object in
@@ -175,8 +167,8 @@ pub up_to_front : (k : Parts) (ids : Ids) (told n most : ℕ) → n ≤ most →
 up_to_front k ids told n most few = omega (arith, few)
 
 -- what a command does in front goes by what it is
-pub few_in : (command doing : Command) (k : Parts) (ids : Ids) (n : ℕ) → command ≡ doing → n ≤ front (breadth_of doing) k ids → n ≤ front (breadth_of command) k ids
-few_in command doing k ids n is few = subst (λ (z : Command). n ≤ front (breadth_of z) k ids) (sym is) few
+pub few_in : (command doing : Command) (k : Parts) (n : ℕ) → command ≡ doing → n ≤ front (breadth_of doing) k → n ≤ front (breadth_of command) k
+few_in command doing k n is few = subst (λ (z : Command). n ≤ front (breadth_of z) k) (sym is) few
 
 pub marks_in : (command doing : Command) (n : ℕ) → command ≡ doing → n ≤ marking (breadth_of doing) → n ≤ marking (breadth_of command)
 marks_in command doing n is few = subst (λ (z : Command). n ≤ marking (breadth_of z)) (sym is) few
@@ -200,37 +192,44 @@ begun_leaves (Err e) more old new now room left keeps has skip = tt
 pub skip_fewer : (k : Parts) → length k.waits.rows + 1 < vec_capacity k.skip → IsSkipRoom k
 skip_fewer k skip = omega (arith, skip)
 
--- what a word and its waking tell is below that in front
-heeded_few : (k mid : Parts) (ids : Ids) → listed_pages k.memory.queues ≤ frame_count k.memory.frames → listed_pages mid.memory.queues ≤ frame_count mid.memory.frames → frame_count mid.memory.frames ≡ frame_count k.memory.frames
-    → listed_pages k.memory.queues + 1 + leaving mid ids ≤ front wide.Word k ids
-heeded_few k mid ids few fewer same =
-    by (listed_pages k.memory.queues) (listed_pages mid.memory.queues) (live_below mid.memory.objects ids.next_object) (frame_count k.memory.frames) (frame_count mid.memory.frames) ids.next_object few fewer same (live_few mid.memory.objects ids.next_object)
-  where
-    by : (listed less live frames there next : ℕ) → listed ≤ frames → less ≤ there → there ≡ frames → live ≤ next → listed + 1 + (less + live) ≤ 2 * frames + next + 1
-    by listed less live frames there next few fewer same most = omega (arith, few, fewer, same, most)
-
-pub word_few : (k : Parts) (ids : Ids) → listed_pages k.memory.queues ≤ frame_count k.memory.frames → listed_pages k.memory.queues + 1 ≤ front wide.Word k ids
-word_few k ids few = by (listed_pages k.memory.queues) (frame_count k.memory.frames) ids.next_object few
-  where
-    by : (listed frames next : ℕ) → listed ≤ frames → listed + 1 ≤ 2 * frames + next + 1
-    by listed frames next few = omega (arith, few)
-
-pub out_few : (k : Parts) (ids : Ids) → listed_pages k.memory.queues ≤ frame_count k.memory.frames → 2 * listed_pages k.memory.queues ≤ front wide.Pages k ids
-out_few k ids few = by (listed_pages k.memory.queues) (frame_count k.memory.frames) (length k.memory.objects.entries) few
+pub out_few : (k : Parts) → listed_pages k.memory.queues ≤ frame_count k.memory.frames → 2 * listed_pages k.memory.queues ≤ front wide.Pages k
+out_few k few = by (listed_pages k.memory.queues) (frame_count k.memory.frames) (length k.memory.objects.entries) few
   where
     by : (listed frames known : ℕ) → listed ≤ frames → 2 * listed ≤ 2 * frames + known + 1
     by listed frames known few = omega (arith, few)
 
--- what a word and the waking of those that it wakes cost
-abbrev pub heeding : Parts → Parts → Ids → ℕ
-heeding k mid ids = listed_pages k.memory.queues + 1 + leaving mid ids
+-- what a word tells is below that in front
+pub word_few : (m : Message) (k : Parts) → listed_pages k.memory.queues ≤ frame_count k.memory.frames → heeding m k ≤ front (word_breadth m) k
+word_few (message.Lock page count returns flush lock reply) k few = by (listed_pages k.memory.queues) (frame_count k.memory.frames) (length k.memory.objects.entries) few
+  where
+    by : (listed frames known : ℕ) → listed ≤ frames → listed + 1 ≤ 2 * frames + known + 1
+    by listed frames known few = omega (arith, few)
+word_few (message.Error page reason) k few = omega arith
+word_few other k few = omega arith
 
-pub word_costs : (header : Header) (h : ℕ) (k mid : Parts) (ids : Ids) (past past2 : List Event) → Matches header h k ids [] past → Matches header h mid ids [] past2 → EachOnce (k.memory.queues.inactive ++ k.memory.queues.active)
-    → EachOnce (mid.memory.queues.inactive ++ mid.memory.queues.active) → heeding k mid ids ≤ front wide.Word k ids
-word_costs header h k mid ids past past2 m n once later = heeded_few k mid ids (listed_few m once) (listed_few n later) (frames_kept header h k mid ids ids [] [] past past2 m n)
+pub heeds_one : (m : Message) (k : Parts) → 1 ≤ heeding m k
+heeds_one (message.Lock page count returns flush lock reply) k = omega arith
+heeds_one other k = omega arith
 
-pub word_spends : (k mid : Parts) (ids : Ids) (before after : Listed Event) → Spends (listed_pages k.memory.queues + 1) 0 k ids before mid ids after → Spends (heeding k mid ids) (leaving mid ids) k ids before mid ids after
-word_spends k mid ids before after is = record {
+heeds_few : (m : Message) (k : Parts) → heeding m k ≤ listed_pages k.memory.queues + 1
+heeds_few (message.Lock page count returns flush lock reply) k = omega arith
+heeds_few other k = omega arith
+
+-- and so is what it tells with the end of those whom it fails
+pub word_costs : (m : Message) (woken : Woken) (k mid : Parts) (ids : Ids) → listed_pages k.memory.queues ≤ frame_count k.memory.frames → ((key : PageKey) → woken ≡ who.Fails key → Dies m k mid) → heeding m k + waking woken mid ids ≤ front (word_breadth m) k
+word_costs m (who.Fails key) k mid ids few dies =
+    let is = dies key refl in
+    let listed : listed_pages mid.memory.queues ≡ listed_pages k.memory.queues = ap listed_pages is.queues in
+    let live : live_below mid.memory.objects ids.next_object ≤ length k.memory.objects.entries = subst (λ (z : ObjectTable). live_below mid.memory.objects ids.next_object ≤ length z.entries) is.objects (live_known mid.memory.objects ids.next_object) in
+    subst (λ (z : Breadth). heeding m k + leaving mid ids ≤ front z k) (sym is.breadth)
+    (by (heeding m k) (listed_pages k.memory.queues) (listed_pages mid.memory.queues) (live_below mid.memory.objects ids.next_object) (frame_count k.memory.frames) (length k.memory.objects.entries) (heeds_few m k) listed live few)
+  where
+    by : (told listed there live frames known : ℕ) → told ≤ listed + 1 → there ≡ listed → live ≤ known → listed ≤ frames → told + (there + live) ≤ 2 * frames + known + 1
+    by told listed there live frames known first same fewer few = omega (arith, first, same, fewer, few)
+word_costs m other k mid ids few dies = let told = word_few m k few in omega (arith, told)
+
+pub word_spends : (a n : ℕ) (k mid : Parts) (ids : Ids) (before after : Listed Event) → Spends a 0 k ids before mid ids after → Spends (a + n) n k ids before mid ids after
+word_spends a n k mid ids before after is = record {
   told = omega (arith, is.told);
   room = omega (arith, is.room);
   rows = omega (arith, is.rows);

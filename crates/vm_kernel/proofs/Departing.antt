@@ -148,8 +148,8 @@ failed_spends k ids waits before after e less told room =
     record { told = omega (arith, one, less); room = omega (arith, room, less); rows = omega (arith, less); shadows = omega arith; objects = omega arith; marks = omega arith }
 
 -- those that are woken wait in as many rows
-pub woken_spends : (k : Parts) (ids : Ids) (waits : WaitTable) (log : Listed Event) → length waits.rows ≡ length k.waits.rows → Spends (leaving k ids) (leaving k ids) k ids log (record k { waits = waits }) ids log
-woken_spends k ids waits log same = record { told = omega (arith, same); room = omega (arith, same); rows = omega (arith, same); shadows = omega arith; objects = omega arith; marks = omega arith }
+pub woken_spends : (n : ℕ) (k : Parts) (ids : Ids) (waits : WaitTable) (log : Listed Event) → length waits.rows ≡ length k.waits.rows → Spends n 0 k ids log (record k { waits = waits }) ids log
+woken_spends n k ids waits log same = record { told = omega (arith, same); room = omega (arith, same); rows = omega (arith, same); shadows = omega arith; objects = omega arith; marks = omega arith }
 
 -- a lock request that is obeyed takes an event for each page that is here, and one for the reply
 pub obeyed_spends : (header : Header) (h : ℕ) (past past2 : List Event) (k : Parts) (ids : Ids) (memory : HostParts) (laundry : LaundryList) (waits : WaitTable) (before after : Listed Event) → Matches header h k ids [] past

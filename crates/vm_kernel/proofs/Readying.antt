@@ -9,16 +9,15 @@ use Rattle.vm_shadow.specs.declared.ids.Ids.{Ids}
 use Rattle.std.specs.Prelude.{OnErr, vec_capacity}
 
 -- as much may be told in front where there are as many frames and objects
-pub front_same : (breadth : Breadth) (k new : Parts) (ids : Ids) → frame_count new.memory.frames ≡ frame_count k.memory.frames → length new.memory.objects.entries ≡ length k.memory.objects.entries → front breadth new ids ≡ front breadth k ids
-front_same wide.Few k new ids frames known = refl
-front_same wide.Entries k new ids frames known = refl
-front_same wide.Pages k new ids frames known = omega (arith, frames, known)
-front_same wide.Word k new ids frames known = omega (arith, frames)
+pub front_same : (breadth : Breadth) (k new : Parts) → frame_count new.memory.frames ≡ frame_count k.memory.frames → length new.memory.objects.entries ≡ length k.memory.objects.entries → front breadth new ≡ front breadth k
+front_same wide.Few k new frames known = refl
+front_same wide.Entries k new frames known = refl
+front_same wide.Pages k new frames known = omega (arith, frames, known)
 
 -- a frame that is given back leaves the room
 module _ (breadth : Breadth) (k new : Parts) (ids : Ids) (is : new ≡ record k { memory = record k.memory { frames = new.memory.frames }; laundry = new.laundry }) (frames : frame_count new.memory.frames ≡ frame_count k.memory.frames) where
-  front_washed : front breadth new ids ≡ front breadth k ids
-  front_washed = front_same breadth k new ids frames (ap (λ (z : Parts). length z.memory.objects.entries) is)
+  front_washed : front breadth new ≡ front breadth k
+  front_washed = front_same breadth k new frames (ap (λ (z : Parts). length z.memory.objects.entries) is)
 
   pub most_washed : most breadth new ids ≡ most breadth k ids
   most_washed =
@@ -64,15 +63,15 @@ module _ (k : Parts) (count : ℕ) where
     nothing = was.nothing;
   }
 
-  pub front_buffers : (breadth : Breadth) (ids : Ids) → front breadth (with_buffers count k) ids ≡ front breadth k ids
-  front_buffers breadth ids = front_same breadth k (with_buffers count k) ids refl refl
+  pub front_buffers : (breadth : Breadth) → front breadth (with_buffers count k) ≡ front breadth k
+  front_buffers breadth = front_same breadth k (with_buffers count k) refl refl
 
   pub most_buffers : (breadth : Breadth) (ids : Ids) → most breadth (with_buffers count k) ids ≡ most breadth k ids
-  most_buffers breadth ids = let same = front_buffers breadth ids in omega (arith, same)
+  most_buffers breadth ids = let same = front_buffers breadth in omega (arith, same)
 
   pub ready_buffers : (breadth : Breadth) (ids : Ids) → k.memory.buffers.count ≤ count → IsReady breadth k ids → IsReady breadth (with_buffers count k) ids
   ready_buffers breadth ids more was =
-      let first = front_buffers breadth ids in
+      let first = front_buffers breadth in
       record {
         rows = omega (arith, was.rows, first);
         shadows = omega (arith, was.shadows, first);
@@ -84,7 +83,7 @@ module _ (k : Parts) (count : ℕ) where
       }
 
 -- there is room for what comes first, and for so many events more
-pub ready_more : (breadth : Breadth) (k : Parts) (ids : Ids) (room more : ℕ) → IsReady breadth k ids → most breadth k ids + more ≤ room → HasMore (front breadth k ids) (more + 2) k ids room
+pub ready_more : (breadth : Breadth) (k : Parts) (ids : Ids) (room more : ℕ) → IsReady breadth k ids → most breadth k ids + more ≤ room → HasMore (front breadth k) (more + 2) k ids room
 ready_more breadth k ids room more ready log = record {
   tables = record {
     log = omega (arith, log);

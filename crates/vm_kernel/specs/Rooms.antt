@@ -6,6 +6,8 @@ use Rattle.vm_frames.specs.Frames.{FrameTable, frame_count, free}
 use Rattle.vm_model.specs.declared.command.Command.{Command}
 use Rattle.vm_model.specs.declared.command.Command.TheVariants as command
 use Rattle.vm_model.specs.declared.event.Event.{Event}
+use Rattle.vm_model.specs.declared.message.Message.{Message}
+use Rattle.vm_model.specs.declared.message.Message.TheVariants as message
 use Rattle.vm_pageout.specs.declared.answer.Reclaim.{Reclaim}
 use Rattle.vm_pageout.specs.declared.answer.Reclaim.TheVariants as reclaim
 use Rattle.vm_parts.specs.Listed.{listed_pages}
@@ -13,6 +15,8 @@ use Rattle.vm_parts.specs.declared.parts.HostParts.{HostParts}
 use Rattle.vm_resident.specs.Resident.{ResidentTable, owner_of, row_at}
 use Rattle.vm_resident.specs.declared.page_row.PageRow.{PageRow}
 use Rattle.vm_shadow.specs.declared.ids.Ids.{Ids}
+use Rattle.vm_supply.specs.declared.woken.Woken.{Woken}
+use Rattle.vm_supply.specs.declared.woken.Woken.TheVariants as woken
 use Rattle.vm_terminate.specs.Counts.{live_below}
 use Rattle.vm_waits.specs.Waits.{count_again, one, queued}
 use Rattle.vm_waits.specs.declared.waiting.Waiting.{Waiting}
@@ -104,13 +108,34 @@ breadth_of (command.Deallocate task address bytes) = breadth.Pages
 breadth_of (command.Pageout host count) = breadth.Pages
 breadth_of other = breadth.Few
 
--- What is told at most in front of the accesses that are run: some events; a fork makes a task and copies 256 entries; an end takes each page and each control, and a
--- pageout reclaims each page, of which a new pager may be told; and behind the word of a pager pages are given back, and those end that wait for a page in vain.
-abbrev pub front : Breadth → Parts → Ids → ℕ
-front breadth.Few k ids = 5
-front breadth.Entries k ids = 1025
-front breadth.Pages k ids = 2 * frame_count k.memory.frames + length k.memory.objects.entries + 1
-front breadth.Word k ids = 2 * frame_count k.memory.frames + ids.next_object + 1
+-- how much the word of a pager may tell
+abbrev pub word_breadth : Message → Breadth
+word_breadth (message.Lock page count returns flush lock reply) = breadth.Pages
+word_breadth (message.Error page reason) = breadth.Pages
+word_breadth other = breadth.Few
+
+-- What is told at most in front of the accesses that are run: some events; a fork makes a task and copies 256 entries; an end takes each page and each control, a pageout
+-- reclaims each page, of which a new pager may be told, a lock request may have each page given back, and an error may end slow copies.
+abbrev pub front : Breadth → Parts → ℕ
+front breadth.Few k = 5
+front breadth.Entries k = 1025
+front breadth.Pages k = 2 * frame_count k.memory.frames + length k.memory.objects.entries + 1
+
+-- what the word itself tells at most: a lock request has each page given back, and has its reply
+abbrev pub heeding : Message → Parts → ℕ
+heeding (message.Lock page count returns flush lock reply) k = listed_pages k.memory.queues + 1
+heeding other k = 1
+
+-- and what the end of those tells whom it fails
+abbrev pub waking : Woken → Parts → Ids → ℕ
+waking (woken.Fails key) k ids = leaving k ids
+waking other k ids = 0
+
+-- a word that fails accesses may tell of pages, and leaves these and the objects
+pub record Dies (m : Message) (old new : Parts) : Type 0 where
+  pub breadth : word_breadth m ≡ breadth.Pages
+  pub queues : new.memory.queues ≡ old.memory.queues
+  pub objects : new.memory.objects ≡ old.memory.objects
 
 -- how many marks a command may make
 abbrev pub marking : Breadth → ℕ
@@ -120,13 +145,13 @@ marking other = 0
 
 -- how many events a step adds on the host at most
 abbrev pub most : Breadth → Parts → Ids → ℕ
-most breadth k ids = full_dues k ids + front breadth k ids + 2
+most breadth k ids = full_dues k ids + front breadth k + 2
 
 -- there is room for a step in the tables of a host
 pub record IsReady (breadth : Breadth) (k : Parts) (ids : Ids) : Type 0 where
   pub rows : most breadth k ids ≤ k.memory.resident.spare
-  pub shadows : ids.marks + front breadth k ids ≤ k.chains.spare
-  pub objects : ids.marks + front breadth k ids ≤ k.memory.objects.rows
+  pub shadows : ids.marks + front breadth k ≤ k.chains.spare
+  pub objects : ids.marks + front breadth k ≤ k.memory.objects.rows
   pub mark : 0 < k.memory.objects.marks
   pub access : 0 < k.waits.room
   pub buffers : HasBuffers k

@@ -1,8 +1,8 @@
 // How much a step may tell in front of the accesses that are run.
 ghost use Rattle.std.specs.Prelude.{◌≡◌};
-ghost use Rattle.vm_kernel.specs.Rooms.{breadth_of};
+ghost use Rattle.vm_kernel.specs.Rooms.{breadth_of, word_breadth};
 
-use vm_model::Command;
+use vm_model::{Command, Message};
 
 /// How much a step may tell on a host in front of the accesses that are run, and so for how much it takes
 /// its memory.
@@ -12,10 +12,9 @@ pub enum Breadth {
     Few,
     /// The entries of a task, which a fork copies.
     Entries,
-    /// The pages and the controls of a host, which go with a task or with a range, or are paged out.
+    /// The pages and the controls of a host, which go with a task, a range or a slow copy, or are paged
+    /// out or given back.
     Pages,
-    /// What follows the word of a pager.
-    Word,
 }
 
 impl Breadth {
@@ -28,6 +27,16 @@ impl Breadth {
             Command::Exit { .. } | Command::Deallocate { .. } | Command::Pageout { .. } => {
                 Breadth::Pages
             }
+            _ => Breadth::Few,
+        }
+    }
+
+    /// That of the word of a pager.
+    pub fn of_word(message: &Message) -> Breadth
+        ensures { result ≡ word_breadth message.now }
+    {
+        match message {
+            Message::Lock { .. } | Message::Error { .. } => Breadth::Pages,
             _ => Breadth::Few,
         }
     }

@@ -75,9 +75,9 @@ impl Parts {
         ensures ran { OnOk result (Ran given.header given.host given.outside (command.Copy task address bytes target to) given.past self.new ids.new log.new.items) }
         ensures plays { OnOk result (Plays given.header given.past log.old.items (paging self.old) log.new.items (paging self.new)) }
         ensures restarts { OnOk result (Restarted given.header given.host self.new.waits.rows given.past self.old.waits.queue self.new.waits.queue log.new.items) }
-        ensures few { OnOk result (length log.new.items + dues (to_run self.new.waits.rows) self.new.memory ids.new.marks ≤ length log.old.items + (full_dues self.old ids.old + front wide.Few self.old ids.old)) }
-        ensures room { (more : ℕ) → HasMore (front wide.Few self.old ids.old) more self.old ids.old log.old.room → 0 < self.old.waits.room → HasBuffers self.old → length self.old.waits.rows + 1 < vec_capacity self.old.skip → OnOk result (HasRoom more self.new ids.new log.new.room × (0 < self.new.memory.buffers.count × IsSkipRoom self.new)) }
-        ensures err { HasMore (front wide.Few self.old ids.old) 0 self.old ids.old log.old.room → 0 < self.old.waits.room → HasBuffers self.old → length self.old.waits.rows + 1 < vec_capacity self.old.skip → OnErr result ((self.new ≡ self.old) × ((ids.new ≡ ids.old) × (log.new.items ≡ log.old.items))) }
+        ensures few { OnOk result (length log.new.items + dues (to_run self.new.waits.rows) self.new.memory ids.new.marks ≤ length log.old.items + (full_dues self.old ids.old + front wide.Few self.old)) }
+        ensures room { (more : ℕ) → HasMore (front wide.Few self.old) more self.old ids.old log.old.room → 0 < self.old.waits.room → HasBuffers self.old → length self.old.waits.rows + 1 < vec_capacity self.old.skip → OnOk result (HasRoom more self.new ids.new log.new.room × (0 < self.new.memory.buffers.count × IsSkipRoom self.new)) }
+        ensures err { HasMore (front wide.Few self.old) 0 self.old ids.old log.old.room → 0 < self.old.waits.room → HasBuffers self.old → length self.old.waits.rows + 1 < vec_capacity self.old.skip → OnErr result ((self.new ≡ self.old) × ((ids.new ≡ ids.old) × (log.new.items ≡ log.old.items))) }
         ensures marks { OnOk result (ids.new.marks ≤ ids.old.marks + 5) }
     {
         let place = self.place(task, address);

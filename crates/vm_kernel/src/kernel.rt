@@ -17,8 +17,7 @@ ghost use Rattle.vm_supply.specs.Answers.{outcome_of};
 ghost use Rattle.vm_state.specs.Stands.{HasTasks};
 ghost use Rattle.vm_kernel.specs.Matches.{IsRanged, Rests, first_ids, host_id};
 ghost use Rattle.vm_kernel.specs.Refusing.{maps_elsewhere, takes_name};
-ghost use Rattle.vm_kernel.specs.Rooms.{IsReady, ServeRoom, breadth_of, dues_of, front, full_dues, marking, most, with_rooms_of};
-ghost use Rattle.vm_kernel.specs.declared.breadth.Breadth.TheVariants as wide;
+ghost use Rattle.vm_kernel.specs.Rooms.{IsReady, ServeRoom, breadth_of, dues_of, front, full_dues, marking, most, with_rooms_of, word_breadth};
 ghost use Rattle.vm_kernel.specs.Taking.{IsAbsencePaid, IsErrorPaid, IsLockPaid, IsWord};
 ghost use Rattle.vm_legal.specs.InTurn.{EndsAll, NoneSleepsOn};
 ghost use Rattle.vm_legal.specs.Returned.{OnlyReturned};
@@ -125,7 +124,7 @@ impl Kernel {
         ensures plays { OnOk result (PlaysBy given.header (may_reclaim command.now self.old.waits.queue given.past) given.past [] (paging self.old) log.new.items (paging self.new)) }
         ensures restarts { OnOk result (Restarted given.header given.host self.new.waits.rows given.past self.old.waits.queue self.new.waits.queue log.new.items) }
         ensures ends { OnOk result (EndsByAddress given.header given.past command.now log.new.items) }
-        ensures few { OnOk result (length log.new.items + dues_of self.new ids.new ≤ full_dues self.old ids.old + front (breadth_of command.now) self.old ids.old) }
+        ensures few { OnOk result (length log.new.items + dues_of self.new ids.new ≤ full_dues self.old ids.old + front (breadth_of command.now) self.old) }
         ensures room { (more : ℕ) → IsReady (breadth_of command.now) self.old ids.old → most (breadth_of command.now) self.old ids.old + more ≤ log.old.room → OnOk result (ServeRoom more self.new ids.new log.new.room) }
         ensures marks { OnOk result (ids.new.marks ≤ ids.old.marks + marking (breadth_of command.now)) }
         ensures err { IsReady (breadth_of command.now) self.old ids.old → most (breadth_of command.now) self.old ids.old ≤ log.old.room → OnErr result ((self.new ≡ with_rooms_of self.new self.old) × ((ids.new ≡ ids.old) × (log.new.items ≡ []))) }
@@ -164,10 +163,10 @@ impl Kernel {
         ensures plays { OnOk result (PlaysAnswer given.header (given.front ++ given.past) object (outcome_of (object_at self.old.memory.objects object.0) control (row_at self.old.memory.resident object.0) message.now) (paging self.old) log.new.items (paging self.new)) }
         ensures ended { HasQueue given.header given.host self.old given.past → OnOk result (EndsAll given.header (log.new.items ++ (given.front ++ given.past))) }
         ensures restarts { OnOk result (Restarted given.header given.host self.new.waits.rows (given.front ++ given.past) self.old.waits.queue self.new.waits.queue log.new.items) }
-        ensures few { OnOk result (length log.new.items + dues_of self.new ids.new ≤ full_dues self.old ids.old + front wide.Word self.old ids.old) }
-        ensures room { (more : ℕ) → IsReady wide.Word self.old ids.old → most wide.Word self.old ids.old + more ≤ log.old.room → OnOk result (ServeRoom more self.new ids.new log.new.room) }
+        ensures few { OnOk result (length log.new.items + dues_of self.new ids.new ≤ full_dues self.old ids.old + front (word_breadth message.now) self.old) }
+        ensures room { (more : ℕ) → IsReady (word_breadth message.now) self.old ids.old → most (word_breadth message.now) self.old ids.old + more ≤ log.old.room → OnOk result (ServeRoom more self.new ids.new log.new.room) }
         ensures marks { OnOk result (ids.new.marks ≤ ids.old.marks) }
-        ensures err { IsReady wide.Word self.old ids.old → most wide.Word self.old ids.old ≤ log.old.room → OnErr result ((self.new ≡ with_rooms_of self.new self.old) × ((ids.new ≡ ids.old) × (log.new.items ≡ []))) }
+        ensures err { IsReady (word_breadth message.now) self.old ids.old → most (word_breadth message.now) self.old ids.old ≤ log.old.room → OnErr result ((self.new ≡ with_rooms_of self.new self.old) × ((ids.new ≡ ids.old) × (log.new.items ≡ []))) }
     {
         self.parts.reserve_for_word(message)?;
         self.parts.take(ids, object, control, message, log)

@@ -26,21 +26,19 @@ impl Parts {
         let accesses = u64::from(self.waits.count());
         let frames = u64::from(self.memory.frames.count());
         let marks = u64::from(ids.marks);
-        3 * accesses + marks + 2 * frames + self.front(ids, breadth) + TOLD_LAST
+        3 * accesses + marks + 2 * frames + self.front(breadth) + TOLD_LAST
     }
 
     // The most events that a step tells in front of the accesses that are run.
-    fn front(&self, ids: &Ids, breadth: Breadth) -> u64
-        ensures front { result ≡ front breadth self.now ids.now }
+    fn front(&self, breadth: Breadth) -> u64
+        ensures front { result ≡ front breadth self.now }
         ensures small { result < 2 ^ 63 + 2 ^ 34 }
     {
         let frames = u64::from(self.memory.frames.count());
-        let made = u64::from(ids.next_object);
         match breadth {
             Breadth::Few => TOLD_FIRST,
             Breadth::Entries => TOLD_OF_ENTRIES,
             Breadth::Pages => 2 * frames + self.memory.objects.count() as u64 + 1,
-            Breadth::Word => 2 * frames + made + 1,
         }
     }
 
@@ -52,7 +50,7 @@ impl Parts {
         let Ok(events) = u32::try_from(self.most(ids, breadth)) else {
             return Err(NoMemory);
         };
-        let Ok(made) = u32::try_from(u64::from(ids.marks) + self.front(ids, breadth)) else {
+        let Ok(made) = u32::try_from(u64::from(ids.marks) + self.front(breadth)) else {
             return Err(NoMemory);
         };
         self.memory.resident.reserve(events)?;

@@ -93,11 +93,13 @@ impl State {
         ensures err { OnErr result (StandsStill given.header given.outside self.old self.new) }
         ensures spares { Spares given.header given.outside self.old self.new }
     {
-        self.prepare(Breadth::Word, 2)?;
         let Some(index) = self.ports.head(number) else {
             unreachable!()
         };
-        let message = sent(&self.history, *index);
+        let index = *index;
+        let breadth = Breadth::of_word(sent(&self.history, index));
+        self.prepare(breadth, 2)?;
+        let message = sent(&self.history, index);
         self.hosts
             .take(host, object, control, message, &mut self.log)?;
         self.take_first(line, number);

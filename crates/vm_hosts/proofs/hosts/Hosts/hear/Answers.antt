@@ -5,7 +5,7 @@ use Rattle.vm_hosts.proofs.Dues.{acted_few, acted_room, few_more, front_fits, fr
 use Rattle.vm_hosts.proofs.Rooms.{all_rooms, on_err, queued_rooms}
 use Rattle.vm_hosts.proofs.Tables.{found}
 use Rattle.vm_hosts.proofs.Taking.{ends_went, locked_went, paid_went, passed_on, taken_follows, taken_rests, taken_turns, zeroed_went}
-use Rattle.vm_kernel.specs.declared.breadth.Breadth.TheVariants as wide
+use Rattle.vm_kernel.specs.Rooms.{marking, word_breadth}
 use Rattle.vm_hosts.proofs.hosts.Hosts.hear.Goals as goal
 
 pub take-requires : goal.take-requires
@@ -27,12 +27,12 @@ serve_all-requires g c =
     let k = c.index_mut.result.now in
     let at = found given.header hosts given.past h k all c.requires.1.1.0 c.index_mut.ensures.value in
     let some = c.requires.1.1.1.1.1.1.1 in
-    let ready : IsReady wide.Word some.0 hosts c.args.log.now.room = subst (λ (z : HostTable). IsReady wide.Word some.0 z c.args.log.now.room) (sym c.self.view_is) some.1 in
+    let ready : IsReady (word_breadth c.args.message.now) some.0 hosts c.args.log.now.room = subst (λ (z : HostTable). IsReady (word_breadth c.args.message.now) some.0 z c.args.log.now.room) (sym c.self.view_is) some.1 in
     let passed = subst (λ z. begun.Passed given.header z given.outside given.command (given.front ++ given.past) c.take.new.self c.take.new.ids c.take.new.log.items) at.number c.in_ok-take.ensures.passed in
-    let marks = few_more 0 c.in_ok-take.ensures.marks in
-    let room = c.in_ok-take.ensures.room (other_dues h hosts.kernels) (ready.each h k at.at) (front_room hosts h c.take.new.self k c.take.new.ids at.at wide.Word some.0 c.args.log.now.room ready) in (
+    let marks = few_more (marking (word_breadth c.args.message.now)) c.in_ok-take.ensures.marks in
+    let room = c.in_ok-take.ensures.room (other_dues h hosts.kernels) (ready.each h k at.at) (front_room hosts h c.take.new.self k c.take.new.ids at.at (word_breadth c.args.message.now) some.0 c.args.log.now.room ready) in (
       taken_rests given.header given.outside given.command given.past given.front c.take.new.log.items hosts c.args.host c.args.object c.args.control c.args.message.now c.take.new.self c.take.new.ids c.requires.1.1.0 all c.requires.1.1.1.1.1.0 c.requires.1.1.1.0 passed,
-      acted_room hosts h c.take.new.self k c.take.new.ids at.at wide.Word some.0 c.args.log.now.room c.take.new.log.room ready room marks,
+      acted_room hosts h c.take.new.self k c.take.new.ids at.at (word_breadth c.args.message.now) some.0 c.args.log.now.room c.take.new.log.room ready room marks,
     )
 
 pub returns-clause-passed : goal.returns-clause-passed
@@ -82,8 +82,8 @@ returns-clause-few g c = λ events able.
     let h = c.args.host.0 in
     let k = c.index_mut.result.now in
     let at = found given.header hosts given.past h k all c.requires.1.1.0 c.index_mut.ensures.value in
-    let ready : IsReady wide.Word events hosts c.args.log.now.room = subst (λ (z : HostTable). IsReady wide.Word events z c.args.log.now.room) (sym c.self.view_is) able in
-    acted_few hosts h c.take.new.self k c.take.new.ids at.at wide.Word events c.args.log.now.room (length c.take.new.log.items) (length c.serve_all.new.log.items) ready c.in_ok-take.ensures.few c.serve_all.ensures.few
+    let ready : IsReady (word_breadth c.args.message.now) events hosts c.args.log.now.room = subst (λ (z : HostTable). IsReady (word_breadth c.args.message.now) events z c.args.log.now.room) (sym c.self.view_is) able in
+    acted_few hosts h c.take.new.self k c.take.new.ids at.at (word_breadth c.args.message.now) events c.args.log.now.room (length c.take.new.log.items) (length c.serve_all.new.log.items) ready c.in_ok-take.ensures.few c.serve_all.ensures.few
 
 pub returns-in_err-take-clause-err : goal.returns-in_err-take-clause-err
 returns-in_err-take-clause-err g c =
@@ -95,7 +95,7 @@ returns-in_err-take-clause-err g c =
     let k = c.index_mut.result.now in
     let at = found given.header hosts given.past h k all c.requires.1.1.0 c.index_mut.ensures.value in
     let some = c.requires.1.1.1.1.1.1.1 in
-    let ready : IsReady wide.Word some.0 hosts c.args.log.now.room = subst (λ (z : HostTable). IsReady wide.Word some.0 z c.args.log.now.room) (sym c.self.view_is) some.1 in
-    let failed = c.in_err-take.ensures.err (ready.each h k at.at) (front_fits hosts h c.take.new.self k c.take.new.ids at.at wide.Word some.0 c.args.log.now.room ready) in
+    let ready : IsReady (word_breadth c.args.message.now) some.0 hosts c.args.log.now.room = subst (λ (z : HostTable). IsReady (word_breadth c.args.message.now) some.0 z c.args.log.now.room) (sym c.self.view_is) some.1 in
+    let failed = c.in_err-take.ensures.err (ready.each h k at.at) (front_fits hosts h c.take.new.self k c.take.new.ids at.at (word_breadth c.args.message.now) some.0 c.args.log.now.room ready) in
     on_err c.from_residual.result
     (all_rooms hosts h c.take.new.self k c.take.new.ids at.at failed.0 failed.1.0 given.header given.past all, (queued_rooms hosts h c.take.new.self k c.take.new.ids at.at failed.0 failed.1.0 given.header given.past queues, failed.1.1))

@@ -32,8 +32,8 @@ pub returns-clause-few : goal.returns-clause-few
 returns-clause-few g c =
     let told = ap length c.requires.0.nothing in
     on_ok c.run.result _ _ (λ few. omega (arith, few, told))
-    (of_old g c (λ z. OnOk c.run.result (length c.run.new.log.items + dues_of c.run.new.self c.run.new.ids ≤ length c.args.log.now.items + (full_dues z c.args.ids.now + front (breadth_of c.args.command.now) z c.args.ids.now))) c.run.ensures.few
-    (λ z was. subst (λ (n : ℕ). OnOk c.run.result (length c.run.new.log.items + dues_of c.run.new.self c.run.new.ids ≤ length c.args.log.now.items + (full_dues z c.args.ids.now + n))) (front_buffers z c.reserve_for.new.self.memory.buffers.count (breadth_of c.args.command.now) c.args.ids.now) was))
+    (of_old g c (λ z. OnOk c.run.result (length c.run.new.log.items + dues_of c.run.new.self c.run.new.ids ≤ length c.args.log.now.items + (full_dues z c.args.ids.now + front (breadth_of c.args.command.now) z))) c.run.ensures.few
+    (λ z was. subst (λ (n : ℕ). OnOk c.run.result (length c.run.new.log.items + dues_of c.run.new.self c.run.new.ids ≤ length c.args.log.now.items + (full_dues z c.args.ids.now + n))) (front_buffers z c.reserve_for.new.self.memory.buffers.count (breadth_of c.args.command.now)) was))
 
 pub returns-clause-room : goal.returns-clause-room
 returns-clause-room g c more ready log =

@@ -2,7 +2,7 @@ use Rattle.vm_kernel.proofs.Common.{IsAnswer, arith, false, subst, sym, true, �
 use Rattle.vm_kernel.proofs.Supplying.{answer_plays}
 use Rattle.vm_kernel.proofs.Heard.{Heard, hears_done}
 use Rattle.vm_kernel.proofs.Departing.{heard_spends}
-use Rattle.vm_kernel.proofs.Failings.{failing_kept}
+use Rattle.vm_kernel.proofs.Failings.{failing_dies, failing_kept}
 use Rattle.vm_kernel.proofs.parts.Parts.hear.Given as given
 use Rattle.vm_kernel.proofs.parts.Parts.hear.Goals as goal
 
@@ -57,3 +57,7 @@ returns-in_err-woken-clause-succeeds g c = λ room marks. let bad : false ≡ tr
 
 pub returns-clause-failing : goal.returns-clause-failing
 returns-clause-failing g c = λ key is. failing_kept c.args.self.now.host c.args.object _ c.in_ok-woken.woken key c.args.self.now c.answer.new.parts c.args.log.now.items c.answer.new.log.items c.in_ok-woken.ensures.answered is c.in_ok-woken.ensures.buffers
+
+pub returns-clause-dies : goal.returns-clause-dies
+returns-clause-dies g c = λ key is.
+    failing_dies c.args.self.now.size c.args.self.now.host c.args.object _ c.args.control _ c.args.message.now c.in_ok-woken.woken key c.args.self.now c.answer.new.parts c.args.log.now.items c.answer.new.log.items c.requires.1.1.0 c.in_ok-woken.ensures.answered is

@@ -1,4 +1,4 @@
-use Rattle.vm_kernel.proofs.Common.{Event, HasEnded, List, Restarted, TaskId, [], ap, arith, false, subst, true, ◌++◌, ◌∙◌, ◌≡◌, ◌≤◌}
+use Rattle.vm_kernel.proofs.Common.{Event, HasEnded, List, Restarted, TaskId, [], ap, arith, false, subst, true, ◌++◌, ◌+◌, ◌∙◌, ◌≡◌, ◌≤◌, ℕ}
 use Rattle.std.specs.Prelude.{vec_capacity}
 use Rattle.vm_kernel.proofs.Playing.{plays_both}
 use Rattle.vm_kernel.proofs.Failing.{absence_goes, each_failed, each_goes, paid_failed, paid_goes}
@@ -6,11 +6,10 @@ use Rattle.vm_kernel.proofs.Growing.{goes_both, on_ok}
 use Rattle.vm_kernel.proofs.Heeding.{ended_still, locked_goes}
 use Rattle.vm_kernel.proofs.Turning.{unrun_after}
 use Rattle.vm_kernel.proofs.parts.Parts.take.Given as given
-use Rattle.vm_kernel.proofs.Composing.{few_behind, heeding, listed_few, more_fewer, ok_has, room_behind, told_behind, word_costs, word_few, word_spends}
-use Rattle.vm_kernel.proofs.Departing.{roomy_fewer, roomy_on, spends_less}
+use Rattle.vm_kernel.proofs.Composing.{few_behind, listed_few, more_fewer, ok_has, room_behind, told_behind, word_costs, word_few, word_spends}
+use Rattle.vm_kernel.proofs.Departing.{roomy_fewer, roomy_on}
 use Rattle.vm_kernel.proofs.Spending.{spends_both}
-use Rattle.vm_kernel.specs.Rooms.{Spends, front}
-use Rattle.vm_kernel.specs.declared.breadth.Breadth.TheVariants as wide
+use Rattle.vm_kernel.specs.Rooms.{Spends, front, heeding, waking, word_breadth}
 use Rattle.vm_kernel.proofs.parts.Parts.take.Goals as goal
 
 -- the history behind the taking
@@ -59,25 +58,26 @@ returns-clause-restarts g c =
     (λ restarts. subst (λ (z : List TaskId). Restarted g.given.header g.given.host c.restart.new.self.waits.rows (taken g) z c.restart.new.self.waits.queue c.restart.new.log.items) (quiet.queue ∙ c.in_ok-woken.ensures.queue) (restarts yet))
     c.restart.ensures.restarts
 
-cost_few : (g : given.Over) (c : goal.After-restart g) → heeding c.args.self.now c.heed.new.self c.args.ids.now ≤ front wide.Word c.args.self.now c.args.ids.now
-cost_few g c =
-    word_costs g.given.header g.given.host c.args.self.now c.heed.new.self c.args.ids.now g.given.past (c.heed.new.log.items ++ taken g) c.requires.0.matches c.in_ok-woken.ensures.works.matches c.stand_once.ensures c.stand_once-2.ensures
+-- what the word and the end of those whom it fails tell
+abbrev cost : (g : given.Over) → goal.After-restart g → ℕ
+cost g c = heeding c.args.message.now c.args.self.now + waking c.in_ok-woken.woken c.heed.new.self c.args.ids.now
 
-all_spends : (g : given.Over) (c : goal.After-restart g) → Spends (heeding c.args.self.now c.heed.new.self c.args.ids.now) 0 c.args.self.now c.args.ids.now c.args.log.now c.wake.new.self c.args.ids.now c.wake.new.log
+cost_few : (g : given.Over) (c : goal.After-restart g) → cost g c ≤ front (word_breadth c.args.message.now) c.args.self.now
+cost_few g c = word_costs c.args.message.now c.in_ok-woken.woken c.args.self.now c.heed.new.self c.args.ids.now (listed_few c.requires.0.matches c.stand_once.ensures) c.in_ok-woken.ensures.dies
+
+all_spends : (g : given.Over) (c : goal.After-restart g) → Spends (cost g c) 0 c.args.self.now c.args.ids.now c.args.log.now c.wake.new.self c.args.ids.now c.wake.new.log
 all_spends g c =
-    spends_less c.args.self.now c.wake.new.self c.args.ids.now c.args.ids.now c.args.log.now c.wake.new.log _ _ 0
-    (spends_both c.args.self.now c.heed.new.self c.wake.new.self c.args.ids.now c.args.ids.now c.args.ids.now c.args.log.now c.heed.new.log c.wake.new.log _ _ _
-    (word_spends c.args.self.now c.heed.new.self c.args.ids.now c.args.log.now c.heed.new.log c.in_ok-woken.ensures.spends) c.in_ok-wake.ensures.spends)
-    (omega arith)
+    spends_both c.args.self.now c.heed.new.self c.wake.new.self c.args.ids.now c.args.ids.now c.args.ids.now c.args.log.now c.heed.new.log c.wake.new.log _ _ _
+    (word_spends (heeding c.args.message.now c.args.self.now) (waking c.in_ok-woken.woken c.heed.new.self c.args.ids.now) c.args.self.now c.heed.new.self c.args.ids.now c.args.log.now c.heed.new.log c.in_ok-woken.ensures.spends) c.in_ok-wake.ensures.spends
 
 pub returns-clause-few : goal.returns-clause-few
 returns-clause-few g c =
-    let few = told_behind c.args.self.now c.wake.new.self c.args.ids.now c.args.ids.now c.args.log.now c.wake.new.log (heeding c.args.self.now c.heed.new.self c.args.ids.now) (front wide.Word c.args.self.now c.args.ids.now) (cost_few g c) (all_spends g c) in
+    let few = told_behind c.args.self.now c.wake.new.self c.args.ids.now c.args.ids.now c.args.log.now c.wake.new.log (cost g c) (front (word_breadth c.args.message.now) c.args.self.now) (cost_few g c) (all_spends g c) in
     on_ok c.restart.result _ _ (λ more. few_behind more few) c.restart.ensures.few
 
 pub returns-clause-room : goal.returns-clause-room
 returns-clause-room g c = λ more had marks has skip asks.
-    let left = room_behind c.args.self.now c.wake.new.self c.args.ids.now c.args.ids.now c.args.log.now c.wake.new.log (heeding c.args.self.now c.heed.new.self c.args.ids.now) more (all_spends g c) (more_fewer _ (heeding c.args.self.now c.heed.new.self c.args.ids.now) more c.args.self.now c.args.ids.now _ had (cost_few g c)) in
+    let left = room_behind c.args.self.now c.wake.new.self c.args.ids.now c.args.ids.now c.args.log.now c.wake.new.log (cost g c) more (all_spends g c) (more_fewer _ (cost g c) more c.args.self.now c.args.ids.now _ had (cost_few g c)) in
     let runs = c.restart.ensures.room more left in
     let keeps = ok_has c.restart.result _ runs.0 c.restart.ensures.spare in
     let some = c.in_ok-wake.ensures.enough (λ key is. c.in_ok-woken.ensures.failing key is has) (c.in_ok-woken.ensures.buffers asks has) in
@@ -87,11 +87,13 @@ returns-clause-room g c = λ more had marks has skip asks.
 
 pub returns-in_err-woken-clause-room : goal.returns-in_err-woken-clause-room
 returns-in_err-woken-clause-room g c = λ more had marks has skip asks.
-    let few = word_few c.args.self.now c.args.ids.now (listed_few c.requires.0.matches c.stand_once.ensures) in
+    let few = word_few c.args.message.now c.args.self.now (listed_few c.requires.0.matches c.stand_once.ensures) in
     absurd (let bad : false ≡ true = c.in_err-woken.ensures.succeeds (roomy_fewer _ _ c.args.self.now c.args.ids.now _ had.tables few) asks marks in cc)
 
 pub returns-in_err-wake-clause-room : goal.returns-in_err-wake-clause-room
 returns-in_err-wake-clause-room g c = λ more had marks has skip asks.
-    let few = word_costs g.given.header g.given.host c.args.self.now c.heed.new.self c.args.ids.now g.given.past (c.heed.new.log.items ++ taken g) c.requires.0.matches c.in_ok-woken.ensures.works.matches c.stand_once.ensures c.stand_once-2.ensures in
-    let room = roomy_on c.args.self.now c.heed.new.self c.args.ids.now c.args.ids.now c.args.log.now c.heed.new.log (heeding c.args.self.now c.heed.new.self c.args.ids.now) _ (word_spends c.args.self.now c.heed.new.self c.args.ids.now c.args.log.now c.heed.new.log c.in_ok-woken.ensures.spends) (roomy_fewer _ (heeding c.args.self.now c.heed.new.self c.args.ids.now) c.args.self.now c.args.ids.now _ had.tables few) in
+    let told = heeding c.args.message.now c.args.self.now in
+    let later = waking c.in_ok-woken.woken c.heed.new.self c.args.ids.now in
+    let few = word_costs c.args.message.now c.in_ok-woken.woken c.args.self.now c.heed.new.self c.args.ids.now (listed_few c.requires.0.matches c.stand_once.ensures) c.in_ok-woken.ensures.dies in
+    let room = roomy_on c.args.self.now c.heed.new.self c.args.ids.now c.args.ids.now c.args.log.now c.heed.new.log (told + later) _ (word_spends told later c.args.self.now c.heed.new.self c.args.ids.now c.args.log.now c.heed.new.log c.in_ok-woken.ensures.spends) (roomy_fewer _ (told + later) c.args.self.now c.args.ids.now _ had.tables few) in
     absurd (let bad : false ≡ true = c.in_err-wake.ensures.succeeds room (λ key is. c.in_ok-woken.ensures.failing key is has) in cc)

@@ -1,11 +1,12 @@
-use Rattle.vm_kernel.proofs.Common.{Still, [], ap, arith, length, refl, rules, woken_page, woken_ready, ◌∙◌}
+use Rattle.vm_kernel.proofs.Common.{Still, [], ap, arith, length, refl, rules, woken_page, woken_ready, ◌∙◌, ◌≡◌}
 use Rattle.vm_kernel.proofs.Ordering.{woken_keeps}
 use Rattle.vm_kernel.proofs.Untold.{matches_with}
 use Rattle.vm_state.proofs.Filling.{fills_waked, used_waked}
 use Rattle.vm_state.proofs.Waking.{waits_woken}
 use Rattle.std.proofs.lemmas.List.{length-map}
-use Rattle.vm_kernel.proofs.Departing.{woken_spends}
-use Rattle.vm_kernel.proofs.Spending.{spends_none}
+use Rattle.vm_kernel.proofs.Departing.{roomy_fewer, spends_hand, spends_less, woken_spends}
+use Rattle.vm_kernel.proofs.Spending.{spends_nothing}
+use Rattle.vm_kernel.specs.Rooms.{leaving, waking}
 use Rattle.vm_kernel.proofs.Composing.{skip_rows}
 use Rattle.vm_kernel.proofs.Growing.{on_ok}
 use Rattle.vm_kernel.proofs.parts.Parts.wake.Goals as goal
@@ -46,16 +47,27 @@ pub returns-in-Page-clause-quiet : goal.returns-in-Page-clause-quiet
 returns-in-Page-clause-quiet g c = record { queue = c.wake_page.ensures.queue; more = []; told = refl; none = tt }
 
 pub returns-in-Nobody-clause-spends : goal.returns-in-Nobody-clause-spends
-returns-in-Nobody-clause-spends g c = spends_none c.args.self.now c.args.ids.now c.args.log.now _
+returns-in-Nobody-clause-spends g c = spends_nothing c.args.self.now c.args.ids.now c.args.log.now _
 
 pub returns-in-ReadyOf-clause-spends : goal.returns-in-ReadyOf-clause-spends
-returns-in-ReadyOf-clause-spends g c = woken_spends c.args.self.now c.args.ids.now c.wake_ready.new.self c.args.log.now (ap length c.wake_ready.ensures.rows ∙ length-map c.args.self.now.waits.rows _)
+returns-in-ReadyOf-clause-spends g c = woken_spends _ c.args.self.now c.args.ids.now c.wake_ready.new.self c.args.log.now (ap length c.wake_ready.ensures.rows ∙ length-map c.args.self.now.waits.rows _)
 
 pub returns-in-Page-clause-spends : goal.returns-in-Page-clause-spends
-returns-in-Page-clause-spends g c = woken_spends c.args.self.now c.args.ids.now c.wake_page.new.self c.args.log.now (ap length c.wake_page.ensures.rows ∙ length-map c.args.self.now.waits.rows _)
+returns-in-Page-clause-spends g c = woken_spends _ c.args.self.now c.args.ids.now c.wake_page.new.self c.args.log.now (ap length c.wake_page.ensures.rows ∙ length-map c.args.self.now.waits.rows _)
+
+pub returns-in-Fails-clause-spends : goal.returns-in-Fails-clause-spends
+returns-in-Fails-clause-spends g c =
+    let same : waking c.args.woken c.args.self.now c.args.ids.now ≡ leaving c.args.self.now c.args.ids.now = ap (λ z. waking z c.args.self.now c.args.ids.now) c.in-Fails.is in
+    on_ok c.fail.result _ _
+    (λ is.
+    spends_hand c.args.self.now c.fail.new.self c.args.ids.now c.args.ids.now c.args.log.now c.fail.new.log _ 0 (waking c.args.woken c.args.self.now c.args.ids.now)
+    (spends_less c.args.self.now c.fail.new.self c.args.ids.now c.args.ids.now c.args.log.now c.fail.new.log _ _ 0 is (omega arith)) (omega (arith, same)))
+    c.fail.ensures.spends
 
 pub returns-in-Fails-clause-succeeds : goal.returns-in-Fails-clause-succeeds
-returns-in-Fails-clause-succeeds g c = λ room has. c.fail.ensures.succeeds room (has c.in-Fails.key c.in-Fails.is)
+returns-in-Fails-clause-succeeds g c = λ room has.
+    let same : waking c.args.woken c.args.self.now c.args.ids.now ≡ leaving c.args.self.now c.args.ids.now = ap (λ z. waking z c.args.self.now c.args.ids.now) c.in-Fails.is in
+    c.fail.ensures.succeeds (roomy_fewer _ (leaving c.args.self.now c.args.ids.now) c.args.self.now c.args.ids.now _ room (omega (arith, same))) (has c.in-Fails.key c.in-Fails.is)
 
 pub returns-in-Fails-clause-enough : goal.returns-in-Fails-clause-enough
 returns-in-Fails-clause-enough g c = on_ok c.fail.result _ _ (λ leaves has some. let left = leaves (has c.in-Fails.key c.in-Fails.is) in omega (arith, left)) c.fail.ensures.buffers

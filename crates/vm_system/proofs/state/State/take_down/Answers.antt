@@ -1,4 +1,8 @@
-use Rattle.vm_system.proofs.Common.{Channel, Down, Event, HasRoom, HostsPart, Listed, ap, arith, length, queue, refl, subst, sym, ◌++◌, ◌∙◌, ◌∷◌, ◌≡◌}
+use Rattle.std.specs.Prelude.{slice_get}
+use Rattle.vm_ports.specs.Ports.{queue as queue_on}
+use Rattle.vm_kernel.specs.Rooms.{word_breadth}
+use Rattle.vm_system.proofs.Sending.{sent_one}
+use Rattle.vm_system.proofs.Common.{Breadth, Channel, Down, Event, HasRoom, HostsPart, IsReady, IsSent, List, Listed, Some, ap, arith, length, queue, refl, subst, sym, ◌++◌, ◌∙◌, ◌∷◌, ◌≡◌}
 use Rattle.vm_model.specs.declared.event.Event.TheVariants as event
 use Rattle.vm_system.proofs.Following.{both_spares, same_all}
 use Rattle.vm_system.proofs.Roomed.{behind_all, fewer_room, may_roomed, on_err, room_for, roomed_files, roomed_pagers, spares_roomed, still_of, still_roomed, still_taken}
@@ -7,24 +11,13 @@ use Rattle.vm_system.proofs.TakenDown.{can_down, down_letter, down_licensed, spa
 use Rattle.vm_system.proofs.state.State.take_down.Goals as goal
 
 pub head-requires : goal.head-requires
-head-requires g c =
-    let given = g.given in
-    let s = c.args.self.now in
-    let t = c.prepare.new.self in
-    let r = c.prepare.ensures.same in
-    let channel = Down c.args.host c.args.object c.args.control in
-    let may = may_roomed given c.args.line c.args.number channel s t c.requires r in
-    may_port given c.args.line c.args.number channel t may
+head-requires g c = may_port g.given c.args.line c.args.number (Down c.args.host c.args.object c.args.control) c.args.self.now c.requires
 
 pub unreachable-requires : goal.unreachable-requires
-unreachable-requires g c =
-    let given = g.given in
-    let s = c.args.self.now in
-    let t = c.prepare.new.self in
-    let r = c.prepare.ensures.same in
-    let channel = Down c.args.host c.args.object c.args.control in
-    let may = may_roomed given c.args.line c.args.number channel s t c.requires r in
-    may_some given c.args.line c.args.number channel t may c.in_default.ensures
+unreachable-requires g c = may_some g.given c.args.line c.args.number (Down c.args.host c.args.object c.args.control) c.args.self.now c.requires c.in_default.ensures
+
+pub sent-requires : goal.sent-requires
+sent-requires g c = may_read g.given c.args.line c.args.number (Down c.args.host c.args.object c.args.control) c.in-Some.index.now c.args.self.now c.requires c.in-Some.ensures
 
 pub sent-message-requires : goal.sent-message-requires
 sent-message-requires g c =
@@ -34,7 +27,7 @@ sent-message-requires g c =
     let r = c.prepare.ensures.same in
     let channel = Down c.args.host c.args.object c.args.control in
     let may = may_roomed given c.args.line c.args.number channel s t c.requires r in
-    may_read given c.args.line c.args.number channel c.in-Some.index.now t may c.in-Some.ensures
+    may_read given c.args.line c.args.number channel c.in-Some.index.now t may (subst (λ z. slice_get (queue_on c.args.number.0 z) 0 ≡ Some c.in-Some.index.now) (sym r.letters) c.in-Some.ensures)
 
 pub take-requires : goal.take-requires
 take-requires g c =
@@ -45,11 +38,14 @@ take-requires g c =
     let channel = Down c.args.host c.args.object c.args.control in
     let may = may_roomed given c.args.line c.args.number channel s t c.requires r in
     let m = c.sent-message.result.now in
-    let head = may_head given c.args.line c.args.number channel c.in-Some.index.now m t may c.in-Some.ensures c.sent-message.ensures in
+    let head = may_head given c.args.line c.args.number channel c.in-Some.index.now m t may (subst (λ z. slice_get (queue_on c.args.number.0 z) 0 ≡ Some c.in-Some.index.now) (sym r.letters) c.in-Some.ensures) c.sent-message.ensures in
     let front = front_of given c.args.line c.args.number channel t may in
     let letter = down_letter given c.args.line c.args.number c.args.host c.args.object c.args.control m t may head in
     let ready = c.in_ok-prepare.ensures.ready in
-    (front.rests, (front.queues, (letter.0, (letter.1, (down_licensed given c.args.line c.args.number c.args.host c.args.object c.args.control m t may head, (may.stands.log, (ready.0, ready.1.hosts)))))))
+    let read = c.sent-message.ensures in
+    let same = sent_one s.history.items c.in-Some.index.now read.0 c.sent.ensures.0 m c.sent.result.now (subst (λ (z : List Event). IsSent z c.in-Some.index.now read.0 m) r.history read.1) c.sent.ensures.1 in
+    let able = subst (λ (z : Breadth). IsReady z ready.0 t.hosts t.log.room) (c.of_word-breadth.ensures ∙ ap word_breadth same) ready.1.hosts in
+    (front.rests, (front.queues, (letter.0, (letter.1, (down_licensed given c.args.line c.args.number c.args.host c.args.object c.args.control m t may head, (may.stands.log, (ready.0, able)))))))
 
 pub take_first-requires-clause-there : goal.take_first-requires-clause-there
 take_first-requires-clause-there g c =
@@ -86,7 +82,7 @@ commit_log-requires-clause-can g c =
     let channel = Down c.args.host c.args.object c.args.control in
     let may = may_roomed given c.args.line c.args.number channel s t c.requires r in
     let m = c.sent-message.result.now in
-    let head = may_head given c.args.line c.args.number channel c.in-Some.index.now m t may c.in-Some.ensures c.sent-message.ensures in
+    let head = may_head given c.args.line c.args.number channel c.in-Some.index.now m t may (subst (λ z. slice_get (queue_on c.args.number.0 z) 0 ≡ Some c.in-Some.index.now) (sym r.letters) c.in-Some.ensures) c.sent-message.ensures in
     let events = c.take.new.log.items in
     let told = first_told given c.args.line c.args.number channel m t t c.take_first.new.self may head refl refl c.take_first.ensures.history in
     let logged : c.take_first.new.self.log.items ≡ events = ap (λ (z : Listed Event). z.items) c.take_first.ensures.hosts.log in
@@ -95,10 +91,16 @@ commit_log-requires-clause-can g c =
 
 pub commit_log-requires-clause-room : goal.commit_log-requires-clause-room
 commit_log-requires-clause-room g c =
-    let ready = c.in_ok-prepare.ensures.ready in
+    let s = c.args.self.now in
     let t = c.prepare.new.self in
+    let r = c.prepare.ensures.same in
+    let m = c.sent-message.result.now in
+    let ready = c.in_ok-prepare.ensures.ready in
+    let read = c.sent-message.ensures in
+    let same = sent_one s.history.items c.in-Some.index.now read.0 c.sent.ensures.0 m c.sent.result.now (subst (λ (z : List Event). IsSent z c.in-Some.index.now read.0 m) r.history read.1) c.sent.ensures.1 in
+    let able = subst (λ (z : Breadth). IsReady z ready.0 t.hosts t.log.room) (c.of_word-breadth.ensures ∙ ap word_breadth same) ready.1.hosts in
     let room = ready.1.room in
-    let few = c.in_ok-take.ensures.few ready.0 ready.1.hosts in
+    let few = c.in_ok-take.ensures.few ready.0 able in
     let left = behind_all ready.0 t c.take_first.new.self room (λ n h d s l. c.take_first.ensures.room n (record { history = h; channels = d; numbers = s; letters = l })) in
     subst (λ (z : Listed Event). HasRoom (length z.items) c.take_first.new.self) (sym c.take_first.ensures.hosts.log) (fewer_room (length c.take.new.log.items) ready.0 c.take_first.new.self few left)
 
@@ -111,7 +113,7 @@ returns-clause-took g c =
     let channel = Down c.args.host c.args.object c.args.control in
     let may = may_roomed given c.args.line c.args.number channel s t c.requires r in
     let m = c.sent-message.result.now in
-    let head = may_head given c.args.line c.args.number channel c.in-Some.index.now m t may c.in-Some.ensures c.sent-message.ensures in
+    let head = may_head given c.args.line c.args.number channel c.in-Some.index.now m t may (subst (λ z. slice_get (queue_on c.args.number.0 z) 0 ≡ Some c.in-Some.index.now) (sym r.letters) c.in-Some.ensures) c.sent-message.ensures in
     let events = c.take.new.log.items in
     let told = first_told given c.args.line c.args.number channel m t t c.take_first.new.self may head refl refl c.take_first.ensures.history in
     let new = c.commit_log.new.self in
@@ -133,7 +135,7 @@ returns-clause-spares g c =
     let channel = Down c.args.host c.args.object c.args.control in
     let may = may_roomed given c.args.line c.args.number channel s t c.requires r in
     let m = c.sent-message.result.now in
-    let head = may_head given c.args.line c.args.number channel c.in-Some.index.now m t may c.in-Some.ensures c.sent-message.ensures in
+    let head = may_head given c.args.line c.args.number channel c.in-Some.index.now m t may (subst (λ z. slice_get (queue_on c.args.number.0 z) 0 ≡ Some c.in-Some.index.now) (sym r.letters) c.in-Some.ensures) c.sent-message.ensures in
     let events = c.take.new.log.items in
     let told = first_told given c.args.line c.args.number channel m t t c.take_first.new.self may head refl refl c.take_first.ensures.history in
     let new = c.commit_log.new.self in
