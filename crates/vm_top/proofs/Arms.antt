@@ -1,5 +1,5 @@
 -- How steps leave the backings armed, and what failed.
-use Rattle.std.proofs.Common.{◌≡◌, ℕ, min, ◌+◌, ◌<◌, ◌≤◌, ◌⊎◌, inl, List, ◌∷◌, true, false, Option, Some, None, refl, ap, sym, ◌∙◌, subst, arith}
+use Rattle.std.proofs.Common.{◌≡◌, ℕ, min, ◌+◌, ◌<◌, ◌≤◌, ◌⊎◌, inl, List, [], ◌∷◌, true, false, Option, Some, None, refl, ap, sym, ◌∙◌, subst, arith}
 use Rattle.vm_model.specs.declared.event.Device.{Device}
 use Rattle.vm_model.specs.declared.event.Device.TheVariants as device
 use Rattle.vm_model.specs.declared.event.Event.{Event}
@@ -16,7 +16,7 @@ use Rattle.vm_outside.specs.Causes.{CountRises, next_count, sum_count}
 use Rattle.vm_system.specs.Steps.{DevicesHaveCause, GrowsWithinLimit, LeavesBacking, arms, devices, took_up}
 use Rattle.vm_system.proofs.Growth.{devices_grow}
 use Rattle.vm_top.specs.Always.{BackingKept, Counts}
-use Rattle.vm_top.specs.Arming.{FailuresCounted, armings, is_untouched, last_arming, ran_of}
+use Rattle.vm_top.specs.Arming.{BackingLeft, FailuresCounted, armings, is_untouched, last_arming, ran_of}
 use Rattle.vm_top.specs.Top.{BackingEnds}
 use Rattle.vm_top.specs.Running.{Arms, BackingRuns, FaultCounts, Running, counted}
 use Rattle.vm_top.proofs.Counting.{untouched_line, untouched_taking}
@@ -157,3 +157,15 @@ kept_disarmed {B} who script history old new counts is = record { ends = by scri
     by : (script : Option Script) → BackingEnds who script history (record { inner = old.inner; left = 0; reached = old.reached }) new → BackingEnds who script history old new
     by None ends = ends
     by (Some run) ends = record { none = ends.none; some = ends.some; untouched = ends.untouched; few = ends.few }
+
+-- how a backing is left by a run, said of either
+pub kept_by : {B : Type 0} (who : Device) (script : Script) (h : List Event) (old new : Arming B) (i0 i1 : ℕ) → BackingLeft script.header who (ran_of script h) h old new → FailuresCounted who (sum_count i0 old.reached) (sum_count i1 new.reached) h
+    → BackingKept who (Some script) h old new (record { old = sum_count i0 old.reached; new = sum_count i1 new.reached; own_old = i0; own_new = i1 })
+kept_by {B} who script h old new i0 i1 left told = record {
+  ends = left;
+  counted = told;
+  bounded = bounded (devices who h) i0 i1 old.reached new.reached new.left (armings (arms who) (ran_of script h)) told.few left.few;
+}
+
+pub none_counted : (who : Device) (n : ℕ) (h : List Event) → h ≡ [] → FailuresCounted who n n h
+none_counted who n h none = record { few = inl (subst (λ (z : List Event). devices who z + n ≤ n) (sym none) (omega arith)); none = λ zero. refl }

@@ -1,5 +1,5 @@
 // Runs a script, and writes each step's events when it has ended.
-ghost use Rattle.std.specs.Prelude.{◌≡◌, ◌≢◌, ◌+◌, ◌⊎◌, ◌<◌, ◌≤◌, [], true, false, List, ℕ, length, IfOk, OnOk, IsErrOf};
+ghost use Rattle.std.specs.Prelude.{Some, ◌≡◌, ◌≢◌, ◌+◌, ◌⊎◌, ◌<◌, ◌≤◌, [], true, false, List, ℕ, length, IfOk, OnOk, IsErrOf};
 ghost use Rattle.std.specs.Io.KnownBytes.{Appends};
 ghost use Rattle.std.specs.declared.option.Option.{Option};
 ghost use Rattle.vm_model.specs.Limits.{most_events};
@@ -11,11 +11,11 @@ ghost use Rattle.vm_legal.specs.Steps.{takings};
 ghost use Rattle.vm_legal.specs.Undelivered.{undelivered};
 ghost use Rattle.vm_outside.specs.Causes.{CountRises};
 ghost use Rattle.vm_system.specs.Keeping.{FilesCarry, PagingKeepsPages};
-ghost use Rattle.vm_system.specs.Stands.{FilesAreKept, PagingIsKept, SystemStands};
+ghost use Rattle.vm_system.specs.Stands.{SystemStands};
 ghost use Rattle.vm_system.specs.Steps.{HasMore, IsBelowLimit};
-ghost use Rattle.vm_top.specs.Arming.{BackingLeft, FailuresBounded, FailuresCounted, ran_of};
 ghost use Rattle.vm_top.specs.Run.{IsRunnable, RanAs, outside_of, text_so_far};
-ghost use Rattle.vm_top.specs.Running.{IsBetweenCommands, IsNextOf, RunStops, RunTaking, Running, Settles, Turned};
+ghost use Rattle.vm_top.specs.Always.{BackingKept};
+ghost use Rattle.vm_top.specs.Running.{BackingsFit, IsBetweenCommands, IsNextOf, RunStops, RunTaking, Running, Settles, Turned};
 ghost use Rattle.vm_top.specs.Writing.{WroteBeyond, oldest_items};
 
 use crate::render::write_step;
@@ -102,17 +102,13 @@ fn turn<K: Sink, F: Backing, P: Backing>(
 ) -> Result<(), RunEnd>
     ghost given: { Running F P }
     requires stands { SystemStands given.script.header given.outside system.old }
-    requires kept { PagingIsKept given.script.header given.outside (P.area paging.old.inner) system.old }
-    requires files_kept { FilesAreKept given.script.header given.outside (F.area files.old.inner) system.old }
-    requires carried { FilesCarry given.script.header (F.area given.files.inner) (F.area files.old.inner) system.old.history.items }
+    requires backings { BackingsFit given.script.header given.outside (F.area given.files.inner) (F.area files.old.inner) (P.area paging.old.inner) system.old }
     requires range { InRange given.script.header numbered.now.command }
     requires below { length system.old.history.items < most_events }
     requires runs { IsBetweenCommands report given system.old.history.items (K.written out.old) files.old paging.old (record { files = ⟦<Armed<F> as Backing>⟧.faults files.old; paging = ⟦<Armed<P> as Backing>⟧.faults paging.old }) }
     requires next { IsNextOf given.script numbered.now system.old.history.items }
     ensures stands { OnOk result (SystemStands given.script.header given.outside system.new) }
-    ensures kept { PagingIsKept given.script.header given.outside (P.area paging.new.inner) system.new }
-    ensures files_kept { FilesAreKept given.script.header given.outside (F.area files.new.inner) system.new }
-    ensures carried { FilesCarry given.script.header (F.area given.files.inner) (F.area files.new.inner) system.new.history.items }
+    ensures backings { BackingsFit given.script.header given.outside (F.area given.files.inner) (F.area files.new.inner) (P.area paging.new.inner) system.new }
     ensures turned { OnOk result (Turned report given numbered.now system.new.history.items (K.written out.new) files.new paging.new (record { files = ⟦<Armed<F> as Backing>⟧.faults files.new; paging = ⟦<Armed<P> as Backing>⟧.faults paging.new })) }
     ensures lines { OnOk result (count_of is_line system.new.history.items
         ≡ count_of is_line system.old.history.items + 1) }
@@ -139,15 +135,11 @@ fn take_one<K: Sink, F: Backing, P: Backing>(
 ) -> Result<bool, RunEnd>
     ghost given: { RunTaking F P }
     requires stands { SystemStands given.running.script.header given.running.outside system.old }
-    requires kept { PagingIsKept given.running.script.header given.running.outside (P.area paging.old.inner) system.old }
-    requires files_kept { FilesAreKept given.running.script.header given.running.outside (F.area files.old.inner) system.old }
-    requires carried { FilesCarry given.running.script.header (F.area given.running.files.inner) (F.area files.old.inner) system.old.history.items }
+    requires backings { BackingsFit given.running.script.header given.running.outside (F.area given.running.files.inner) (F.area files.old.inner) (P.area paging.old.inner) system.old }
     requires settles { Settles report given system.old.history.items (K.written out.old) files.old paging.old (record { files = ⟦<Armed<F> as Backing>⟧.faults files.old; paging = ⟦<Armed<P> as Backing>⟧.faults paging.old }) }
     requires more { HasMore given.command system.old.history.items }
     ensures stands { OnOk result (SystemStands given.running.script.header given.running.outside system.new) }
-    ensures kept { PagingIsKept given.running.script.header given.running.outside (P.area paging.new.inner) system.new }
-    ensures files_kept { FilesAreKept given.running.script.header given.running.outside (F.area files.new.inner) system.new }
-    ensures carried { FilesCarry given.running.script.header (F.area given.running.files.inner) (F.area files.new.inner) system.new.history.items }
+    ensures backings { BackingsFit given.running.script.header given.running.outside (F.area given.running.files.inner) (F.area files.new.inner) (P.area paging.new.inner) system.new }
     ensures settles { OnOk result (Settles report given system.new.history.items (K.written out.new) files.new paging.new (record { files = ⟦<Armed<F> as Backing>⟧.faults files.new; paging = ⟦<Armed<P> as Backing>⟧.faults paging.new })) }
     ensures more { IfOk result (λ took. took ≡ true
         → takings system.new.history.items ≡ takings system.old.history.items + 1) }
@@ -181,16 +173,12 @@ fn settle<K: Sink, F: Backing, P: Backing>(
 ) -> Result<(), RunEnd>
     ghost given: { RunTaking F P }
     requires stands { SystemStands given.running.script.header given.running.outside system.old }
-    requires kept { PagingIsKept given.running.script.header given.running.outside (P.area paging.old.inner) system.old }
-    requires files_kept { FilesAreKept given.running.script.header given.running.outside (F.area files.old.inner) system.old }
-    requires carried { FilesCarry given.running.script.header (F.area given.running.files.inner) (F.area files.old.inner) system.old.history.items }
+    requires backings { BackingsFit given.running.script.header given.running.outside (F.area given.running.files.inner) (F.area files.old.inner) (P.area paging.old.inner) system.old }
     requires settles { Settles report given system.old.history.items (K.written out.old) files.old paging.old (record { files = ⟦<Armed<F> as Backing>⟧.faults files.old; paging = ⟦<Armed<P> as Backing>⟧.faults paging.old }) }
     requires command { given.command ≡ Command.Settle count }
     requires none { takings system.old.history.items ≡ 0 }
     ensures stands { OnOk result (SystemStands given.running.script.header given.running.outside system.new) }
-    ensures kept { PagingIsKept given.running.script.header given.running.outside (P.area paging.new.inner) system.new }
-    ensures files_kept { FilesAreKept given.running.script.header given.running.outside (F.area files.new.inner) system.new }
-    ensures carried { FilesCarry given.running.script.header (F.area given.running.files.inner) (F.area files.new.inner) system.new.history.items }
+    ensures backings { BackingsFit given.running.script.header given.running.outside (F.area given.running.files.inner) (F.area files.new.inner) (P.area paging.new.inner) system.new }
     ensures runs { OnOk result (IsBetweenCommands report given.running system.new.history.items (K.written out.new) files.new paging.new (record { files = ⟦<Armed<F> as Backing>⟧.faults files.new; paging = ⟦<Armed<P> as Backing>⟧.faults paging.new })) }
     ensures lines { OnOk result (count_of is_line system.new.history.items
         ≡ count_of is_line system.old.history.items) }
@@ -227,12 +215,8 @@ pub fn run_script<K: Sink, F: Backing, P: Backing>(
     // What the backings keep, and how they are armed.
     ensures kept { (host : ℕ) → host < length script.now.header.frames.items → PagingKeepsPages script.now.header host (outside_of (F.area files.old.inner) (P.area paging.old.inner) script.now.header) (P.area paging.new.inner) result.history.items }
     ensures carried { FilesCarry script.now.header (F.area files.old.inner) (F.area files.new.inner) result.history.items }
-    ensures files { BackingLeft script.now.header device.Files (ran_of script.now result.history.items) result.history.items files.old files.new }
-    ensures paging { BackingLeft script.now.header device.Paging (ran_of script.now result.history.items) result.history.items paging.old paging.new }
-    ensures files_devices { FailuresCounted device.Files (⟦<Armed<F> as Backing>⟧.faults files.old) (⟦<Armed<F> as Backing>⟧.faults files.new) result.history.items }
-    ensures devices { FailuresCounted device.Paging (⟦<Armed<P> as Backing>⟧.faults paging.old) (⟦<Armed<P> as Backing>⟧.faults paging.new) result.history.items }
-    ensures files_bounded { FailuresBounded device.Files (ran_of script.now result.history.items) (F.faults files.old.inner) (F.faults files.new.inner) (⟦<Armed<F> as Backing>⟧.faults files.new) result.history.items }
-    ensures bounded { FailuresBounded device.Paging (ran_of script.now result.history.items) (P.faults paging.old.inner) (P.faults paging.new.inner) (⟦<Armed<P> as Backing>⟧.faults paging.new) result.history.items }
+    ensures files { BackingKept device.Files (Some script.now) result.history.items files.old files.new (record { old = ⟦<Armed<F> as Backing>⟧.faults files.old; new = ⟦<Armed<F> as Backing>⟧.faults files.new; own_old = F.faults files.old.inner; own_new = F.faults files.new.inner }) }
+    ensures paging { BackingKept device.Paging (Some script.now) result.history.items paging.old paging.new (record { old = ⟦<Armed<P> as Backing>⟧.faults paging.old; new = ⟦<Armed<P> as Backing>⟧.faults paging.new; own_old = P.faults paging.old.inner; own_new = P.faults paging.new.inner }) }
 {
     let Ok(mut system) = System::new(alloc, &script.header) else {
         return Ran {
@@ -261,14 +245,10 @@ fn run_all<K: Sink, F: Backing, P: Backing>(
     requires script { given.script ≡ script.now }
     requires run { IsRunnable script.now }
     requires stands { SystemStands given.script.header given.outside system.old }
-    requires kept { PagingIsKept given.script.header given.outside (P.area paging.old.inner) system.old }
-    requires files_kept { FilesAreKept given.script.header given.outside (F.area files.old.inner) system.old }
-    requires carried { FilesCarry given.script.header (F.area given.files.inner) (F.area files.old.inner) system.old.history.items }
+    requires backings { BackingsFit given.script.header given.outside (F.area given.files.inner) (F.area files.old.inner) (P.area paging.old.inner) system.old }
     requires runs { IsBetweenCommands report given system.old.history.items (K.written out.old) files.old paging.old (record { files = ⟦<Armed<F> as Backing>⟧.faults files.old; paging = ⟦<Armed<P> as Backing>⟧.faults paging.old }) }
     requires none { system.old.history.items ≡ [] }
-    ensures kept { PagingIsKept given.script.header given.outside (P.area paging.new.inner) system.new }
-    ensures files_kept { FilesAreKept given.script.header given.outside (F.area files.new.inner) system.new }
-    ensures carried { FilesCarry given.script.header (F.area given.files.inner) (F.area files.new.inner) system.new.history.items }
+    ensures backings { BackingsFit given.script.header given.outside (F.area given.files.inner) (F.area files.new.inner) (P.area paging.new.inner) system.new }
     ensures stops { RunStops report given system.new.history.items (K.written out.new) files.new paging.new (record { files = ⟦<Armed<F> as Backing>⟧.faults files.new; paging = ⟦<Armed<P> as Backing>⟧.faults paging.new }) result }
     ensures later { K.faults out.old ≤ K.faults out.new }
     ensures cause { result ≡ RunEnd.Failed → CountRises (K.faults out.old) (K.faults out.new) }
@@ -294,16 +274,12 @@ fn run_one<K: Sink, F: Backing, P: Backing>(
 ) -> Result<(), RunEnd>
     ghost given: { Running F P }
     requires stands { SystemStands given.script.header given.outside system.old }
-    requires kept { PagingIsKept given.script.header given.outside (P.area paging.old.inner) system.old }
-    requires files_kept { FilesAreKept given.script.header given.outside (F.area files.old.inner) system.old }
-    requires carried { FilesCarry given.script.header (F.area given.files.inner) (F.area files.old.inner) system.old.history.items }
+    requires backings { BackingsFit given.script.header given.outside (F.area given.files.inner) (F.area files.old.inner) (P.area paging.old.inner) system.old }
     requires range { InRange given.script.header numbered.now.command }
     requires runs { IsBetweenCommands report given system.old.history.items (K.written out.old) files.old paging.old (record { files = ⟦<Armed<F> as Backing>⟧.faults files.old; paging = ⟦<Armed<P> as Backing>⟧.faults paging.old }) }
     requires next { IsNextOf given.script numbered.now system.old.history.items }
     ensures stands { OnOk result (SystemStands given.script.header given.outside system.new) }
-    ensures kept { PagingIsKept given.script.header given.outside (P.area paging.new.inner) system.new }
-    ensures files_kept { FilesAreKept given.script.header given.outside (F.area files.new.inner) system.new }
-    ensures carried { FilesCarry given.script.header (F.area given.files.inner) (F.area files.new.inner) system.new.history.items }
+    ensures backings { BackingsFit given.script.header given.outside (F.area given.files.inner) (F.area files.new.inner) (P.area paging.new.inner) system.new }
     ensures runs { OnOk result (IsBetweenCommands report given system.new.history.items (K.written out.new) files.new paging.new (record { files = ⟦<Armed<F> as Backing>⟧.faults files.new; paging = ⟦<Armed<P> as Backing>⟧.faults paging.new })) }
     ensures lines { OnOk result (count_of is_line system.new.history.items
         ≡ count_of is_line system.old.history.items + 1) }

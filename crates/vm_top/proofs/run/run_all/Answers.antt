@@ -8,7 +8,7 @@ pub run_one-requires : goal.run_one-requires
 run_one-requires g c = λ lifetimes held.
     let range = range_of g.given.script c.args.script.now c.commands.i c.at-numbered.result.now c.requires.1.1.1.0 c.requires.1.1.1.1.0 c.at-numbered.ensures in
     let next = next_at g.given.script c.args.script.now c.commands.i c.at-numbered.result.now c.commands.system.history.items c.requires.1.1.1.0 c.at-numbered.ensures c.commands.invariant.lines in
-    (held.0, (held.1.0, (held.1.1, (c.commands.invariant.stands, (c.commands.invariant.kept, (c.commands.invariant.files_kept, (c.commands.invariant.carried, (range, (c.commands.invariant.runs, next)))))))))
+    (held.0, (held.1.0, (held.1.1, (c.commands.invariant.stands, (c.commands.invariant.backings, (range, (c.commands.invariant.runs, next)))))))
 
 pub returns-in-Err-clause-stops : goal.returns-in-Err-clause-stops
 returns-in-Err-clause-stops g c = c.run_one.ensures.stops c.in-Err.end c.in-Err.is

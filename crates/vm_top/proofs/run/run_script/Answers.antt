@@ -1,12 +1,12 @@
-use Rattle.std.proofs.Common.{refl, subst, sym, ◌<◌}
+use Rattle.std.proofs.Common.{Some, refl, subst, sym, ◌<◌}
 use Rattle.vm_model.specs.declared.event.Device.TheVariants as device
 use Rattle.vm_outside.specs.Causes.{sum_count}
 use Rattle.vm_system.specs.Keeping.{FilesCarry, PagingKeepsPages}
-use Rattle.vm_system.specs.Steps.{IsBelowLimit, arms, devices}
-use Rattle.vm_top.specs.Arming.{BackingLeft, FailuresBounded, FailuresCounted, armings, ran_of}
+use Rattle.vm_system.specs.Steps.{IsBelowLimit}
+use Rattle.vm_top.specs.Always.{BackingKept}
 use Rattle.vm_top.specs.Run.{RanAs, outside_of}
 use Rattle.vm_top.specs.Running.{Running}
-use Rattle.vm_top.proofs.Arms.{bounded}
+use Rattle.vm_top.proofs.Arms.{kept_by, none_counted}
 use Rattle.vm_top.proofs.Keeping.{all_told, files_none, files_told, kept_none, kept_pages, pager_of}
 use Rattle.vm_top.proofs.Turns.{nothing_ran, start_left, start_runs}
 use Rattle.vm_top.proofs.run.run_script.Goals as goal
@@ -34,7 +34,7 @@ run_all-end-requires g c = λ lifetimes held.
     let files_kept = c.in-Ok.ensures.files outside files (files_told header files areas) in
     let carried = files_none header files system.history.items c.in-Ok.ensures.nothing in
     let runs = start_runs c.args.report given system.history.items c.in-Ok.ensures.nothing c.requires.files c.requires.paging in
-    (held.0, (held.1.0, (held.1.1, (refl, (c.requires.run, (stands, (kept, (files_kept, (carried, (runs, c.in-Ok.ensures.nothing))))))))))
+    (held.0, (held.1.0, (held.1.1, (refl, (c.requires.run, (stands, (record { kept = kept; files_kept = files_kept; carried = carried }, (runs, c.in-Ok.ensures.nothing))))))))
 
 pub returns-clause-ran : goal.returns-clause-ran
 returns-clause-ran g c =
@@ -54,57 +54,37 @@ pub returns-clause-kept : goal.returns-clause-kept
 returns-clause-kept g c = λ host below.
     let areas = g.P.Backing.area c.run_all-end.new.paging.inner in
     let outside = outside_of (g.F.Backing.area c.args.files.now.inner) (g.P.Backing.area c.args.paging.now.inner) c.args.script.now.header in
-    let kept = c.run_all-end.ensures.kept in
+    let kept = c.run_all-end.ensures.backings.kept in
     let pager = pager_of c.run_all-end.new.system.pagers.items host (subst (λ z. host < z) (sym kept.pagers.numbered.count) below) in
     subst (λ z. PagingKeepsPages c.args.script.now.header host outside areas z.items) (sym c.into_history.ensures) (kept_pages c.args.script.now.header host outside areas c.run_all-end.new.system pager.0 pager.1 kept)
 
 pub returns-clause-carried : goal.returns-clause-carried
 returns-clause-carried g c =
-    subst (λ z. FilesCarry c.args.script.now.header (g.F.Backing.area c.args.files.now.inner) (g.F.Backing.area c.run_all-end.new.files.inner) z.items) (sym c.into_history.ensures) c.run_all-end.ensures.carried
+    subst (λ z. FilesCarry c.args.script.now.header (g.F.Backing.area c.args.files.now.inner) (g.F.Backing.area c.run_all-end.new.files.inner) z.items) (sym c.into_history.ensures) c.run_all-end.ensures.backings.carried
 
 pub returns-clause-files : goal.returns-clause-files
 returns-clause-files g c =
-    subst (λ z. BackingLeft c.args.script.now.header device.Files (ran_of c.args.script.now z.items) z.items c.args.files.now c.run_all-end.new.files) (sym c.into_history.ensures) c.run_all-end.ensures.stops.arms.files.left
+    let own = g.F.Backing.faults c.args.files.now.inner in
+    let now = g.F.Backing.faults c.run_all-end.new.files.inner in
+    let stops = c.run_all-end.ensures.stops in
+    subst
+    (λ z.
+    BackingKept device.Files (Some c.args.script.now) z.items c.args.files.now c.run_all-end.new.files
+    (record { old = sum_count own c.args.files.now.reached; new = sum_count now c.run_all-end.new.files.reached; own_old = own; own_new = now }))
+    (sym c.into_history.ensures)
+    (kept_by device.Files c.args.script.now c.run_all-end.new.system.history.items c.args.files.now c.run_all-end.new.files own now stops.arms.files.left (stops.failed device.Files))
 
 pub returns-clause-paging : goal.returns-clause-paging
 returns-clause-paging g c =
-    subst (λ z. BackingLeft c.args.script.now.header device.Paging (ran_of c.args.script.now z.items) z.items c.args.paging.now c.run_all-end.new.paging) (sym c.into_history.ensures) c.run_all-end.ensures.stops.arms.paging.left
-
-pub returns-clause-files_bounded : goal.returns-clause-files_bounded
-returns-clause-files_bounded g c =
-    let i0 = g.F.Backing.faults c.args.files.now.inner in
-    let i1 = g.F.Backing.faults c.run_all-end.new.files.inner in
-    let r0 = c.args.files.now.reached in
-    let r1 = c.run_all-end.new.files.reached in
-    let h = c.run_all-end.new.system.history.items in
-    let run = ran_of c.args.script.now h in
+    let own = g.P.Backing.faults c.args.paging.now.inner in
+    let now = g.P.Backing.faults c.run_all-end.new.paging.inner in
     let stops = c.run_all-end.ensures.stops in
-    subst (λ z. FailuresBounded device.Files (ran_of c.args.script.now z.items) i0 i1 (sum_count i1 r1) z.items) (sym c.into_history.ensures)
-    (bounded (devices device.Files h) i0 i1 r0 r1 c.run_all-end.new.files.left (armings (arms device.Files) run) (stops.failed device.Files).few stops.arms.files.left.few)
-
-pub returns-clause-files_devices : goal.returns-clause-files_devices
-returns-clause-files_devices g c =
-    let before = sum_count (g.F.Backing.faults c.args.files.now.inner) c.args.files.now.reached in
-    let after = sum_count (g.F.Backing.faults c.run_all-end.new.files.inner) c.run_all-end.new.files.reached in
-    subst (λ z. FailuresCounted device.Files before after z.items) (sym c.into_history.ensures) (c.run_all-end.ensures.stops.failed device.Files)
-
-pub returns-clause-bounded : goal.returns-clause-bounded
-returns-clause-bounded g c =
-    let i0 = g.P.Backing.faults c.args.paging.now.inner in
-    let i1 = g.P.Backing.faults c.run_all-end.new.paging.inner in
-    let r0 = c.args.paging.now.reached in
-    let r1 = c.run_all-end.new.paging.reached in
-    let h = c.run_all-end.new.system.history.items in
-    let run = ran_of c.args.script.now h in
-    let stops = c.run_all-end.ensures.stops in
-    subst (λ z. FailuresBounded device.Paging (ran_of c.args.script.now z.items) i0 i1 (sum_count i1 r1) z.items) (sym c.into_history.ensures)
-    (bounded (devices device.Paging h) i0 i1 r0 r1 c.run_all-end.new.paging.left (armings (arms device.Paging) run) (stops.failed device.Paging).few stops.arms.paging.left.few)
-
-pub returns-clause-devices : goal.returns-clause-devices
-returns-clause-devices g c =
-    let before = sum_count (g.P.Backing.faults c.args.paging.now.inner) c.args.paging.now.reached in
-    let after = sum_count (g.P.Backing.faults c.run_all-end.new.paging.inner) c.run_all-end.new.paging.reached in
-    subst (λ z. FailuresCounted device.Paging before after z.items) (sym c.into_history.ensures) (c.run_all-end.ensures.stops.failed device.Paging)
+    subst
+    (λ z.
+    BackingKept device.Paging (Some c.args.script.now) z.items c.args.paging.now c.run_all-end.new.paging
+    (record { old = sum_count own c.args.paging.now.reached; new = sum_count now c.run_all-end.new.paging.reached; own_old = own; own_new = now }))
+    (sym c.into_history.ensures)
+    (kept_by device.Paging c.args.script.now c.run_all-end.new.system.history.items c.args.paging.now c.run_all-end.new.paging own now stops.arms.paging.left (stops.failed device.Paging))
 
 pub returns-in_default-clause-ran : goal.returns-in_default-clause-ran
 returns-in_default-clause-ran g c =
@@ -117,7 +97,15 @@ pub returns-in_default-clause-carried : goal.returns-in_default-clause-carried
 returns-in_default-clause-carried g c = files_none c.args.script.now.header (g.F.Backing.area c.args.files.now.inner) c.new-in_default.result.items c.new-in_default.ensures
 
 pub returns-in_default-clause-files : goal.returns-in_default-clause-files
-returns-in_default-clause-files g c = start_left c.args.script.now device.Files c.args.files.now c.new-in_default.result.items c.new-in_default.ensures c.requires.files
+returns-in_default-clause-files g c =
+    let h = c.new-in_default.result.items in
+    let own = g.F.Backing.faults c.args.files.now.inner in
+    kept_by device.Files c.args.script.now h c.args.files.now c.args.files.now own own (start_left c.args.script.now device.Files c.args.files.now h c.new-in_default.ensures c.requires.files)
+    (none_counted device.Files (sum_count own c.args.files.now.reached) h c.new-in_default.ensures)
 
 pub returns-in_default-clause-paging : goal.returns-in_default-clause-paging
-returns-in_default-clause-paging g c = start_left c.args.script.now device.Paging c.args.paging.now c.new-in_default.result.items c.new-in_default.ensures c.requires.paging
+returns-in_default-clause-paging g c =
+    let h = c.new-in_default.result.items in
+    let own = g.P.Backing.faults c.args.paging.now.inner in
+    kept_by device.Paging c.args.script.now h c.args.paging.now c.args.paging.now own own (start_left c.args.script.now device.Paging c.args.paging.now h c.new-in_default.ensures c.requires.paging)
+    (none_counted device.Paging (sum_count own c.args.paging.now.reached) h c.new-in_default.ensures)

@@ -19,7 +19,7 @@ returns-in_err-show-in-Ok-true-clause-stops g c = λ end is.
     let new = c.take_oldest.new.self.history.items in
     let e0 : FaultCounts = record { files = sum_count (g.F.Backing.faults c.args.files.now.inner) c.args.files.now.reached; paging = sum_count (g.P.Backing.faults c.args.paging.now.inner) c.args.paging.now.reached } in
     let e1 : FaultCounts = record { files = sum_count (g.F.Backing.faults c.take_oldest.new.files.inner) c.take_oldest.new.files.reached; paging = sum_count (g.P.Backing.faults c.take_oldest.new.paging.inner) c.take_oldest.new.paging.reached } in
-    let settles = c.requires.1.1.1.1.1.1.1.0 in
+    let settles = c.requires.1.1.1.1.1.0 in
     let all = c.take_oldest.ensures in
     let is_true : c.take_oldest.result ≡ Ok true = c.in-Ok-true.is ∙ ap Ok c.in-Ok-true.field-0-test in
     let took : Took g.given old new c.args.files.now c.take_oldest.new.files c.args.paging.now c.take_oldest.new.paging e0 e1 = record {
@@ -38,7 +38,7 @@ returns-in_err-show-in-Ok-true-clause-stops g c = λ end is.
     let same : end ≡ c.in_err-show-in-Ok-true.field-0.0 = rw is at c.from_residual.ensures.1 in
     let show : c.show.result ≡ Err end = c.in_err-show-in-Ok-true.was ∙ ap Err (sym same) in
     held_stops c.args.report g.given settles.line settles.run old new (g.K.Sink.written c.show.new.out) c.take_oldest.new.files c.take_oldest.new.paging e1 end
-    c.requires.1.1.1.1.1.1.1.1 took.front took.grew done
+    c.requires.1.1.1.1.1.1 took.front took.grew done
     (λ failed. let told = c.show.ensures.failed g.given.running.start wrote (show ∙ ap Err failed) in (told.0, subst (λ z. WroteBeyond g.given.running.start (g.K.Sink.written c.show.new.out) (text z) (text new)) from told.1))
     (λ none. subst (λ z. Appends g.given.running.start (g.K.Sink.written c.show.new.out) (text_so_far c.args.report z)) from (c.show.ensures.memory g.given.running.start wrote (show ∙ ap Err none)))
     (c.show.ensures.ends end show)
@@ -49,7 +49,7 @@ returns-in_ok-show-in-Ok-true-clause-settles g c =
     let new = c.take_oldest.new.self.history.items in
     let e0 : FaultCounts = record { files = sum_count (g.F.Backing.faults c.args.files.now.inner) c.args.files.now.reached; paging = sum_count (g.P.Backing.faults c.args.paging.now.inner) c.args.paging.now.reached } in
     let e1 : FaultCounts = record { files = sum_count (g.F.Backing.faults c.take_oldest.new.files.inner) c.take_oldest.new.files.reached; paging = sum_count (g.P.Backing.faults c.take_oldest.new.paging.inner) c.take_oldest.new.paging.reached } in
-    let settles = c.requires.1.1.1.1.1.1.1.0 in
+    let settles = c.requires.1.1.1.1.1.0 in
     let all = c.take_oldest.ensures in
     let is_true : c.take_oldest.result ≡ Ok true = c.in-Ok-true.is ∙ ap Ok c.in-Ok-true.field-0-test in
     let took : Took g.given old new c.args.files.now c.take_oldest.new.files c.args.paging.now c.take_oldest.new.paging e0 e1 = record {
@@ -73,7 +73,7 @@ returns-in_ok-show-in-Ok-true-clause-more g c = λ yes.
     let new = c.take_oldest.new.self.history.items in
     let e0 : FaultCounts = record { files = sum_count (g.F.Backing.faults c.args.files.now.inner) c.args.files.now.reached; paging = sum_count (g.P.Backing.faults c.args.paging.now.inner) c.args.paging.now.reached } in
     let e1 : FaultCounts = record { files = sum_count (g.F.Backing.faults c.take_oldest.new.files.inner) c.take_oldest.new.files.reached; paging = sum_count (g.P.Backing.faults c.take_oldest.new.paging.inner) c.take_oldest.new.paging.reached } in
-    let settles = c.requires.1.1.1.1.1.1.1.0 in
+    let settles = c.requires.1.1.1.1.1.0 in
     let all = c.take_oldest.ensures in
     let is_true : c.take_oldest.result ≡ Ok true = c.in-Ok-true.is ∙ ap Ok c.in-Ok-true.field-0-test in
     let took : Took g.given old new c.args.files.now c.take_oldest.new.files c.args.paging.now c.take_oldest.new.paging e0 e1 = record {
@@ -94,7 +94,7 @@ returns-in_ok-show-in-Ok-true-clause-lines g c =
     let new = c.take_oldest.new.self.history.items in
     let e0 : FaultCounts = record { files = sum_count (g.F.Backing.faults c.args.files.now.inner) c.args.files.now.reached; paging = sum_count (g.P.Backing.faults c.args.paging.now.inner) c.args.paging.now.reached } in
     let e1 : FaultCounts = record { files = sum_count (g.F.Backing.faults c.take_oldest.new.files.inner) c.take_oldest.new.files.reached; paging = sum_count (g.P.Backing.faults c.take_oldest.new.paging.inner) c.take_oldest.new.paging.reached } in
-    let settles = c.requires.1.1.1.1.1.1.1.0 in
+    let settles = c.requires.1.1.1.1.1.0 in
     let all = c.take_oldest.ensures in
     let is_true : c.take_oldest.result ≡ Ok true = c.in-Ok-true.is ∙ ap Ok c.in-Ok-true.field-0-test in
     let took : Took g.given old new c.args.files.now c.take_oldest.new.files c.args.paging.now c.take_oldest.new.paging e0 e1 = record {
@@ -123,7 +123,7 @@ returns-in-Err-clause-stops g c = λ end is.
           let err : c.take_oldest.result ≡ Err c.in-Err.stop = c.in-Err.is in
           let both = all.full.0 (err ∙ ap Err full.0) in
           let kept = all.unchanged (err ∙ ap Err full.0) in
-          let was = take_full c.args.report g.given old written c.args.files.now c.args.paging.now e0 c.requires.1.1.1.1.1.1.1.0 c.requires.1.1.1.1.1.1.1.1 both.0 both.1 in
+          let was = take_full c.args.report g.given old written c.args.files.now c.args.paging.now e0 c.requires.1.1.1.1.1.0 c.requires.1.1.1.1.1.1 both.0 both.1 in
           stops_same c.args.report g.given old new written c.args.files.now c.take_oldest.new.files c.args.paging.now c.take_oldest.new.paging e0 e1 ends.EventLimit end
           (ap (λ z. z.history.items) kept.0) kept.1 kept.2
           (counts_same _ _ _ _ (ap (λ z. sum_count (g.F.Backing.faults z.inner) z.reached) kept.1) (ap (λ z. sum_count (g.P.Backing.faults z.inner) z.reached) kept.2)) full.1 was
@@ -132,10 +132,19 @@ returns-in-Err-clause-stops g c = λ end is.
           subst (RunStops c.args.report g.given.running new written c.take_oldest.new.files c.take_oldest.new.paging e1) (sym none.1)
           (let refused = all.refused (err ∙ ap Err none.0) in
           take_stops c.args.report g.given old new written c.args.files.now c.take_oldest.new.files c.args.paging.now c.take_oldest.new.paging e0 e1
-          c.requires.1.1.1.1.1.1.1.0 all.grew refused.1.0 refused.1.1.0 refused.1.1.1
+          c.requires.1.1.1.1.1.0 all.grew refused.1.0 refused.1.1.0 refused.1.1.1
           (of_both (λ who. DevicesHaveCause who (counted who e0) (counted who e1) old new) all.files_devices all.devices))
     ] in
     stop
 
 pub returns-in-Err-clause-cause : goal.returns-in-Err-clause-cause
 returns-in-Err-clause-cause g c = λ is. absurd (step_wrote c.in-Err.stop c.end_of.result c.end_of.ensures.full c.end_of.ensures.none (same_end is))
+
+pub returns-in_err-show-in-Ok-true-clause-backings : goal.returns-in_err-show-in-Ok-true-clause-backings
+returns-in_err-show-in-Ok-true-clause-backings g c = record { kept = c.take_oldest.ensures.kept; files_kept = c.take_oldest.ensures.files_kept; carried = c.take_oldest.ensures.carried (g.F.Backing.area g.given.running.files.inner) c.requires.1.1.1.1.0.carried }
+
+pub returns-in_ok-show-in-Ok-true-clause-backings : goal.returns-in_ok-show-in-Ok-true-clause-backings
+returns-in_ok-show-in-Ok-true-clause-backings g c = record { kept = c.take_oldest.ensures.kept; files_kept = c.take_oldest.ensures.files_kept; carried = c.take_oldest.ensures.carried (g.F.Backing.area g.given.running.files.inner) c.requires.1.1.1.1.0.carried }
+
+pub returns-in-Err-clause-backings : goal.returns-in-Err-clause-backings
+returns-in-Err-clause-backings g c = record { kept = c.take_oldest.ensures.kept; files_kept = c.take_oldest.ensures.files_kept; carried = c.take_oldest.ensures.carried (g.F.Backing.area g.given.running.files.inner) c.requires.1.1.1.1.0.carried }

@@ -24,4 +24,4 @@ pub returns-clause-losses : goal.returns-clause-losses
 returns-clause-losses g c = λ files paging.
     let ran = c.run_script-ran.ensures in
     let h = c.run_script-ran.result.history.items in
-    loses_unslotted c.args.report c.args.script _ h _ _ c.finish-status.result (c.finish-status.ensures.ends c.args.script _ _ ran.ran) (untold device.Files _ _ _ _ h ran.files_bounded files) (untold device.Paging _ _ _ _ h ran.bounded paging)
+    loses_unslotted c.args.report c.args.script _ h _ _ c.finish-status.result (c.finish-status.ensures.ends c.args.script _ _ ran.ran) (untold device.Files _ _ _ _ h ran.files.bounded files) (untold device.Paging _ _ _ _ h ran.paging.bounded paging)
