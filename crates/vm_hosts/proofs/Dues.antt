@@ -1,5 +1,5 @@
 -- What is still to be told on the hosts, and the room for it.
-use Rattle.vm_hosts.proofs.Common.{Bool, Breadth, CanServe, CanServeOn, HostTable, Ids, IsReady, IsReadyOn, List, None, On, Parts, ServeRoom, Some, Waiting, [], add-one, ap, arith, dues_of, false, free, front, full_dues, inl, inr, is_again, is_frame, length, marking, most, most_of, one, own_dues, refl, same_Some, set, slice_get, slice_get_within, subst, suc, sum_of_dues, sym, to_run, true, zero, ℕ, ◌+◌, ◌<◌, ◌==◌, ◌∙◌, ◌∷◌, ◌≡◌, ◌≤◌}
+use Rattle.vm_hosts.proofs.Common.{Bool, Breadth, CanServe, CanServeOn, HostTable, Ids, IsReady, IsReadyOn, List, None, On, Parts, ServeRoom, Some, Waiting, [], add-one, ap, arith, dues_of, false, free, front, full_dues, inl, inr, is_again, is_frame, length, making, most, most_of, one, own_dues, refl, same_Some, set, slice_get, slice_get_within, subst, suc, sum_of_dues, sym, to_run, true, zero, ℕ, ◌+◌, ◌<◌, ◌==◌, ◌∙◌, ◌∷◌, ◌≡◌, ◌≤◌}
 use Rattle.vm_kernel.specs.declared.breadth.Breadth.TheVariants as wide
 use Rattle.vm_waits.specs.declared.waiting.On.TheVariants as on
 use Rattle.vm_hosts.proofs.Tables.{put, set_cases}
@@ -25,32 +25,36 @@ run_few (w ∷ ws) =
     omega (arith, here, rest)
 
 -- they are few, beside what a step adds at most
-marks_front : (b : Breadth) (k : Parts) → marking b ≤ front b k
+marks_front : (b : Breadth) (k : Parts) → making b ≤ front b k
 marks_front wide.Few k = omega arith
 marks_front wide.Entries k = omega arith
 marks_front wide.Pages k = omega arith
 
-own_few : (b : Breadth) (k : Parts) (ids : Ids) → own_dues k + (ids.marks + marking b) ≤ most b k ids
-own_few b k ids =
+own_full : (k : Parts) (ids : Ids) → own_dues k + ids.marks ≤ full_dues k ids + 2
+own_full k ids =
     let run = run_few k.waits.rows in
     let full = one_most (free k.memory.frames == 0) in
+    omega (arith, run, full)
+
+own_few : (b : Breadth) (k : Parts) (ids : Ids) → own_dues k + (ids.marks + making b) ≤ most b k ids
+own_few b k ids =
+    let full = own_full k ids in
     let made = marks_front b k in
-    omega (arith, run, full, made)
+    omega (arith, full, made)
 
 -- behind what one host did in front, with few more marks
-pub serve_ready : (b : Breadth) (k : Parts) (ids next : Ids) → next.marks ≤ ids.marks + marking b → IsReadyOn b k ids → CanServeOn k next
+pub serve_ready : (b : Breadth) (k : Parts) (ids next : Ids) → next.marks ≤ ids.marks + making b → IsReadyOn b k ids → CanServeOn k next
 serve_ready b k ids next marks ready =
-    let few = own_few b k ids in
-    let made = marks_front b k in
+    let full = own_full k ids in
     let rows = ready.rows in
     let shadows = ready.shadows in
     let objects = ready.objects in
     let buffers = ready.buffers in
     let skip = ready.skip in
     record {
-      rows = omega (arith, few, rows, marks);
-      shadows = omega (arith, made, shadows, marks);
-      objects = omega (arith, made, objects, marks);
+      rows = omega (arith, full, rows, marks);
+      shadows = omega (arith, shadows, marks);
+      objects = omega (arith, objects, marks);
       buffers = omega (arith, buffers);
       skip = omega (arith, skip);
     }
@@ -90,7 +94,7 @@ sum_set (x ∷ ks) (suc h) k less =
 
 all_few : (b : Breadth) (ks : List Parts) (ids : Ids) → sum_of_dues ks ≤ most_of b ks ids
 all_few b [] ids = omega arith
-all_few b (k ∷ ks) ids = two_few (own_dues k) (ids.marks + marking b) (most b k ids) (sum_of_dues ks) (most_of b ks ids) (own_few b k ids) (all_few b ks ids)
+all_few b (k ∷ ks) ids = two_few (own_dues k) (ids.marks + making b) (most b k ids) (sum_of_dues ks) (most_of b ks ids) (own_few b k ids) (all_few b ks ids)
   where
     two_few : (a b c d e : ℕ) → a + b ≤ c → d ≤ e → a + d ≤ c + e
     two_few a b c d e one rest = omega (arith, one, rest)
@@ -100,14 +104,14 @@ others_few b [] h k ids at = absurd (let bad : None ≡ Some k = at in cc)
 others_few b (x ∷ ks) zero k ids at =
     let rest = all_few b ks ids in
     subst (λ (z : Parts). most b z ids + sum_of_dues ks ≤ most b x ids + most_of b ks ids) (same_Some x k at) (omega (arith, rest))
-others_few b (x ∷ ks) (suc h) k ids at = three_few (most b k ids) (own_dues x) (ids.marks + marking b) (other_dues h ks) (most b x ids) (most_of b ks ids) (own_few b x ids) (others_few b ks h k ids at)
+others_few b (x ∷ ks) (suc h) k ids at = three_few (most b k ids) (own_dues x) (ids.marks + making b) (other_dues h ks) (most b x ids) (most_of b ks ids) (own_few b x ids) (others_few b ks h k ids at)
   where
     three_few : (a b c d e f : ℕ) → b + c ≤ e → a + d ≤ f → a + (b + d) ≤ e + f
     three_few a b c d e f one rest = omega (arith, one, rest)
 
 marks_few : (b : Breadth) (ks : List Parts) (ids : Ids) → 0 < length ks → ids.marks + sum_of_dues ks ≤ most_of b ks ids
 marks_few b [] ids some = absurd (omega arith)
-marks_few b (k ∷ ks) ids some = sums_few ids.marks (marking b) (own_dues k) (most b k ids) (sum_of_dues ks) (most_of b ks ids) (own_few b k ids) (all_few b ks ids)
+marks_few b (k ∷ ks) ids some = sums_few ids.marks (making b) (own_dues k) (most b k ids) (sum_of_dues ks) (most_of b ks ids) (own_few b k ids) (all_few b ks ids)
   where
     sums_few : (a m c d e f : ℕ) → c + (a + m) ≤ d → e ≤ f → a + (c + e) ≤ d + f
     sums_few a m c d e f one rest = omega (arith, one, rest)
@@ -151,7 +155,7 @@ module _ (hosts : HostTable) (h : ℕ) (new k : Parts) (next : Ids) (at : slice_
       first : (a b : ℕ) → a + b ≤ space → a ≤ space
       first a b fits = omega (arith, fits)
 
-  pub acted_room : (b : Breadth) (events space left : ℕ) → IsReady b events hosts space → ServeRoom (other_dues h hosts.kernels) new next left → next.marks ≤ hosts.ids.marks + marking b → CanServe (put hosts h new next) left
+  pub acted_room : (b : Breadth) (events space left : ℕ) → IsReady b events hosts space → ServeRoom (other_dues h hosts.kernels) new next left → next.marks ≤ hosts.ids.marks + making b → CanServe (put hosts h new next) left
   acted_room b events space left ready room marks = record {
     each = λ g m found. elim (set_cases hosts.kernels h g new m within found) [
       | inl same ↦ subst (λ (z : Parts). CanServeOn z next) same.1 (serve_own (other_dues h hosts.kernels) new next left room)

@@ -1,20 +1,20 @@
 -- What the parts of a step spend in front of the accesses that are run, and what they leave for those.
-use Rattle.vm_kernel.proofs.Common.{Bool, Command, Err, Event, Header, Ids, List, Matches, ObjectTable, Ok, OnOk, On, PageKey, Parts, Result, WaitTable, Waiting, [], ap, arith, false, frame_count, if◌then◌else◌, length, one_again, one_frame, refl, returns_out, subst, suc, sym, true, zero, ℕ, ◌++◌, ◌+◌, ◌*◌, ◌<◌, ◌∙◌, ◌∷◌, ◌≡◌, ◌≤◌}
+use Rattle.vm_kernel.proofs.Common.{Bool, Command, Err, Event, Header, Ids, List, Matches, ObjectTable, Ok, OnOk, On, PageKey, Parts, Result, WaitTable, Waiting, [], ap, arith, false, frame_count, length, one_again, one_frame, refl, returns_out, subst, sym, true, ℕ, ◌++◌, ◌+◌, ◌*◌, ◌<◌, ◌∙◌, ◌∷◌, ◌≡◌, ◌≤◌}
 use Rattle.std.specs.Prelude.{IsOk, OnErr, vec_capacity}
 use Rattle.vm_base.specs.Listing.{Listed}
+use Rattle.vm_kernel.proofs.Departing.{roomy_fewer}
 use Rattle.vm_kernel.proofs.Holding.{room_once}
 use Rattle.vm_kernel.proofs.LiveControls.{live_known}
-use Rattle.vm_kernel.specs.Rooms.{Dies, HasBuffers, HasMore, HasRoom, IsSkipRoom, KeepsSkip, KeepsSpare, Spends, breadth_of, dues, front, full_dues, heeding, leaving, loose_frames, marking, one_if_full, to_run, waking, word_breadth}
+use Rattle.vm_kernel.specs.Rooms.{Dies, HasBuffers, HasMore, HasRoom, IsSkipRoom, KeepsSkip, KeepsSpare, Spends, breadth_of, dues, front, full_dues, heeding, leaving, loose_frames, making, one_if_full, to_run, waking, word_breadth}
 use Rattle.vm_kernel.specs.declared.breadth.Breadth.{Breadth}
 use Rattle.vm_kernel.specs.declared.breadth.Breadth.TheVariants as wide
 use Rattle.vm_model.specs.declared.message.Message.{Message}
 use Rattle.vm_model.specs.declared.message.Message.TheVariants as message
-use Rattle.vm_objects.specs.Objects.{object_at}
 use Rattle.vm_parts.specs.Listed.{listed_pages}
 use Rattle.vm_queues.specs.Queues.{EachOnce}
 use Rattle.vm_supply.specs.declared.woken.Woken.{Woken}
 use Rattle.vm_supply.specs.declared.woken.Woken.TheVariants as who
-use Rattle.vm_terminate.specs.Counts.{is_live_row, live_below}
+use Rattle.vm_terminate.specs.Counts.{live_below}
 use Rattle.vm_waits.specs.Waits.{one}
 use Rattle.vm_waits.specs.declared.waiting.On.TheVariants as on
 
@@ -84,29 +84,25 @@ leaving_few {header} {h} {k} {ids} {past} m once =
     by listed live frames known few fewer = omega (arith, few, fewer)
 
 -- room for some is room for fewer
-pub more_fewer : (a n more : ℕ) (k : Parts) (ids : Ids) (room : ℕ) → HasMore a more k ids room → n ≤ a → HasMore n more k ids room
-more_fewer a n more k ids room had fewer = record {
-  tables = record { log = omega (arith, had.tables.log, fewer); rows = omega (arith, had.tables.rows, fewer); shadows = omega (arith, had.tables.shadows, fewer); objects = omega (arith, had.tables.objects, fewer) };
+pub more_fewer : (a i n j more : ℕ) (k : Parts) (ids : Ids) (room : ℕ) → HasMore a i more k ids room → n ≤ a → j ≤ i → HasMore n j more k ids room
+more_fewer a i n j more k ids room had fewer less = record {
+  tables = roomy_fewer a i n j k ids room had.tables fewer less;
   log = omega (arith, had.log, fewer);
 }
 
 module _ (old new : Parts) (was now : Ids) (before after : Listed Event) where
   -- enough is left for the accesses
-  pub room_behind : (cost more : ℕ) → Spends cost 0 old was before new now after → HasMore cost more old was before.room → HasRoom more new now after.room
-  room_behind cost more is had = by (dues (to_run new.waits.rows) new.memory now.marks) (full_dues new now) (full_dues old was) (dues_full new now) is.room is.rows had.log had.tables.rows
-    where
-      by : (due full first : ℕ) → due ≤ full → before.room + (full + 0) ≤ after.room + (first + cost) → old.memory.resident.spare + (full + 0) ≤ new.memory.resident.spare + (first + cost) → first + (cost + more) ≤ before.room
-          → first + cost ≤ old.memory.resident.spare → HasRoom more new now after.room
-      by due full first few room rows log spare = record {
-        log = omega (arith, dues_full new now, is.room, had.log);
-        rows = omega (arith, dues_full new now, is.rows, had.tables.rows);
-        shadows = omega (arith, is.shadows, had.tables.shadows);
-        objects = omega (arith, is.objects, had.tables.objects);
-      }
+  pub room_behind : (cost makes more : ℕ) → Spends cost makes 0 old was before new now after → HasMore cost makes more old was before.room → HasRoom more new now after.room
+  room_behind cost makes more is had = record {
+    log = omega (arith, dues_full new now, is.room, had.log);
+    rows = omega (arith, dues_full new now, is.rows, had.tables.rows);
+    shadows = omega (arith, is.shadows, had.tables.shadows);
+    objects = omega (arith, is.objects, had.tables.objects);
+  }
 
   -- and no more was told than that
-  pub told_behind : (cost most : ℕ) → cost ≤ most → Spends cost 0 old was before new now after → length after.items + dues (to_run new.waits.rows) new.memory now.marks ≤ length before.items + (full_dues old was + most)
-  told_behind cost most few is = by (dues (to_run new.waits.rows) new.memory now.marks) (full_dues new now) (full_dues old was) (dues_full new now) is.told
+  pub told_behind : (cost makes most : ℕ) → cost ≤ most → Spends cost makes 0 old was before new now after → length after.items + dues (to_run new.waits.rows) new.memory now.marks ≤ length before.items + (full_dues old was + most)
+  told_behind cost makes most few is = by (dues (to_run new.waits.rows) new.memory now.marks) (full_dues new now) (full_dues old was) (dues_full new now) is.told
     where
       by : (due full first : ℕ) → due ≤ full → length after.items + (full + 0) ≤ length before.items + (first + cost) → length after.items + due ≤ length before.items + (first + most)
       by due full first fewer told = omega (arith, few, fewer, told)
@@ -116,37 +112,37 @@ abbrev pub Leaves : ℕ → Parts → Ids → ℕ → Type 0
 Leaves more k ids room = HasRoom more k ids room × ((0 < k.memory.buffers.count) × IsSkipRoom k)
 
 module _ {A B : Type 0} (r : Result A B) (old new : Parts) (was now : Ids) (before after : Listed Event) where
-  pub few_ok : (cost most : ℕ) → cost ≤ most → OnOk r (Spends cost 0 old was before new now after) → OnOk r (length after.items + dues (to_run new.waits.rows) new.memory now.marks ≤ length before.items + (full_dues old was + most))
-  few_ok cost most few spends = by r spends
+  pub few_ok : (cost makes most : ℕ) → cost ≤ most → OnOk r (Spends cost makes 0 old was before new now after) → OnOk r (length after.items + dues (to_run new.waits.rows) new.memory now.marks ≤ length before.items + (full_dues old was + most))
+  few_ok cost makes most few spends = by r spends
     where
-      by : (r : Result A B) → OnOk r (Spends cost 0 old was before new now after) → OnOk r (length after.items + dues (to_run new.waits.rows) new.memory now.marks ≤ length before.items + (full_dues old was + most))
-      by (Ok x) is = told_behind old new was now before after cost most few is
+      by : (r : Result A B) → OnOk r (Spends cost makes 0 old was before new now after) → OnOk r (length after.items + dues (to_run new.waits.rows) new.memory now.marks ≤ length before.items + (full_dues old was + most))
+      by (Ok x) is = told_behind old new was now before after cost makes most few is
       by (Err e) is = tt
 
   -- a command that keeps its buffers
-  pub kept_ok : (cost most more : ℕ) → cost ≤ most → OnOk r (Spends cost 0 old was before new now after) → OnOk r (KeepsSpare old new) → HasMore most more old was before.room → HasBuffers old → IsSkipRoom old → OnOk r (Leaves more new now after.room)
-  kept_ok cost most more few spends kept had has skip = by r spends kept
+  pub kept_ok : (cost makes most all more : ℕ) → cost ≤ most → makes ≤ all → OnOk r (Spends cost makes 0 old was before new now after) → OnOk r (KeepsSpare old new) → HasMore most all more old was before.room → HasBuffers old → IsSkipRoom old → OnOk r (Leaves more new now after.room)
+  kept_ok cost makes most all more few less spends kept had has skip = by r spends kept
     where
-      by : (r : Result A B) → OnOk r (Spends cost 0 old was before new now after) → OnOk r (KeepsSpare old new) → OnOk r (Leaves more new now after.room)
+      by : (r : Result A B) → OnOk r (Spends cost makes 0 old was before new now after) → OnOk r (KeepsSpare old new) → OnOk r (Leaves more new now after.room)
       by (Ok x) is keeps =
           let buffers = ap (λ z. z.count) keeps.buffers in
           let list = ap vec_capacity keeps.skip in
-          (room_behind old new was now before after cost more is (more_fewer most cost more old was before.room had few), (omega (arith, buffers, has), omega (arith, list, keeps.fewer, skip)))
+          (room_behind old new was now before after cost makes more is (more_fewer most all cost makes more old was before.room had few less), (omega (arith, buffers, has), omega (arith, list, keeps.fewer, skip)))
       by (Err e) is keeps = tt
 
   -- one that ends what it can
-  pub ended_ok : (cost most more : ℕ) → cost ≤ most → OnOk r (Spends cost 0 old was before new now after) → OnOk r (HasBuffers old → HasBuffers new) → OnOk r (KeepsSkip old new) → HasMore most more old was before.room → HasBuffers old → IsSkipRoom old → OnOk r (Leaves more new now after.room)
-  ended_ok cost most more few spends buffers kept had has skip = by r spends buffers kept
+  pub ended_ok : (cost most all more : ℕ) → cost ≤ most → OnOk r (Spends cost 0 0 old was before new now after) → OnOk r (HasBuffers old → HasBuffers new) → OnOk r (KeepsSkip old new) → HasMore most all more old was before.room → HasBuffers old → IsSkipRoom old → OnOk r (Leaves more new now after.room)
+  ended_ok cost most all more few spends buffers kept had has skip = by r spends buffers kept
     where
-      by : (r : Result A B) → OnOk r (Spends cost 0 old was before new now after) → OnOk r (HasBuffers old → HasBuffers new) → OnOk r (KeepsSkip old new) → OnOk r (Leaves more new now after.room)
+      by : (r : Result A B) → OnOk r (Spends cost 0 0 old was before new now after) → OnOk r (HasBuffers old → HasBuffers new) → OnOk r (KeepsSkip old new) → OnOk r (Leaves more new now after.room)
       by (Ok x) is leaves keeps =
           let list = ap vec_capacity keeps.skip in
           let left = leaves has in
-          (room_behind old new was now before after cost more is (more_fewer most cost more old was before.room had few), (omega (arith, left), omega (arith, list, keeps.fewer, skip)))
+          (room_behind old new was now before after cost 0 more is (more_fewer most all cost 0 more old was before.room had few (omega arith)), (omega (arith, left), omega (arith, list, keeps.fewer, skip)))
       by (Err e) is leaves keeps = tt
 
 -- an access that begins tells one event, and runs once
-pub begun_spends : (k : Parts) (ids : Ids) (waits : WaitTable) (before after : Listed Event) (e : Event) → length waits.rows ≡ length k.waits.rows + 1 → after.items ≡ e ∷ before.items → before.room ≤ after.room + 1 → Spends 4 0 k ids before (record k { waits = waits }) ids after
+pub begun_spends : (k : Parts) (ids : Ids) (waits : WaitTable) (before after : Listed Event) (e : Event) → length waits.rows ≡ length k.waits.rows + 1 → after.items ≡ e ∷ before.items → before.room ≤ after.room + 1 → Spends 4 4 0 k ids before (record k { waits = waits }) ids after
 begun_spends k ids waits before after e more told room =
     let one : length after.items ≡ length before.items + 1 = rw told (omega arith) in
     record { told = omega (arith, one, more); room = omega (arith, room, more); rows = omega (arith, more); shadows = omega arith; objects = omega arith; marks = omega arith }
@@ -170,8 +166,8 @@ up_to_front k ids told n most few = omega (arith, few)
 pub few_in : (command doing : Command) (k : Parts) (n : ℕ) → command ≡ doing → n ≤ front (breadth_of doing) k → n ≤ front (breadth_of command) k
 few_in command doing k n is few = subst (λ (z : Command). n ≤ front (breadth_of z) k) (sym is) few
 
-pub marks_in : (command doing : Command) (n : ℕ) → command ≡ doing → n ≤ marking (breadth_of doing) → n ≤ marking (breadth_of command)
-marks_in command doing n is few = subst (λ (z : Command). n ≤ marking (breadth_of z)) (sym is) few
+pub marks_in : (command doing : Command) (n : ℕ) → command ≡ doing → n ≤ making (breadth_of doing) → n ≤ making (breadth_of command)
+marks_in command doing n is few = subst (λ (z : Command). n ≤ making (breadth_of z)) (sym is) few
 
 pub on_err : {A B : Type 0} (r : Result A B) (P Q : Type 0) → (P → Q) → OnErr r P → OnErr r Q
 on_err (Ok x) P Q f p = tt
@@ -227,13 +223,3 @@ word_costs m (who.Fails key) k mid ids few dies =
     by : (told listed there live frames known : ℕ) → told ≤ listed + 1 → there ≡ listed → live ≤ known → listed ≤ frames → told + (there + live) ≤ 2 * frames + known + 1
     by told listed there live frames known first same fewer few = omega (arith, first, same, fewer, few)
 word_costs m other k mid ids few dies = let told = word_few m k few in omega (arith, told)
-
-pub word_spends : (a n : ℕ) (k mid : Parts) (ids : Ids) (before after : Listed Event) → Spends a 0 k ids before mid ids after → Spends (a + n) n k ids before mid ids after
-word_spends a n k mid ids before after is = record {
-  told = omega (arith, is.told);
-  room = omega (arith, is.room);
-  rows = omega (arith, is.rows);
-  shadows = omega (arith, is.shadows);
-  objects = omega (arith, is.objects);
-  marks = omega (arith, is.marks);
-}

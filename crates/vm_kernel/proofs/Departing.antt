@@ -15,18 +15,11 @@ use Rattle.vm_waits.specs.Waits.{WaitTable}
 
 module _ (old new : Parts) (was now : Ids) (before after : Listed Event) where
   -- what is left is less
-  pub spends_less : (a b n : ℕ) → Spends a b old was before new now after → n ≤ b → Spends a n old was before new now after
-  spends_less a b n is less = record {
-    told = omega (arith, is.told, less);
-    room = omega (arith, is.room, less);
-    rows = omega (arith, is.rows, less);
-    shadows = omega (arith, is.shadows, less);
-    objects = omega (arith, is.objects, less);
-    marks = omega (arith, is.marks, less);
-  }
+  pub spends_less : (a b n : ℕ) → Spends a 0 b old was before new now after → n ≤ b → Spends a 0 n old was before new now after
+  spends_less a b n is less = record { told = omega (arith, is.told, less); room = omega (arith, is.room, less); rows = is.rows; shadows = is.shadows; objects = is.objects; marks = is.marks }
 
   -- there is room behind a call for what is left
-  pub roomy_on : (a b : ℕ) → Spends a b old was before new now after → IsRoomy a old was before.room → IsRoomy b new now after.room
+  pub roomy_on : (a b : ℕ) → Spends a 0 b old was before new now after → IsRoomy a 0 old was before.room → IsRoomy b 0 new now after.room
   roomy_on a b is had = record {
     log = omega (arith, is.room, had.log);
     rows = omega (arith, is.rows, had.rows);
@@ -34,22 +27,14 @@ module _ (old new : Parts) (was now : Ids) (before after : Listed Event) where
     objects = omega (arith, is.objects, had.objects);
   }
 
-module _ (old new : Parts) (was now : Ids) (before after : Listed Event) where
   -- or with more in hand
-  pub spends_hand : (a b n : ℕ) → Spends a b old was before new now after → a ≤ n → Spends n b old was before new now after
-  spends_hand a b n is more = record {
-    told = omega (arith, is.told, more);
-    room = omega (arith, is.room, more);
-    rows = omega (arith, is.rows, more);
-    shadows = omega (arith, is.shadows, more);
-    objects = omega (arith, is.objects, more);
-    marks = omega (arith, is.marks, more);
-  }
+  pub spends_hand : (a b n : ℕ) → Spends a 0 b old was before new now after → a ≤ n → Spends n 0 b old was before new now after
+  spends_hand a b n is more = record { told = omega (arith, is.told, more); room = omega (arith, is.room, more); rows = is.rows; shadows = is.shadows; objects = is.objects; marks = is.marks }
 
 -- room for some is room for fewer
-pub roomy_fewer : (a n : ℕ) (k : Parts) (ids : Ids) (room : ℕ) → IsRoomy a k ids room → n ≤ a → IsRoomy n k ids room
-roomy_fewer a n k ids room had fewer =
-    record { log = omega (arith, had.log, fewer); rows = omega (arith, had.rows, fewer); shadows = omega (arith, had.shadows, fewer); objects = omega (arith, had.objects, fewer) }
+pub roomy_fewer : (a i n j : ℕ) (k : Parts) (ids : Ids) (room : ℕ) → IsRoomy a i k ids room → n ≤ a → j ≤ i → IsRoomy n j k ids room
+roomy_fewer a i n j k ids room had fewer less =
+    record { log = omega (arith, had.log, fewer); rows = omega (arith, had.rows, less); shadows = omega (arith, had.shadows, less); objects = omega (arith, had.objects, less) }
 
 -- each object that ends is one of those made
 pub object_made : (header : Header) (h : ℕ) (past : List Event) (who : Woken) (k : Parts) (ids : Ids) (rest : List Entry) (object : ℕ) → EndsObject header h who k ids rest object past → object < ids.next_object
@@ -98,7 +83,7 @@ buffers_left header h k ids gone past object n memory chains laundry before afte
 pub ended_spends : (header : Header) (h : ℕ) (past : List Event) (who : Woken) (k : Parts) (ids : Ids) (rest : List Entry) (memory : HostParts) (chains : ChainTable) (laundry : LaundryList) (before after : Listed Event)
     → Matches header h k ids rest (before.items ++ past) → IsWhole header h who (record k { memory = memory; chains = chains; laundry = laundry }) ids rest (after.items ++ past) → UsesRoom ids.next_object k.memory memory k.chains chains before.room after.room
     → length after.items + (listed_pages memory.queues + live_below memory.objects ids.next_object) ≤ length before.items + (listed_pages k.memory.queues + live_below k.memory.objects ids.next_object)
-    → Spends (leaving k ids) (leaving (record k { memory = memory; chains = chains; laundry = laundry }) ids) k ids before (record k { memory = memory; chains = chains; laundry = laundry }) ids after
+    → Spends (leaving k ids) 0 (leaving (record k { memory = memory; chains = chains; laundry = laundry }) ids) k ids before (record k { memory = memory; chains = chains; laundry = laundry }) ids after
 ended_spends header h past who k ids rest memory chains laundry before after m whole uses told =
     let frames = frames_kept header h k (record k { memory = memory; chains = chains; laundry = laundry }) ids ids rest rest (before.items ++ past) (after.items ++ past) m whole.runs.matches in
     record {
@@ -117,7 +102,7 @@ premised_ok (Err e) P E Q T f p q = tt
 
 -- a region goes, and its top has a reference less: nothing is spent
 pub region_spends : (k : Parts) (ids : Ids) (r left : ℕ) (object : ObjectId) (chains : ChainTable) (objects : ObjectTable) (log : Listed Event) → LosesRegion k r left object chains objects → k.chains.spare ≤ chains.spare → SameRooms k.memory.objects objects
-    → Spends (leaving k ids) (leaving (record k { memory = record k.memory { objects = objects }; chains = chains }) ids) k ids log (record k { memory = record k.memory { objects = objects }; chains = chains }) ids log
+    → Spends (leaving k ids) 0 (leaving (record k { memory = record k.memory { objects = objects }; chains = chains }) ids) k ids log (record k { memory = record k.memory { objects = objects }; chains = chains }) ids log
 region_spends k ids r left object chains objects log loses spare rooms =
     let live = same_put k.memory.objects objects loses.row.top.0 loses.was (record (loses.was) { references = left }) loses.known loses.put refl ids.next_object in
     let rows = rooms.rows in
@@ -131,30 +116,30 @@ region_spends k ids r left object chains objects log loses spare rooms =
     }
 
 -- a region's count of entries costs nothing
-pub count_spends : (k : Parts) (ids : Ids) (chains : ChainTable) (log : Listed Event) → chains.spare ≡ k.chains.spare → Spends (leaving k ids) (leaving k ids) k ids log (record k { chains = chains }) ids log
+pub count_spends : (k : Parts) (ids : Ids) (chains : ChainTable) (log : Listed Event) → chains.spare ≡ k.chains.spare → Spends (leaving k ids) 0 (leaving k ids) k ids log (record k { chains = chains }) ids log
 count_spends k ids chains log spare = record { told = omega arith; room = omega arith; rows = omega arith; shadows = omega (arith, spare); objects = omega arith; marks = omega (arith, spare) }
 
 -- the end of a task takes its event
-pub exit_spends : (k : Parts) (ids : Ids) (maps : Mapped) (before after : Listed Event) (e : Event) → after.items ≡ e ∷ before.items → before.room ≤ after.room + 1 → Spends (1 + leaving k ids) (leaving k ids) k ids before (record k { maps = maps }) ids after
+pub exit_spends : (k : Parts) (ids : Ids) (maps : Mapped) (before after : Listed Event) (e : Event) → after.items ≡ e ∷ before.items → before.room ≤ after.room + 1 → Spends (1 + leaving k ids) 0 (leaving k ids) k ids before (record k { maps = maps }) ids after
 exit_spends k ids maps before after e told room =
     let one : length after.items ≡ length before.items + 1 = rw told (omega arith) in
     record { told = omega (arith, one); room = omega (arith, room); rows = omega arith; shadows = omega arith; objects = omega arith; marks = omega arith }
 
 -- an access that fails takes its event, and leaves its row
 pub failed_spends : (k : Parts) (ids : Ids) (waits : WaitTable) (before after : Listed Event) (e : Event) → length waits.rows + 1 ≡ length k.waits.rows → after.items ≡ e ∷ before.items → before.room ≤ after.room + 1
-    → Spends (leaving k ids) (leaving k ids) k ids before (record k { waits = waits }) ids after
+    → Spends (leaving k ids) 0 (leaving k ids) k ids before (record k { waits = waits }) ids after
 failed_spends k ids waits before after e less told room =
     let one : length after.items ≡ length before.items + 1 = rw told (omega arith) in
     record { told = omega (arith, one, less); room = omega (arith, room, less); rows = omega (arith, less); shadows = omega arith; objects = omega arith; marks = omega arith }
 
 -- those that are woken wait in as many rows
-pub woken_spends : (n : ℕ) (k : Parts) (ids : Ids) (waits : WaitTable) (log : Listed Event) → length waits.rows ≡ length k.waits.rows → Spends n 0 k ids log (record k { waits = waits }) ids log
+pub woken_spends : (n : ℕ) (k : Parts) (ids : Ids) (waits : WaitTable) (log : Listed Event) → length waits.rows ≡ length k.waits.rows → Spends n 0 0 k ids log (record k { waits = waits }) ids log
 woken_spends n k ids waits log same = record { told = omega (arith, same); room = omega (arith, same); rows = omega (arith, same); shadows = omega arith; objects = omega arith; marks = omega arith }
 
 -- a lock request that is obeyed takes an event for each page that is here, and one for the reply
 pub obeyed_spends : (header : Header) (h : ℕ) (past past2 : List Event) (k : Parts) (ids : Ids) (memory : HostParts) (laundry : LaundryList) (waits : WaitTable) (before after : Listed Event) → Matches header h k ids [] past
     → Matches header h (record k { memory = memory; laundry = laundry; waits = waits }) ids [] past2 → LeavesRoom k.memory memory before.room after.room → length after.items ≤ length before.items + listed_pages k.memory.queues + 1 → length waits.rows ≡ length k.waits.rows
-    → Spends (listed_pages k.memory.queues + 1) 0 k ids before (record k { memory = memory; laundry = laundry; waits = waits }) ids after
+    → Spends (listed_pages k.memory.queues + 1) 0 0 k ids before (record k { memory = memory; laundry = laundry; waits = waits }) ids after
 obeyed_spends header h past past2 k ids memory laundry waits before after m n leaves told same =
     let frames = frames_kept header h k (record k { memory = memory; laundry = laundry; waits = waits }) ids ids [] [] past past2 m n in
     record {
@@ -177,7 +162,7 @@ brought_few (e ∷ other ∷ more) brought = absurd (two e brought)
     two another brought = brought
 
 pub heard_spends : (header : Header) (h : ℕ) (past past2 : List Event) (k : Parts) (ids : Ids) (memory : HostParts) (before after : Listed Event) → Matches header h k ids [] past → Matches header h (record k { memory = memory }) ids [] past2 → IsBrought after.items → before.room ≤ after.room + 1
-    → k.memory.resident.spare ≤ memory.resident.spare → k.memory.objects.rows ≤ memory.objects.rows → Spends 1 0 k ids before (record k { memory = memory }) ids after
+    → k.memory.resident.spare ≤ memory.resident.spare → k.memory.objects.rows ≤ memory.objects.rows → Spends 1 0 0 k ids before (record k { memory = memory }) ids after
 heard_spends header h past past2 k ids memory before after m n brought room rows objects =
     let frames = frames_kept header h k (record k { memory = memory }) ids ids [] [] past past2 m n in
     let few = brought_few after.items brought in

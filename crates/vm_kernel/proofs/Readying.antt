@@ -3,10 +3,10 @@ use Rattle.vm_kernel.proofs.Common.{Err, Event, Header, List, Ok, OnOk, Parts, R
 use Rattle.vm_kernel.proofs.Roomier.{rests_roomier}
 use Rattle.vm_kernel.specs.declared.breadth.Breadth.{Breadth}
 use Rattle.vm_kernel.specs.declared.breadth.Breadth.TheVariants as wide
-use Rattle.vm_kernel.specs.Rooms.{HasMore, IsReady, front, most, returning, rooms_of, with_buffers, with_rooms_of}
+use Rattle.vm_kernel.specs.Rooms.{HasMore, IsReady, front, making, most, returning, rooms_of, with_buffers, with_rooms_of}
 use Rattle.vm_model.specs.declared.command.Command.{Command}
 use Rattle.vm_shadow.specs.declared.ids.Ids.{Ids}
-use Rattle.std.specs.Prelude.{OnErr, vec_capacity}
+use Rattle.std.specs.Prelude.{vec_capacity}
 
 -- as much may be told in front where there are as many frames and objects
 pub front_same : (breadth : Breadth) (k new : Parts) → frame_count new.memory.frames ≡ frame_count k.memory.frames → length new.memory.objects.entries ≡ length k.memory.objects.entries → front breadth new ≡ front breadth k
@@ -27,8 +27,6 @@ module _ (breadth : Breadth) (k new : Parts) (ids : Ids) (is : new ≡ record k 
 
   pub ready_washed : IsReady breadth k ids → IsReady breadth new ids
   ready_washed was =
-      let same = most_washed in
-      let first = front_washed in
       let spare = ap (λ (z : Parts). z.memory.resident.spare) is in
       let shadows = ap (λ (z : Parts). z.chains.spare) is in
       let objects = ap (λ (z : Parts). z.memory.objects.rows) is in
@@ -39,9 +37,9 @@ module _ (breadth : Breadth) (k new : Parts) (ids : Ids) (is : new ≡ record k 
       let rows = ap (λ (z : Parts). length z.waits.rows) is in
       let capacity = ap (λ (z : Parts). vec_capacity z.skip) is in
       record {
-        rows = omega (arith, was.rows, same, spare);
-        shadows = omega (arith, was.shadows, first, shadows);
-        objects = omega (arith, was.objects, first, objects);
+        rows = omega (arith, was.rows, rows, frames, spare);
+        shadows = omega (arith, was.shadows, shadows);
+        objects = omega (arith, was.objects, objects);
         mark = omega (arith, was.mark, marks);
         access = omega (arith, was.access, room);
         buffers = omega (arith, was.buffers, here, count);
@@ -71,25 +69,16 @@ module _ (k : Parts) (count : ℕ) where
 
   pub ready_buffers : (breadth : Breadth) (ids : Ids) → k.memory.buffers.count ≤ count → IsReady breadth k ids → IsReady breadth (with_buffers count k) ids
   ready_buffers breadth ids more was =
-      let first = front_buffers breadth in
-      record {
-        rows = omega (arith, was.rows, first);
-        shadows = omega (arith, was.shadows, first);
-        objects = omega (arith, was.objects, first);
-        mark = was.mark;
-        access = was.access;
-        buffers = omega (arith, was.buffers, more);
-        skip = was.skip;
-      }
+      record { rows = was.rows; shadows = was.shadows; objects = was.objects; mark = was.mark; access = was.access; buffers = omega (arith, was.buffers, more); skip = was.skip }
 
 -- there is room for what comes first, and for so many events more
-pub ready_more : (breadth : Breadth) (k : Parts) (ids : Ids) (room more : ℕ) → IsReady breadth k ids → most breadth k ids + more ≤ room → HasMore (front breadth k) (more + 2) k ids room
+pub ready_more : (breadth : Breadth) (k : Parts) (ids : Ids) (room more : ℕ) → IsReady breadth k ids → most breadth k ids + more ≤ room → HasMore (front breadth k) (making breadth) (more + 2) k ids room
 ready_more breadth k ids room more ready log = record {
   tables = record {
     log = omega (arith, log);
-    rows = omega (arith, ready.rows);
-    shadows = omega (arith, ready.shadows);
-    objects = omega (arith, ready.objects);
+    rows = ready.rows;
+    shadows = ready.shadows;
+    objects = ready.objects;
   };
   log = omega (arith, log);
 }
@@ -97,10 +86,6 @@ ready_more breadth k ids room more ready log = record {
 -- one kernel with more buffers than another has its rooms, and is else as it was
 pub buffers_rooms : (k new : Parts) (count : ℕ) → new ≡ with_buffers count k → new ≡ with_rooms_of new k
 buffers_rooms k new count is = subst (λ (z : Parts). z ≡ with_rooms_of z k) (sym is) refl
-
-pub on_err : {A B : Type 0} (r : Result A B) (P Q : Type 0) → (P → Q) → OnErr r P → OnErr r Q
-on_err (Ok x) P Q f p = tt
-on_err (Err e) P Q f p = f p
 
 pub always : {A B : Type 0} (r : Result A B) (P : Type 0) → P → OnOk r P
 always (Ok x) P p = p

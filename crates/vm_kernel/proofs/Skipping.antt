@@ -299,7 +299,7 @@ all_reclaimed answer done first k k2 begun log log2 was leaves nothing waits fra
     }
 
 -- so that is what a pageout spends
-pub reclaimed_spends : (done : ℕ) (k k2 : Parts) (ids : Ids) (before after : Listed Event) → Reclaimed done k k2 before after → Spends (2 * listed_pages k.memory.queues) 0 k ids before k2 ids after
+pub reclaimed_spends : (done : ℕ) (k k2 : Parts) (ids : Ids) (before after : Listed Event) → Reclaimed done k k2 before after → Spends (2 * listed_pages k.memory.queues) 0 0 k ids before k2 ids after
 reclaimed_spends done k k2 ids before after was =
     let accesses = was.accesses in
     let frames = was.frames in
@@ -325,7 +325,7 @@ reclaimed_spare done count k k2 before after was most enough =
     omega (arith, each, listed, most, enough)
 
 -- and there is room to reclaim one more, if there is one
-pub reclaimed_room : (done : ℕ) (k k2 : Parts) (ids : Ids) (before after : Listed Event) → Reclaimed done k k2 before after → IsRoomy (2 * listed_pages k.memory.queues) k ids before.room → 0 < listed_pages k2.memory.queues → 2 ≤ after.room
+pub reclaimed_room : (done : ℕ) (k k2 : Parts) (ids : Ids) (before after : Listed Event) → Reclaimed done k k2 before after → IsRoomy (2 * listed_pages k.memory.queues) 0 k ids before.room → 0 < listed_pages k2.memory.queues → 2 ≤ after.room
 reclaimed_room done k k2 ids before after was roomy some =
     let room = was.room in
     let log = roomy.log in

@@ -6,14 +6,15 @@ use Rattle.vm_kernel.specs.Rooms.{IsRoomy, Spends, leaving}
 use Rattle.vm_shadow.specs.declared.ids.Ids.{Ids}
 
 module _ (old : Parts) (was : Ids) (before : Listed Event) where
-  pub spends_none : (n : ℕ) → Spends n n old was before old was before
+  pub spends_none : (n : ℕ) → Spends n 0 n old was before old was before
   spends_none n = record { told = omega arith; room = omega arith; rows = omega arith; shadows = omega arith; objects = omega arith; marks = omega arith }
 
-  pub spends_nothing : (n : ℕ) → Spends n 0 old was before old was before
-  spends_nothing n = record { told = omega arith; room = omega arith; rows = omega arith; shadows = omega arith; objects = omega arith; marks = omega arith }
+  pub spends_nothing : (n m : ℕ) → Spends n m 0 old was before old was before
+  spends_nothing n m = record { told = omega arith; room = omega arith; rows = omega arith; shadows = omega arith; objects = omega arith; marks = omega arith }
 
 module _ (old mid new : Parts) (was later now : Ids) (before between after : Listed Event) where
-  pub spends_both : (a b c : ℕ) → Spends a b old was before mid later between → Spends b c mid later between new now after → Spends a c old was before new now after
+  -- two calls that make nothing
+  pub spends_both : (a b c : ℕ) → Spends a 0 b old was before mid later between → Spends b 0 c mid later between new now after → Spends a 0 c old was before new now after
   spends_both a b c first next = record {
     told = omega (arith, first.told, next.told);
     room = omega (arith, first.room, next.room);
@@ -24,7 +25,7 @@ module _ (old mid new : Parts) (was later now : Ids) (before between after : Lis
   }
 
   -- one entry more of a fork
-  pub spends_next : (i : ℕ) → Spends (1 + 4 * i) 0 old was before mid later between → Spends 4 0 mid later between new now after → Spends (1 + 4 * (i + 1)) 0 old was before new now after
+  pub spends_next : (i : ℕ) → Spends (1 + 4 * i) (1 + 4 * i) 0 old was before mid later between → Spends 4 4 0 mid later between new now after → Spends (1 + 4 * (i + 1)) (1 + 4 * (i + 1)) 0 old was before new now after
   spends_next i first next = record {
     told = omega (arith, first.told, next.told);
     room = omega (arith, first.room, next.room);
@@ -36,19 +37,19 @@ module _ (old mid new : Parts) (was later now : Ids) (before between after : Lis
 
 module _ (old new : Parts) (was now : Ids) (before after : Listed Event) where
   -- with so much more in hand so much more is left
-  pub spends_more : (a b n : ℕ) → Spends a b old was before new now after → Spends (a + n) (b + n) old was before new now after
-  spends_more a b n is = record {
+  pub spends_more : (a m n : ℕ) → Spends a m 0 old was before new now after → Spends (a + n) m n old was before new now after
+  spends_more a m n is = record {
     told = omega (arith, is.told);
     room = omega (arith, is.room);
-    rows = omega (arith, is.rows);
-    shadows = omega (arith, is.shadows);
-    objects = omega (arith, is.objects);
-    marks = omega (arith, is.marks);
+    rows = is.rows;
+    shadows = is.shadows;
+    objects = is.objects;
+    marks = is.marks;
   }
 
-  -- and less may be spent than was in hand
-  pub spends_less : (a b n : ℕ) → Spends a b old was before new now after → Spends (a + n) b old was before new now after
-  spends_less a b n is = record {
+  -- less may be spent than was in hand
+  pub spends_within : (a m b n : ℕ) → Spends a m b old was before new now after → Spends (a + n) (m + n) b old was before new now after
+  spends_within a m b n is = record {
     told = omega (arith, is.told);
     room = omega (arith, is.room);
     rows = omega (arith, is.rows);
@@ -58,8 +59,7 @@ module _ (old new : Parts) (was now : Ids) (before after : Listed Event) where
   }
 
   -- a task has 256 entries at most
-
-  pub spends_all : (i : ℕ) → i ≤ 256 → Spends (1 + 4 * i) 0 old was before new now after → Spends 1025 0 old was before new now after
+  pub spends_all : (i : ℕ) → i ≤ 256 → Spends (1 + 4 * i) (1 + 4 * i) 0 old was before new now after → Spends 1025 1025 0 old was before new now after
   spends_all i few is = record {
     told = omega (arith, is.told);
     room = omega (arith, is.room);
@@ -69,16 +69,8 @@ module _ (old new : Parts) (was now : Ids) (before after : Listed Event) where
     marks = omega (arith, is.marks);
   }
 
-  pub roomy_next : (i : ℕ) → i < 256 → Spends (1 + 4 * i) 0 old was before new now after → IsRoomy 1025 old was before.room → IsRoomy 4 new now after.room
+  pub roomy_next : (i : ℕ) → i < 256 → Spends (1 + 4 * i) (1 + 4 * i) 0 old was before new now after → IsRoomy 1025 1025 old was before.room → IsRoomy 4 4 new now after.room
   roomy_next i few is had = record {
-    log = omega (arith, is.room, had.log);
-    rows = omega (arith, is.rows, had.rows);
-    shadows = omega (arith, is.shadows, had.shadows);
-    objects = omega (arith, is.objects, had.objects);
-  }
-
-  pub roomy_after : (a b n : ℕ) → Spends a b old was before new now after → IsRoomy (a + n) old was before.room → IsRoomy (b + n) new now after.room
-  roomy_after a b n is had = record {
     log = omega (arith, is.room, had.log);
     rows = omega (arith, is.rows, had.rows);
     shadows = omega (arith, is.shadows, had.shadows);
@@ -106,7 +98,7 @@ marks_copied (Some copied) row old new found has = by_mark copied.marked (ap (λ
 
 -- a change of entries takes its event
 pub removed_spends : (k : Parts) (ids : Ids) (maps : Mapped) (chains : ChainTable) (before after : Listed Event) (e : Event) → chains.spare ≡ k.chains.spare → after.items ≡ e ∷ before.items → before.room ≤ after.room + 1
-    → Spends (1 + leaving k ids) (leaving k ids) k ids before (record k { maps = maps; chains = chains }) ids after
+    → Spends (1 + leaving k ids) 0 (leaving k ids) k ids before (record k { maps = maps; chains = chains }) ids after
 removed_spends k ids maps chains before after e spare told room =
     let one : length after.items ≡ length before.items + 1 = rw told (omega arith) in
     record { told = omega (arith, one); room = omega (arith, room); rows = omega arith; shadows = omega (arith, spare); objects = omega arith; marks = omega arith }

@@ -71,22 +71,22 @@ pub record HasRoom (more : ℕ) (k : Parts) (ids : Ids) (room : ℕ) : Type 0 wh
 abbrev pub full_dues : Parts → Ids → ℕ
 full_dues k ids = 3 * length k.waits.rows + ids.marks + 2 * frame_count k.memory.frames + 1
 
--- there is room for that, and for so many events more
-pub record IsRoomy (more : ℕ) (k : Parts) (ids : Ids) (room : ℕ) : Type 0 where
+-- there is room for that, for so many events more, and in each table for so many rows more
+pub record IsRoomy (more rows_more : ℕ) (k : Parts) (ids : Ids) (room : ℕ) : Type 0 where
   pub log : full_dues k ids + more ≤ room
-  pub rows : full_dues k ids + more ≤ k.memory.resident.spare
-  pub shadows : ids.marks + more ≤ k.chains.spare
-  pub objects : ids.marks + more ≤ k.memory.objects.rows
+  pub rows : full_dues k ids + rows_more ≤ k.memory.resident.spare
+  pub shadows : ids.marks + rows_more ≤ k.chains.spare
+  pub objects : ids.marks + rows_more ≤ k.memory.objects.rows
 
--- What a call in front of the accesses that are run has told and taken, where it had so much in hand and has so much left: no more events than it had in hand, and no
--- more rows, shadows, objects and marks.
-pub record Spends (hand left : ℕ) (old : Parts) (was : Ids) (before : Listed Event) (new : Parts) (now : Ids) (after : Listed Event) : Type 0 where
+-- What a call in front of the accesses that are run has told and taken, where it had so much in hand and has so much left: no more events than it had in hand; and no
+-- more rows, shadows, objects and marks than it makes.
+pub record Spends (hand makes left : ℕ) (old : Parts) (was : Ids) (before : Listed Event) (new : Parts) (now : Ids) (after : Listed Event) : Type 0 where
   pub told : length after.items + (full_dues new now + left) ≤ length before.items + (full_dues old was + hand)
   pub room : before.room + (full_dues new now + left) ≤ after.room + (full_dues old was + hand)
-  pub rows : old.memory.resident.spare + (full_dues new now + left) ≤ new.memory.resident.spare + (full_dues old was + hand)
-  pub shadows : old.chains.spare + (now.marks + left) ≤ new.chains.spare + (was.marks + hand)
-  pub objects : old.memory.objects.rows + (now.marks + left) ≤ new.memory.objects.rows + (was.marks + hand)
-  pub marks : now.marks + left ≤ was.marks + hand
+  pub rows : old.memory.resident.spare + full_dues new now ≤ new.memory.resident.spare + (full_dues old was + makes)
+  pub shadows : old.chains.spare + now.marks ≤ new.chains.spare + (was.marks + makes)
+  pub objects : old.memory.objects.rows + now.marks ≤ new.memory.objects.rows + (was.marks + makes)
+  pub marks : now.marks ≤ was.marks + makes
 
 -- what the end of all regions would tell: each page that is here leaves, and each control that lives ends
 abbrev pub leaving : Parts → Ids → ℕ
@@ -137,11 +137,11 @@ pub record Dies (m : Message) (old new : Parts) : Type 0 where
   pub queues : new.memory.queues ≡ old.memory.queues
   pub objects : new.memory.objects ≡ old.memory.objects
 
--- how many marks a command may make
-abbrev pub marking : Breadth → ℕ
-marking breadth.Few = 5
-marking breadth.Entries = 1025
-marking other = 0
+-- how many marks a command may make, and how many rows of each table
+abbrev pub making : Breadth → ℕ
+making breadth.Few = 5
+making breadth.Entries = 1025
+making other = 0
 
 -- how many events a step adds on the host at most
 abbrev pub most : Breadth → Parts → Ids → ℕ
@@ -149,17 +149,17 @@ most breadth k ids = full_dues k ids + front breadth k + 2
 
 -- there is room for a step in the tables of a host
 pub record IsReady (breadth : Breadth) (k : Parts) (ids : Ids) : Type 0 where
-  pub rows : most breadth k ids ≤ k.memory.resident.spare
-  pub shadows : ids.marks + front breadth k ≤ k.chains.spare
-  pub objects : ids.marks + front breadth k ≤ k.memory.objects.rows
+  pub rows : full_dues k ids + making breadth ≤ k.memory.resident.spare
+  pub shadows : ids.marks + making breadth ≤ k.chains.spare
+  pub objects : ids.marks + making breadth ≤ k.memory.objects.rows
   pub mark : 0 < k.memory.objects.marks
   pub access : 0 < k.waits.room
   pub buffers : HasBuffers k
   pub skip : length k.waits.rows + 1 < vec_capacity k.skip
 
--- there is room for so many events in front of the accesses that are run, and behind those in the log for so many events more
-pub record HasMore (first more : ℕ) (k : Parts) (ids : Ids) (room : ℕ) : Type 0 where
-  pub tables : IsRoomy first k ids room
+-- there is room for so many events and rows in front of the accesses that are run, and behind those in the log for so many events more
+pub record HasMore (first makes more : ℕ) (k : Parts) (ids : Ids) (room : ℕ) : Type 0 where
+  pub tables : IsRoomy first makes k ids room
   pub log : full_dues k ids + (first + more) ≤ room
 
 -- the room of each table of a host

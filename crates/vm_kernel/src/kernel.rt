@@ -17,7 +17,7 @@ ghost use Rattle.vm_supply.specs.Answers.{outcome_of};
 ghost use Rattle.vm_state.specs.Stands.{HasTasks};
 ghost use Rattle.vm_kernel.specs.Matches.{IsRanged, Rests, first_ids, host_id};
 ghost use Rattle.vm_kernel.specs.Refusing.{maps_elsewhere, takes_name};
-ghost use Rattle.vm_kernel.specs.Rooms.{IsReady, ServeRoom, breadth_of, dues_of, front, full_dues, marking, most, with_rooms_of, word_breadth};
+ghost use Rattle.vm_kernel.specs.Rooms.{IsReady, ServeRoom, breadth_of, dues_of, front, full_dues, making, most, with_rooms_of, word_breadth};
 ghost use Rattle.vm_kernel.specs.Taking.{IsAbsencePaid, IsErrorPaid, IsLockPaid, IsWord};
 ghost use Rattle.vm_legal.specs.InTurn.{EndsAll, NoneSleepsOn};
 ghost use Rattle.vm_legal.specs.Returned.{OnlyReturned};
@@ -126,7 +126,7 @@ impl Kernel {
         ensures ends { OnOk result (EndsByAddress given.header given.past command.now log.new.items) }
         ensures few { OnOk result (length log.new.items + dues_of self.new ids.new ≤ full_dues self.old ids.old + front (breadth_of command.now) self.old) }
         ensures room { (more : ℕ) → IsReady (breadth_of command.now) self.old ids.old → most (breadth_of command.now) self.old ids.old + more ≤ log.old.room → OnOk result (ServeRoom more self.new ids.new log.new.room) }
-        ensures marks { OnOk result (ids.new.marks ≤ ids.old.marks + marking (breadth_of command.now)) }
+        ensures marks { OnOk result (ids.new.marks ≤ ids.old.marks + making (breadth_of command.now)) }
         ensures err { IsReady (breadth_of command.now) self.old ids.old → most (breadth_of command.now) self.old ids.old ≤ log.old.room → OnErr result ((self.new ≡ with_rooms_of self.new self.old) × ((ids.new ≡ ids.old) × (log.new.items ≡ []))) }
     {
         self.parts.reserve_for(command)?;

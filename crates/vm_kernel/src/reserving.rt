@@ -1,6 +1,6 @@
 // Room for a step.
 ghost use Rattle.std.specs.Prelude.{◌≡◌, ◌+◌, ◌<◌, ◌≤◌, ◌^◌, OnOk, length, true, vec_capacity};
-ghost use Rattle.vm_kernel.specs.Rooms.{HasReturns, IsReady, front, most, returning, with_buffers, with_rooms_of};
+ghost use Rattle.vm_kernel.specs.Rooms.{HasReturns, IsReady, front, full_dues, making, most, returning, with_buffers, with_rooms_of};
 ghost use Rattle.vm_kernel.specs.Taking.{is_lock_request};
 ghost use Rattle.vm_parts.specs.Listed.{listed_pages};
 
@@ -10,34 +10,55 @@ use vm_base::NoMemory;
 use vm_model::{Command, Message};
 use vm_shadow::Ids;
 
-// What a fork tells: it makes a task, and copies 256 entries.
-const TOLD_OF_ENTRIES: u64 = 1025;
+// What a fork tells and makes at most: it makes a task, and copies 256 entries.
+const OF_ENTRIES: u32 = 1025;
 
-// What the other commands tell, and what a reclaim for the frame queue tells last.
-const TOLD_FIRST: u64 = 5;
+// What the other commands tell in front of the accesses that are run, but for pages that go, and what they make.
+const OF_FEW: u32 = 5;
 
-const TOLD_LAST: u64 = 3;
+// What a reclaim for the frame queue tells last.
+const TOLD_LAST: u64 = 2;
+
+// The most marks that a command makes, and rows that it takes in each table.
+fn most_made(breadth: Breadth) -> u32
+    ensures made { result ≡ making breadth }
+    ensures small { result ≤ 1025 }
+{
+    match breadth {
+        Breadth::Few => OF_FEW,
+        Breadth::Entries => OF_ENTRIES,
+        Breadth::Pages => 0,
+    }
+}
 
 impl Parts {
     /// The most events that a step adds on this host. It takes no memory.
     pub fn most(&self, ids: &Ids, breadth: Breadth) -> u64
         ensures { result ≡ most breadth self.now ids.now }
     {
+        self.most_behind(ids) + self.front(breadth) + TOLD_LAST
+    }
+
+    // The most events that the accesses tell that are run.
+    fn most_behind(&self, ids: &Ids) -> u64
+        ensures dues { result ≡ full_dues self.now ids.now }
+        ensures small { result < 2 ^ 35 }
+    {
         let accesses = u64::from(self.waits.count());
         let frames = u64::from(self.memory.frames.count());
         let marks = u64::from(ids.marks);
-        3 * accesses + marks + 2 * frames + self.front(breadth) + TOLD_LAST
+        3 * accesses + marks + 2 * frames + 1
     }
 
-    // The most events that a step tells in front of the accesses that are run.
+    // The most events that a step tells in front of these.
     fn front(&self, breadth: Breadth) -> u64
         ensures front { result ≡ front breadth self.now }
         ensures small { result < 2 ^ 63 + 2 ^ 34 }
     {
         let frames = u64::from(self.memory.frames.count());
         match breadth {
-            Breadth::Few => TOLD_FIRST,
-            Breadth::Entries => TOLD_OF_ENTRIES,
+            Breadth::Few => u64::from(OF_FEW),
+            Breadth::Entries => u64::from(OF_ENTRIES),
             Breadth::Pages => 2 * frames + self.memory.objects.count() as u64 + 1,
         }
     }
@@ -47,15 +68,16 @@ impl Parts {
         ensures is { self.new ≡ with_rooms_of self.new self.old }
         ensures ready { OnOk result (IsReady breadth self.new ids.now) }
     {
-        let Ok(events) = u32::try_from(self.most(ids, breadth)) else {
+        let made = most_made(breadth);
+        let Some(shadows) = ids.marks.checked_add(made) else {
             return Err(NoMemory);
         };
-        let Ok(made) = u32::try_from(u64::from(ids.marks) + self.front(breadth)) else {
+        let Ok(pages) = u32::try_from(self.most_behind(ids) + u64::from(made)) else {
             return Err(NoMemory);
         };
-        self.memory.resident.reserve(events)?;
-        self.memory.objects.reserve(made, 1)?;
-        self.chains.reserve(made)?;
+        self.memory.resident.reserve(pages)?;
+        self.memory.objects.reserve(shadows, 1)?;
+        self.chains.reserve(shadows)?;
         self.waits.reserve(1)?;
         self.reserve_skip()?;
         self.reserve_buffers(self.returning())

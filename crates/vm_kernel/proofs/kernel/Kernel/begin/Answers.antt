@@ -1,6 +1,7 @@
 use Rattle.vm_kernel.proofs.Common.{Event, List, OnOk, Parts, Restarted, Starts, ap, arith, length, paging, subst, sym, ℕ, ◌+◌, ◌∙◌, ◌≡◌, ◌≤◌}
 use Rattle.vm_kernel.proofs.Growing.{on_ok}
-use Rattle.vm_kernel.proofs.Readying.{buffers_rooms, front_buffers, most_buffers, on_err, ready_buffers, ready_more, starts_buffers}
+use Rattle.vm_kernel.proofs.Composing.{on_err}
+use Rattle.vm_kernel.proofs.Readying.{buffers_rooms, front_buffers, most_buffers, ready_buffers, ready_more, starts_buffers}
 use Rattle.vm_kernel.specs.Plays.{PlaysBy, may_reclaim}
 use Rattle.vm_kernel.specs.Rooms.{IsReady, breadth_of, dues_of, front, full_dues, most, with_buffers, with_rooms_of}
 use Rattle.vm_kernel.proofs.kernel.Kernel.begin.Given.{Over}

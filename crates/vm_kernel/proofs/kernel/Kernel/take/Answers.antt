@@ -5,7 +5,7 @@ use Rattle.vm_kernel.proofs.Served.{both_ok}
 use Rattle.vm_kernel.proofs.Spending.{never_err}
 use Rattle.vm_kernel.proofs.Stopping.{ends_waiters}
 use Rattle.vm_kernel.specs.Plays.{PlaysAnswer}
-use Rattle.vm_kernel.specs.Rooms.{HasMore, IsReady, dues_of, front, full_dues, most, with_buffers, word_breadth}
+use Rattle.vm_kernel.specs.Rooms.{HasMore, IsReady, dues_of, front, full_dues, making, most, with_buffers, word_breadth}
 use Rattle.vm_kernel.specs.Taking.{IsWord}
 use Rattle.vm_objects.specs.Objects.{object_at}
 use Rattle.vm_resident.specs.Resident.{row_at}
@@ -58,7 +58,7 @@ ready_now g c ready =
     subst (λ (z : Parts). IsReady (word_breadth c.args.message.now) z c.args.ids.now) (sym c.in_ok-reserve_for_word.ensures.is) (ready_buffers c.self.inside.parts c.reserve_for_word.new.self.memory.buffers.count (word_breadth c.args.message.now) c.args.ids.now c.in_ok-reserve_for_word.ensures.kept inside)
 
 more_now : (g : Over) (c : goal.After-take g) (more : ℕ) → IsReady (word_breadth c.args.message.now) c.args.self.now c.args.ids.now → most (word_breadth c.args.message.now) c.args.self.now c.args.ids.now + more ≤ c.args.log.now.room
-    → HasMore (front (word_breadth c.args.message.now) c.reserve_for_word.new.self) (more + 2) c.reserve_for_word.new.self c.args.ids.now c.args.log.now.room
+    → HasMore (front (word_breadth c.args.message.now) c.reserve_for_word.new.self) (making (word_breadth c.args.message.now)) (more + 2) c.reserve_for_word.new.self c.args.ids.now c.args.log.now.room
 more_now g c more ready log =
     let same : most (word_breadth c.args.message.now) c.reserve_for_word.new.self c.args.ids.now ≡ most (word_breadth c.args.message.now) c.args.self.now c.args.ids.now = ap (λ (z : Parts). most (word_breadth c.args.message.now) z c.args.ids.now) c.in_ok-reserve_for_word.ensures.is ∙ (most_buffers c.self.inside.parts c.reserve_for_word.new.self.memory.buffers.count (word_breadth c.args.message.now) c.args.ids.now ∙ ap (λ (z : Parts). most (word_breadth c.args.message.now) z c.args.ids.now) c.self.view_is) in
     ready_more (word_breadth c.args.message.now) c.reserve_for_word.new.self c.args.ids.now c.args.log.now.room more (ready_now g c ready) (omega (arith, same, log))

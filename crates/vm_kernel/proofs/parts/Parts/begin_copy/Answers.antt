@@ -79,7 +79,7 @@ more_rows g c =
     ∙ (length-append c.make_range.new.self.waits.rows _ ∙ ap (λ z. length z + 1) (ap (λ (z : WaitTable). z.rows) c.in_ok-make_range.ensures.made.waits ∙ c.reserve.ensures.rows))
 
 -- the beginning takes two events, and a region over an object
-begun : (g : given.Over) (c : goal.After-restart g) → Spends 5 0 c.args.self.now c.args.ids.now c.args.log.now (mid g c) (numbers g c) c.push-2.new.self
+begun : (g : given.Over) (c : goal.After-restart g) → Spends 5 5 0 c.args.self.now c.args.ids.now c.args.log.now (mid g c) (numbers g c) c.push-2.new.self
 begun g c =
     let made = c.in_ok-make_range.ensures.made in
     let waits = more_rows g c in
@@ -97,12 +97,12 @@ begun g c =
 
 pub returns-clause-few : goal.returns-clause-few
 returns-clause-few g c =
-    let few = told_behind c.args.self.now (mid g c) c.args.ids.now (numbers g c) c.args.log.now c.push-2.new.self 5 5 (omega arith) (begun g c) in
+    let few = told_behind c.args.self.now (mid g c) c.args.ids.now (numbers g c) c.args.log.now c.push-2.new.self 5 5 5 (omega arith) (begun g c) in
     on_ok c.restart.result _ _ (λ more. few_behind more few) c.restart.ensures.few
 
 pub returns-clause-room : goal.returns-clause-room
 returns-clause-room g c = λ more had access.
-    let runs = c.restart.ensures.room more (room_behind c.args.self.now (mid g c) c.args.ids.now (numbers g c) c.args.log.now c.push-2.new.self 5 more (begun g c) had) in
+    let runs = c.restart.ensures.room more (room_behind c.args.self.now (mid g c) c.args.ids.now (numbers g c) c.args.log.now c.push-2.new.self 5 5 more (begun g c) had) in
     (any_ok c.restart.result _ runs.1, runs.0)
 
 pub returns-in_err-reserve-clause-room : goal.returns-in_err-reserve-clause-room

@@ -66,24 +66,24 @@ returns-then-place-len-clause-few g c = on_ok c.begin_copy.result _ _ (λ few. f
 
 pub returns-then-place-len-clause-room : goal.returns-then-place-len-clause-room
 returns-then-place-len-clause-room g c = λ more had access has skip.
-    let began = c.begin_copy.ensures.room more (more_fewer 5 5 more c.args.self.now c.args.ids.now _ had (omega arith)) access in
+    let began = c.begin_copy.ensures.room more (more_fewer 5 5 5 5 more c.args.self.now c.args.ids.now _ had (omega arith) (omega arith)) access in
     begun_leaves c.begin_copy.result more c.args.self.now c.begin_copy.new.self c.begin_copy.new.ids c.begin_copy.new.log.room began.0 c.begin_copy.ensures.spare has skip
 
 pub returns-then-place-len-clause-err : goal.returns-then-place-len-clause-err
-returns-then-place-len-clause-err g c = λ had access has skip. never_err c.begin_copy.result _ (c.begin_copy.ensures.room 0 (more_fewer 5 5 0 c.args.self.now c.args.ids.now _ had (omega arith)) access).1
+returns-then-place-len-clause-err g c = λ had access has skip. never_err c.begin_copy.result _ (c.begin_copy.ensures.room 0 (more_fewer 5 5 5 5 0 c.args.self.now c.args.ids.now _ had (omega arith) (omega arith)) access).1
 
 pub returns-then-place-len-clause-marks : goal.returns-then-place-len-clause-marks
 returns-then-place-len-clause-marks g c = on_ok c.begin_copy.result _ _ (λ marks. omega (arith, marks)) c.begin_copy.ensures.marks
 
 pub returns-clause-few : goal.returns-clause-few
-returns-clause-few g c = few_ok c.enter_copy.result c.args.self.now c.enter_copy.new.self c.args.ids.now c.enter_copy.new.ids c.args.log.now c.enter_copy.new.log 4 5 (omega arith) c.enter_copy.ensures.spends
+returns-clause-few g c = few_ok c.enter_copy.result c.args.self.now c.enter_copy.new.self c.args.ids.now c.enter_copy.new.ids c.args.log.now c.enter_copy.new.log 4 4 5 (omega arith) c.enter_copy.ensures.spends
 
 pub returns-clause-room : goal.returns-clause-room
 returns-clause-room g c = λ more had access has skip.
-    kept_ok c.enter_copy.result c.args.self.now c.enter_copy.new.self c.args.ids.now c.enter_copy.new.ids c.args.log.now c.enter_copy.new.log 4 5 more (omega arith) c.enter_copy.ensures.spends c.enter_copy.ensures.spare had has (skip_fewer c.args.self.now skip)
+    kept_ok c.enter_copy.result c.args.self.now c.enter_copy.new.self c.args.ids.now c.enter_copy.new.ids c.args.log.now c.enter_copy.new.log 4 4 5 5 more (omega arith) (omega arith) c.enter_copy.ensures.spends c.enter_copy.ensures.spare had has (skip_fewer c.args.self.now skip)
 
 pub returns-clause-err : goal.returns-clause-err
-returns-clause-err g c = λ had access has skip. never_err c.enter_copy.result _ (c.enter_copy.ensures.succeeds (roomy_fewer 5 4 c.args.self.now c.args.ids.now _ had.tables (omega arith)))
+returns-clause-err g c = λ had access has skip. never_err c.enter_copy.result _ (c.enter_copy.ensures.succeeds (roomy_fewer 5 5 4 4 c.args.self.now c.args.ids.now _ had.tables (omega arith) (omega arith)))
 
 pub returns-clause-marks : goal.returns-clause-marks
 returns-clause-marks g c = on_ok c.enter_copy.result _ _ (λ is. omega (arith, is.marks)) c.enter_copy.ensures.spends

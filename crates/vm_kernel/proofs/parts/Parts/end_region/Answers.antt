@@ -48,7 +48,7 @@ pub returns-then-unrefer-gt0-clause-under : goal.returns-then-unrefer-gt0-clause
 returns-then-unrefer-gt0-clause-under g c = below_none g.given.header _ _ c.args.log.now.items
 
 -- nothing is spent before an object ends
-first_spends : (g : given.Over) (c : After-unrefer g) → Spends (leaving c.args.self.now c.args.ids.now) (leaving (record c.args.self.now { memory = record c.args.self.now.memory { objects = c.unrefer.new.self }; chains = c.drop_region-object.new.self }) c.args.ids.now)
+first_spends : (g : given.Over) (c : After-unrefer g) → Spends (leaving c.args.self.now c.args.ids.now) 0 (leaving (record c.args.self.now { memory = record c.args.self.now.memory { objects = c.unrefer.new.self }; chains = c.drop_region-object.new.self }) c.args.ids.now)
     c.args.self.now c.args.ids.now c.args.log.now (record c.args.self.now { memory = record c.args.self.now.memory { objects = c.unrefer.new.self }; chains = c.drop_region-object.new.self }) c.args.ids.now c.args.log.now
 first_spends g c =
     let object = c.drop_region-object.result in

@@ -4,7 +4,7 @@ use Rattle.vm_kernel.proofs.Copies.{can_copy}
 use Rattle.vm_kernel.proofs.Shares.{can_share, fork_copied, fork_other, fork_shared, fork_start, may_copy, may_fork, may_share, ran_fork, same_rows}
 use Rattle.vm_kernel.proofs.Playing.{lists_same, plays_both, plays_told}
 use Rattle.vm_kernel.proofs.Turning.{quiet_both, quiet_more}
-use Rattle.vm_kernel.proofs.Spending.{roomy_next, spends_all, spends_less, spends_next, spends_nothing}
+use Rattle.vm_kernel.proofs.Spending.{roomy_next, spends_all, spends_within, spends_next, spends_nothing}
 use Rattle.vm_kernel.proofs.Composing.{spare_both}
 use Rattle.vm_kernel.proofs.parts.Parts.fork.Goals as goal
 use Rattle.vm_kernel.proofs.parts.Parts.fork.Goals.{in-Copy+in_ok-enter_copy-in-Copy, in-Never, in-Share+in_ok-share-in-Share}
@@ -63,7 +63,7 @@ all-preserved g c =
           (record {
             spends =
                 spends_next c.args.self.now c.all.self w.share.new.self c.args.ids.now c.all.ids c.all.ids c.args.log.now c.all.log w.share.new.log c.all.i c.all.invariant.spends
-                (spends_less c.all.self w.share.new.self c.all.ids c.all.ids c.all.log w.share.new.log 1 0 3 (w.in_ok-share-in-Share.ensures.spends c.all.ids));
+                (spends_within c.all.self w.share.new.self c.all.ids c.all.ids c.all.log w.share.new.log 1 1 0 3 (w.in_ok-share-in-Share.ensures.spends c.all.ids));
             spare = spare_both c.args.self.now c.all.self w.share.new.self c.all.invariant.spare w.in_ok-share-in-Share.ensures.spare;
             quiet =
                 quiet_both c.args.self.now.waits.queue c.all.self.waits.queue w.share.new.self.waits.queue c.args.log.now.items c.all.log.items w.share.new.log.items c.all.invariant.quiet
@@ -89,7 +89,7 @@ all-preserved g c =
       | in-Never w ↦
           rw (w.self-is, w.ids-is, w.log-is)
           (record {
-            spends = spends_next c.args.self.now c.all.self c.all.self c.args.ids.now c.all.ids c.all.ids c.args.log.now c.all.log c.all.log c.all.i c.all.invariant.spends (spends_nothing c.all.self c.all.ids c.all.log 4);
+            spends = spends_next c.args.self.now c.all.self c.all.self c.args.ids.now c.all.ids c.all.ids c.args.log.now c.all.log c.all.log c.all.i c.all.invariant.spends (spends_nothing c.all.self c.all.ids c.all.log 4 4);
             spare = c.all.invariant.spare;
             quiet = c.all.invariant.quiet;
             forked = fork_other g.given.header g.given.host g.given.outside c.args.task c.args.child rows c.all.i row g.given.past c.all.self c.all.ids c.all.log.items f sound found w.in-Never.is;
