@@ -1,7 +1,9 @@
 // Each call once, on a host of four frames where nothing is on its way.
-ghost use Rattle.std.specs.Prelude.{◌≡◌, IfOk, []};
+ghost use Rattle.std.specs.Prelude.{◌≡◌, ℕ, IfOk, List, []};
 ghost use Rattle.vm_kernel.specs.Matches.{IsRanged};
-ghost use Rattle.vm_system.specs.Stands.{FilesAreKept, PagingIsKept, SystemStands};
+ghost use Rattle.vm_outside.specs.Areas.{Told};
+ghost use Rattle.vm_system.specs.Backed.{BackingsFit};
+ghost use Rattle.vm_system.specs.Stands.{SystemStands};
 ghost use Rattle.vm_system.specs.Steps.{Setting};
 
 use crate::shows::{leave, shows};
@@ -38,14 +40,27 @@ fn settle_all(
     ghost given: { Setting }
     requires header { given.header ≡ header.now }
     requires stands { SystemStands given.header given.outside system.old }
-    requires kept { PagingIsKept given.header given.outside (⟦<SureBacking as Backing>⟧.area paging.old.inner) system.old }
-    requires files { FilesAreKept given.header given.outside (⟦<SureBacking as Backing>⟧.area files.old.inner) system.old }
+    requires backings { (start : List ℕ → Told) × BackingsFit given.header given.outside start (⟦<SureBacking as Backing>⟧.area files.old.inner) (⟦<SureBacking as Backing>⟧.area paging.old.inner) system.old }
 {
     let command = Command::Settle { count: 2 };
     let events = system.step(1, &command, files, paging)?;
+    let (took, taken) = take_all(system, files, paging)?;
+    Ok((events, took, taken))
+}
+
+// What the last two of them answer.
+fn take_all(
+    system: &mut System,
+    files: &mut Armed<SureBacking>,
+    paging: &mut Armed<SureBacking>,
+) -> Result<(bool, u32), SystemStop>
+    ghost given: { Setting }
+    requires stands { SystemStands given.header given.outside system.old }
+    requires backings { (start : List ℕ → Told) × BackingsFit given.header given.outside start (⟦<SureBacking as Backing>⟧.area files.old.inner) (⟦<SureBacking as Backing>⟧.area paging.old.inner) system.old }
+{
     let took = system.take_oldest(files, paging)?;
     let taken = settle(system, 1, files, paging)?;
-    Ok((events, took, taken))
+    Ok((took, taken))
 }
 
 #[test]

@@ -126,19 +126,49 @@ impl<T> Listing<T> {
         &self.items[i as usize]
     }
 
-    /// Takes the oldest item out. A list that is empty begins at its first place again.
+    /// The index that the item gets which is added behind so many others.
+    pub fn index_behind(&self, n: u32) -> u32
+        requires { n < self.now.room }
+        ensures { result ≡ length self.now.items + n }
+    {
+        self.items.len() as u32 + n
+    }
+
+    /// Moves all items of another list behind these, oldest first, and leaves that one empty, at its first place; it fails for want
+    /// of memory alone, and then both have what they had.
+    pub fn append(&mut self, others: &mut Listing<T>) -> Result<(), NoMemory>
+        ensures ok { OnOk result ((self.new.items ≡ others.old.items ++ self.old.items) × (others.new.items ≡ [])) }
+        ensures err { OnErr result ((self.new.items ≡ self.old.items) × (others.new.items ≡ others.old.items)) }
+        ensures succeeds { length others.old.items ≤ self.old.room → IsOk result }
+        ensures room { self.old.room ≤ self.new.room + length others.old.items }
+        ensures left { others.old.room ≤ others.new.room }
+    {
+        if MOST - self.items.len() < others.items.len() {
+            return Err(NoMemory);
+        }
+        self.items.append(&mut others.items)?;
+        others.restart();
+        Ok(())
+    }
+
+    // An empty list begins at its first place again, so that of much room few places are touched.
+    fn restart(&mut self)
+        requires { self.old.items ≡ [] }
+        ensures items { self.new.items ≡ [] }
+        ensures room { self.old.room ≤ self.new.room }
+    {
+        let alloc = *self.items.allocator();
+        let items = mem::replace(&mut self.items, VecDeque::new(alloc));
+        let none = mem::replace(&mut self.items, VecDeque::from_vec(items.into_vec()));
+        none.destroy_empty();
+    }
+
+    /// Takes the oldest item out.
     pub fn take_first(&mut self) -> Option<T>
         ensures taken { MatchOption result ((self.old.items ≡ [])
             × (self.new.items ≡ [])) (λ item. self.old.items ≡ self.new.items ++ item ∷ []) }
         ensures room { self.old.room ≤ self.new.room }
     {
-        let item = self.items.pop_front();
-        if self.items.is_empty() {
-            let alloc = *self.items.allocator();
-            let items = mem::replace(&mut self.items, VecDeque::new(alloc));
-            let none = mem::replace(&mut self.items, VecDeque::from_vec(items.into_vec()));
-            none.destroy_empty();
-        }
-        item
+        self.items.pop_front()
     }
 }

@@ -1,5 +1,5 @@
 -- A system stands for its history behind the step of a command that takes no message.
-use Rattle.vm_system.proofs.Common.{AllFilesServe, AllInner, AllQueued, AllRest, AllServe, Arming, CanTell, CanTellAll, Channel, Code, Command, Device, DevicesHaveCause, EachOf, Event, FilesAreKept, Header, HostTable, IfOk, IsOrderly, KeepsCanonical, Lawful, LeavesBacking, List, Makes, None, Numbered, OnErr, OnOk, Outside, PagingIsKept, Posts, Prompt, Result, SameHosts, Some, Spares, State, Stretch, SystemStands, Told, Went, [], all_lined, all_nobodys, all_refused, all_suffice, ap, append_assoc, arith, arms, devices, false, get_or, head, inl, inner_both, is_idle, length, none-some, of_both, queued_lined, queued_refused, refl, refusal, same_Some, slice_get, stretch_none, subst, suc, sym, takes_up, true, zero, ℕ, ◌++◌, ◌<◌, ◌∙◌, ◌∷◌, ◌≡◌}
+use Rattle.vm_system.proofs.Common.{AllFilesServe, AllInner, AllQueued, AllRest, AllServe, Arming, CanTell, CanTellAll, Channel, Code, Command, Device, DevicesHaveCause, EachOf, Event, FilesAreKept, Header, HostTable, IfOk, IsOrderly, KeepsCanonical, Lawful, LeavesBacking, List, Makes, None, Numbered, OnErr, OnOk, Outside, PagingIsKept, Posts, Prompt, Result, SameHosts, Some, Spares, State, Stretch, SystemStands, Told, Went, [], all_lined, all_nobodys, all_refused, all_suffice, ap, append_assoc, arith, arms, devices, false, get_or, head, inl, inner_both, is_idle, length, none-some, of_both, queued_lined, queued_refused, refl, refusal, same_Some, slice_get, stretch_none, subst, suc, sym, takes_up, took_up, true, zero, ℕ, ◌++◌, ◌<◌, ◌∙◌, ◌∷◌, ◌≡◌}
 use Rattle.std.specs.Prelude.{Ok, Err}
 use Rattle.vm_model.specs.declared.event.Device.TheVariants as device
 use Rattle.vm_model.specs.declared.event.Event.TheVariants as event
@@ -266,31 +266,40 @@ there_at (y ∷ xs) (suc n) x count long below is = there_at xs n x (length xs) 
 pub causes_same : (who : Device) (faults : ℕ) (old new : List Event) → devices who new ≡ devices who old → DevicesHaveCause who faults faults old new
 causes_same who faults old new same = record { later = omega arith; few = omega (arith, same); cause = inl same; spared = λ none. refl }
 
-pub leaves_same : {B : Type 0} (header : Header) (who : Device) (doing : Command) (backing : Arming B) → arms who doing ≡ None → LeavesBacking header who doing backing backing
-leaves_same header who doing backing unarmed = record {
+pub leaves_same : {B : Type 0} (header : Header) (who : Device) (doing : Command) (history : List Event) (backing : Arming B) → arms who doing ≡ None
+    → LeavesBacking header who doing history backing backing
+leaves_same header who doing history backing unarmed = record {
   armed = λ count is. absurd (let bad : None ≡ Some count = sym unarmed ∙ is in cc);
   same = λ none apart. refl;
+  asked = λ none apart. refl;
 }
 
 arms_taken : (who : Device) (channel : Channel) (count : ℕ) → arms who (command.Take channel) ≡ Some count → ⊥
 arms_taken device.Files channel count is = absurd (let bad : None ≡ Some count = is in cc)
 arms_taken device.Paging channel count is = absurd (let bad : None ≡ Some count = is in cc)
 
-pub leaves_taken : {B : Type 0} (header : Header) (who : Device) (channel : Channel) (old new : Arming B) → (takes_up header who (command.Take channel) ≡ false → new ≡ old) → LeavesBacking header who (command.Take channel) old new
-leaves_taken header who channel old new same = record {
+pub leaves_taken : {B : Type 0} (header : Header) (who : Device) (channel : Channel) (history : List Event) (old new : Arming B)
+    → (takes_up header who (command.Take channel) ≡ false → new ≡ old) → (took_up header who history ≡ false → new ≡ old)
+    → LeavesBacking header who (command.Take channel) history old new
+leaves_taken header who channel history old new same asked = record {
   armed = λ count is. absurd (arms_taken who channel count is);
   same = λ none apart. same apart;
+  asked = λ none apart. asked apart;
 }
 
-pub leaves_taken_by : {B : Type 0} (header : Header) (who : Device) (doing : Command) (channel : Channel) (old new : Arming B) → doing ≡ command.Take channel → (takes_up header who (command.Take channel) ≡ false → new ≡ old)
-    → LeavesBacking header who doing old new
-leaves_taken_by header who doing channel old new is same = subst (λ (z : Command). LeavesBacking header who z old new) (sym is) (leaves_taken header who channel old new same)
+pub leaves_taken_by : {B : Type 0} (header : Header) (who : Device) (doing : Command) (channel : Channel) (history : List Event) (old new : Arming B)
+    → doing ≡ command.Take channel → (takes_up header who (command.Take channel) ≡ false → new ≡ old) → (took_up header who history ≡ false → new ≡ old)
+    → LeavesBacking header who doing history old new
+leaves_taken_by header who doing channel history old new is same asked =
+    subst (λ (z : Command). LeavesBacking header who z history old new) (sym is) (leaves_taken header who channel history old new same asked)
 
-pub leaves_armed : {B : Type 0} (header : Header) (who : Device) (doing : Command) (count left : ℕ) (old new : Arming B) → arms who doing ≡ Some count → left ≡ count → new ≡ record { inner = old.inner; left = left; reached = old.reached }
-    → LeavesBacking header who doing old new
-leaves_armed {B} header who doing count left old new armed same is = record {
+pub leaves_armed : {B : Type 0} (header : Header) (who : Device) (doing : Command) (history : List Event) (count left : ℕ) (old new : Arming B)
+    → arms who doing ≡ Some count → left ≡ count → new ≡ record { inner = old.inner; left = left; reached = old.reached }
+    → LeavesBacking header who doing history old new
+leaves_armed {B} header who doing history count left old new armed same is = record {
   armed = λ n at. subst (λ (z : ℕ). new ≡ record { inner = old.inner; left = z; reached = old.reached }) (same ∙ same_Some count n (sym armed ∙ at)) is;
   same = λ none apart. absurd (none-some count (sym none ∙ armed));
+  asked = λ none apart. absurd (none-some count (sym none ∙ armed));
 }
 
 -- only these two arm a backing

@@ -103,12 +103,13 @@ pub use Rattle.vm_outside.specs.Causes.{CountRises, sum_count}
 pub use Rattle.vm_ports.specs.Ports.{PortTable}
 pub use Rattle.vm_quiet.proofs.Letters.{first_is, is_out, never, outs, outs_sent, outs_taken, queue_is, same_channel, some_out}
 pub use Rattle.vm_quiet.specs.Letters.{messages_on}
+pub use Rattle.vm_system.specs.Backed.{BackingGoes, BackingWent, BackingsFit}
 pub use Rattle.vm_system.specs.Channels.{ChannelTable, channel_number}
 pub use Rattle.vm_system.specs.Keeping.{FilesAreTold, FilesCarry, MayHave}
 pub use Rattle.vm_system.specs.Lawful.{Lawful}
 pub use Rattle.vm_system.specs.Making.{Makes, Spares, SparesFiles, SparesPaging}
 pub use Rattle.vm_system.specs.Orderly.{AllLetters, Ending, EndsLast, HasHeard, HasMade, IsHeard, IsHome, IsHostLetter, IsOrderly, IsSharedWord, IsWordUp, NoEnd, home_for, is_end, is_washed, stands_in, washed_in}
-pub use Rattle.vm_system.specs.Posts.{AreSame, CanSend, CanTell, CanTellAll, HasRoom, HavePagesOf, IsPrepared, IsSent, OnlyRoom, Posts, SameHosts}
+pub use Rattle.vm_system.specs.Posts.{MayPost, AreSame, CanSend, CanTell, CanTellAll, HasRoom, HavePagesOf, IsPrepared, IsSent, OnlyRoom, Posts, SameHosts}
 pub use Rattle.vm_system.specs.Refusing.{channel_code, code_at, queue_code}
 pub use Rattle.vm_system.specs.Sends.{AreFresh, Delivered, made_by, opened}
 pub use Rattle.vm_system.specs.Settling.{DevicesCounted, StaysOpen}

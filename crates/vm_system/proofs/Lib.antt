@@ -3,6 +3,7 @@ pub mod Awake
 pub mod Agreeing
 pub mod Answering
 pub mod Apart
+pub mod Backed
 pub mod Beginning
 pub mod Cleaning
 pub mod Empty

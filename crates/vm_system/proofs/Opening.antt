@@ -1,5 +1,5 @@
 -- A history stays legal with one message more taken.
-use Rattle.vm_system.proofs.Common.{AllInTurn, NoneIsTemporary, AllServed, AreSame, BeforeSteps, Channel, ChannelId, Command, EachEvent, EachIn, EachMoment, Event, FollowsSoFarInTurn, FramesSuffice, HasCause, HasMore, Header, Holds, IsConsequence, IsGroupInTurn, IsPaid, KeepsOpen, CanonicalOpen, Letter, List, MayTakeFrom, None, Numbered, Outside, OwnBytes, Prompt, Some, State, Step, SystemStands, TakesStep, Took, [], ap, append-nil, append_assoc, channel_number, channel_of_first, each_both, each_whole, false, is_some, licensed_both, messages_on, moments_whole, oldest_channel, queue, queue_is, refl, so_far, steps_whole, subst, sym, takings, takings_more, true, undelivered, ℕ, ◌++◌, ◌∙◌, ◌∷◌, ◌≡◌}
+use Rattle.vm_system.proofs.Common.{AllInTurn, NoneIsTemporary, AllServed, AreSame, BeforeSteps, Channel, ChannelId, Command, EachEvent, EachIn, EachMoment, Event, FollowsSoFarInTurn, FramesSuffice, HasCause, HasMore, Header, Holds, IsConsequence, IsGroupInTurn, IsPaid, KeepsOpen, CanonicalOpen, Letter, List, MayTakeFrom, None, Numbered, Outside, OwnBytes, Prompt, Some, State, Step, SystemStands, TakesStep, Took, [], ap, append-nil, append_assoc, channel_number, channel_of_first, each_both, each_whole, false, is_some, licensed_both, messages_on, moments_whole, oldest_channel, queue, queue_is, refl, so_far, steps_whole, subst, sym, takings, takings_more, true, undelivered, ℕ, ◌++◌, ◌∙◌, ◌∷◌, ◌≡◌, ◌≢◌}
 use Rattle.vm_model.specs.declared.command.Command.TheVariants as command
 use Rattle.vm_model.specs.declared.event.Event.TheVariants as event
 use Rattle.vm_ports.specs.Ports.{oldest as oldest_on}
@@ -130,6 +130,15 @@ foremost made (p ∷ posted) [] past number same is = absurd same
 foremost made (p ∷ posted) (letter ∷ letters) past number same is =
     let one : p.channel ≡ number = cc in
     record { letter = letter; more = letters; is = refl; at = same.0 ∙ ap (λ (z : ChannelId). Some z.0) one }
+
+-- and so something is undelivered
+pub some_left : (header : Header) (outside : Outside) (number : ChannelId) (s now : State) → s ≡ now → SystemStands header outside now
+    → oldest_on s.ports.letters ≡ Some number → undelivered now.history.items ≢ []
+some_left header outside number s now same stands is none =
+    let at : oldest_on now.ports.letters ≡ Some number = subst (λ (z : State). oldest_on z.ports.letters ≡ Some number) same is in
+    let f = foremost now.channels.made now.ports.letters (undelivered now.history.items) now.history.items number stands.agrees.posts.letters at in
+    let both : f.letter ∷ f.more ≡ [] = sym f.is ∙ none in
+    absurd (cc)
 
 -- where no letter stands in the ports, nothing is undelivered
 pub none_left : (made : List Channel) (posted : List (Posted ℕ)) (letters : List Letter) (past : List Event) → AreSame made posted letters past → posted ≡ [] → letters ≡ []

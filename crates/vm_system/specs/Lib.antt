@@ -1,3 +1,4 @@
+pub mod Backed
 pub mod Channels
 pub mod Flat
 pub mod Keeping

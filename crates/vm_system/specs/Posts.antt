@@ -65,6 +65,12 @@ abbrev pub CanTellAll : ℕ → List Event → List Event → Type 0
 CanTellAll size [] past = Unit {0}
 CanTellAll size (e ∷ events) past = CanTell size e (events ++ past) × CanTellAll size events past
 
+-- an event can be told behind these, at this index
+pub record MayPost (e : Event) (index : ℕ) (past : List Event) (s : State) : Type 0 where
+  pub posts : Posts s past
+  pub can : CanTell s.size e past
+  pub at : index ≡ length past
+
 -- kernels and pagers are as they were
 pub record SameHosts (old new : State) : Type 0 where
   pub size : new.size ≡ old.size

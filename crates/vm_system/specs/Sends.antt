@@ -48,14 +48,14 @@ pub record HasSent (channel : Channel) (index : ℕ) (old new : State) : Type 0 
   pub history : new.history ≡ old.history
   pub hosts : SameHosts old new
 
--- a message, of which the next event tells, was sent with the channels that it makes
-pub record Delivered (channel : Channel) (m : Message) (old new : State) : Type 0 where
+-- a message, of which the event with this index tells, was sent with the channels that it makes
+pub record Delivered (channel : Channel) (m : Message) (index : ℕ) (old new : State) : Type 0 where
   pub made : new.channels.made ≡ old.channels.made ++ made_by old.channels.made channel m
   pub count : new.ports.channels ≡ old.ports.channels + length (made_by old.channels.made channel m)
   pub room : old.channels.room ≤ new.channels.room + length (made_by old.channels.made channel m)
   pub number : ChannelId
   pub is : channel_number channel new.channels.made ≡ Some number.0
-  pub letters : new.ports.letters ≡ old.ports.letters ++ record { channel = number; message = length old.history.items } ∷ []
+  pub letters : new.ports.letters ≡ old.ports.letters ++ record { channel = number; message = index } ∷ []
   pub letter_room : old.ports.room ≤ new.ports.room + 1
   pub buffers : new.buffers ≡ old.buffers
   pub history : new.history ≡ old.history

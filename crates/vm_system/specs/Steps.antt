@@ -130,9 +130,10 @@ arms device.Paging (command.FailPaging count) = Some count
 arms who other = None
 
 -- what a command leaves of a backing's arming: `fail` arms it, and else only a pager's call changes it
-pub record LeavesBacking {B : Type 0} (header : Header) (who : Device) (doing : Command) (old new : Arming B) : Type 0 where
+pub record LeavesBacking {B : Type 0} (header : Header) (who : Device) (doing : Command) (history : List Event) (old new : Arming B) : Type 0 where
   pub armed : (count : ℕ) → arms who doing ≡ Some count → new ≡ record { inner = old.inner; left = count; reached = old.reached }
   pub same : arms who doing ≡ None → takes_up header who doing ≡ false → new ≡ old
+  pub asked : arms who doing ≡ None → took_up header who history ≡ false → new ≡ old
 
 -- the command is no host's
 abbrev pub is_idle : Command → Bool

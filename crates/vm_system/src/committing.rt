@@ -1,5 +1,6 @@
 // Events are told, and the messages that they tell of are sent.
-ghost use Rattle.std.specs.Prelude.{◌≡◌, ◌≢◌, ◌+◌, ◌<◌, ◌≤◌, ◌∷◌, ◌++◌, [], ℕ, true, Option, None, Some, is_some, length, slice_get, OnOk};
+ghost use Rattle.std.specs.Prelude.{◌≡◌, ◌≢◌, ◌+◌, ◌<◌, ◌≤◌, ◌∷◌, ◌++◌, [], ℕ, List, true, Option, None, Some, is_some, length, slice_get, OnOk};
+ghost use Rattle.vm_model.specs.declared.event.Event.{Event};
 ghost use Rattle.vm_model.specs.declared.event.Event.TheVariants as event;
 ghost use Rattle.vm_model.specs.Channels.{queue};
 ghost use Rattle.vm_model.specs.Server.{first};
@@ -7,7 +8,7 @@ ghost use Rattle.vm_model.specs.declared.message.Channel.{Channel};
 ghost use Rattle.vm_model.specs.declared.message.Message.{Message};
 ghost use Rattle.vm_ports.specs.Ports.{spare_channels};
 ghost use Rattle.vm_system.specs.Channels.{channel_number};
-ghost use Rattle.vm_system.specs.Posts.{CanTell, CanTellAll, HasRoom, IsPrepared, IsSent, OnlyRoom, Posts, SameHosts};
+ghost use Rattle.vm_system.specs.Posts.{CanTell, CanTellAll, HasRoom, IsPrepared, IsSent, MayPost, OnlyRoom, Posts, SameHosts};
 ghost use Rattle.vm_system.specs.Sends.{Added, AreFresh, Delivered, HasSent, SameLetters, made_by};
 ghost use Rattle.vm_system.specs.Steps.{lined};
 
@@ -88,9 +89,13 @@ impl State {
         ensures empty { events.new.items ≡ [] }
         ensures room { (n : ℕ) → HasRoom (n + length events.old.items) self.old → HasRoom n self.new }
     {
-        'all: while let Some(event) = events.take_first() {
-            self.tell(event);
+        'all: for i in 0..events.len() {
+            let index = self.history.index_behind(i);
+            self.post(events.at(i), index);
         }
+        let Ok(()) = self.history.append(events) else {
+            unreachable!()
+        };
     }
 
     // Tells one event, for which there is room.
@@ -103,19 +108,19 @@ impl State {
         ensures history { self.new.history.items ≡ event ∷ self.old.history.items }
         ensures room { (n : ℕ) → HasRoom (n + 1) self.old → HasRoom n self.new }
     {
-        self.post(&event);
+        let index = self.history.len();
+        self.post(&event, index);
         let Ok(()) = self.history.push(event) else {
             unreachable!()
         };
     }
 
-    // Sends the message that an event tells of, if it tells of one.
+    // Sends the message that an event tells of, if it tells of one; the event is to stand at an index of the history.
     #[tactic(auto, using(crate::proofs::Posting::posts_other))]
-    fn post(&mut self, event: &Event)
-        requires posts { Posts self.old self.old.history.items }
-        requires can { CanTell self.old.size event.now self.old.history.items }
+    fn post(&mut self, event: &Event, index: u32)
+        requires can { (past : List Event) × MayPost event.now index past self.old }
         requires room { HasRoom 1 self.old }
-        ensures posts { Posts self.new (event.now ∷ self.old.history.items) }
+        ensures posts { (past : List Event) → MayPost event.now index past self.old → Posts self.new (event.now ∷ past) }
         ensures hosts { SameHosts self.old self.new }
         ensures history { self.new.history ≡ self.old.history }
         ensures room { (n : ℕ) → HasRoom (n + 1) self.old → HasRoom n self.new }
@@ -123,19 +128,18 @@ impl State {
         let Event::Sent { channel, message } = event else {
             return;
         };
-        self.deliver(*channel, message);
+        self.deliver(*channel, message, index);
     }
 
-    // Sends the message of the next event on its channel, which it may make if it is an init or a create.
-    fn deliver(&mut self, channel: Channel, message: &Message)
+    // Sends the message of the event with an index on its channel, which it may make if it is an init or a create.
+    fn deliver(&mut self, channel: Channel, message: &Message, index: u32)
         requires fresh { AreFresh (made_by self.old.channels.made channel message.now) self.old.channels.made }
         requires known { is_some (channel_number channel (self.old.channels.made ++ made_by self.old.channels.made channel message.now)) ≡ true }
         requires count { length self.old.channels.made ≡ self.old.ports.channels }
         requires room { HasRoom 1 self.old }
-        ensures { Delivered channel message.now self.old self.new }
+        ensures { Delivered channel message.now index self.old self.new }
     {
         self.open(channel, message);
-        let index = self.history.len();
         self.send(channel, index);
     }
 

@@ -3,13 +3,13 @@ ghost use Rattle.std.specs.Prelude.{◌≡◌, ◌≢◌, ◌+◌, ◌<◌, ◌�
 ghost use Rattle.vm_model.specs.Limits.{most_events};
 ghost use Rattle.vm_model.specs.declared.event.Device.TheVariants as device;
 ghost use Rattle.vm_outside.specs.Areas.{Told};
-ghost use Rattle.vm_system.specs.Keeping.{FilesCarry};
 ghost use Rattle.vm_legal.specs.Steps.{takings};
 ghost use Rattle.vm_legal.specs.Undelivered.{undelivered};
 ghost use Rattle.vm_hosts.specs.Steps.{Step};
+ghost use Rattle.vm_system.specs.Backed.{BackingWent, BackingsFit};
 ghost use Rattle.vm_system.specs.Resting.{LeavesAtRest};
-ghost use Rattle.vm_system.specs.Settling.{DevicesCounted, HasLeft, StaysOpen};
-ghost use Rattle.vm_system.specs.Stands.{FilesAreKept, PagingIsKept, SystemStands};
+ghost use Rattle.vm_system.specs.Settling.{HasLeft, StaysOpen};
+ghost use Rattle.vm_system.specs.Stands.{SystemStands};
 ghost use Rattle.vm_system.specs.Steps.{GrowsWithinLimit};
 
 use crate::stop::SystemStop;
@@ -30,8 +30,7 @@ pub fn settle<F: Backing, P: Backing>(
 ) -> Result<u32, SystemStop>
     ghost given: { Step }
     requires stands { SystemStands given.header given.outside system.old }
-    requires kept { PagingIsKept given.header given.outside (P.area paging.old.inner) system.old }
-    requires files { FilesAreKept given.header given.outside (F.area files.old.inner) system.old }
+    requires backings { (start : List ℕ → Told) × BackingsFit given.header given.outside start (F.area files.old.inner) (P.area paging.old.inner) system.old }
     requires left { HasLeft given.command n system.old.history.items }
     ensures stands { OnOk result (SystemStands given.header given.outside system.new) }
     ensures legal { OnOk result (StaysOpen given.header given.outside given.command system.old.history.items system.new.history.items) }
@@ -43,13 +42,9 @@ pub fn settle<F: Backing, P: Backing>(
     ensures full { IsErrOf result SystemStop.EventLimit → (most_events ≤ length system.new.history.items) × (undelivered system.new.history.items ≢ []) }
     ensures left { IsErrOf result SystemStop.EventLimit → takings system.new.history.items < takings system.old.history.items + n }
     ensures stood { OnErr result (SystemStands given.header given.outside system.new × StaysOpen given.header given.outside given.command system.old.history.items system.new.history.items × LeavesAtRest given.header system.old.history.items system.new.history.items) }
-    ensures kept { PagingIsKept given.header given.outside (P.area paging.new.inner) system.new }
-    ensures files_kept { FilesAreKept given.header given.outside (F.area files.new.inner) system.new }
-    ensures carried { (start : List ℕ → Told) → FilesCarry given.header start (F.area files.old.inner) system.old.history.items → FilesCarry given.header start (F.area files.new.inner) system.new.history.items }
-    ensures files_later { ⟦<Armed<F> as Backing>⟧.later files.old files.new }
-    ensures later { ⟦<Armed<P> as Backing>⟧.later paging.old paging.new }
-    ensures devices { DevicesCounted device.Paging (⟦<Armed<P> as Backing>⟧.faults paging.old) (⟦<Armed<P> as Backing>⟧.faults paging.new) system.old.history.items system.new.history.items }
-    ensures files_devices { DevicesCounted device.Files (⟦<Armed<F> as Backing>⟧.faults files.old) (⟦<Armed<F> as Backing>⟧.faults files.new) system.old.history.items system.new.history.items }
+    ensures backings { (start : List ℕ → Told) → BackingsFit given.header given.outside start (F.area files.old.inner) (P.area paging.old.inner) system.old → BackingsFit given.header given.outside start (F.area files.new.inner) (P.area paging.new.inner) system.new }
+    ensures files_went { BackingWent device.Files (⟦<Armed<F> as Backing>⟧.later files.old files.new) (⟦<Armed<F> as Backing>⟧.faults files.old) (⟦<Armed<F> as Backing>⟧.faults files.new) system.old.history.items system.new.history.items }
+    ensures paging_went { BackingWent device.Paging (⟦<Armed<P> as Backing>⟧.later paging.old paging.new) (⟦<Armed<P> as Backing>⟧.faults paging.old) (⟦<Armed<P> as Backing>⟧.faults paging.new) system.old.history.items system.new.history.items }
 {
     'all: for taken in 0..n {
         match system.take_oldest(files, paging) {

@@ -10,6 +10,7 @@ ghost use Rattle.vm_model.specs.declared.script.Header.{Header};
 ghost use Rattle.vm_legal.specs.Undelivered.{undelivered};
 ghost use Rattle.vm_model.specs.declared.event.Device.TheVariants as device;
 ghost use Rattle.vm_outside.specs.Areas.{Told};
+ghost use Rattle.vm_system.specs.Backed.{BackingGoes, BackingsFit};
 ghost use Rattle.vm_system.specs.Keeping.{FilesAreTold, FilesCarry};
 ghost use Rattle.vm_outside.specs.Arming.{KeepsArming, ReachesOne};
 ghost use Rattle.vm_model.specs.declared.event.Event.TheVariants as event;
@@ -20,7 +21,7 @@ ghost use Rattle.vm_model.specs.Named.{named};
 ghost use Rattle.vm_hosts.specs.Steps.{Step};
 ghost use Rattle.vm_system.specs.Resting.{LeavesAtRest};
 ghost use Rattle.vm_system.specs.Stands.{AllFilesServe, AllTold, AreEmpty, AreNumbered, FilesAreKept, IsServable, PagingIsKept, SystemStands};
-ghost use Rattle.vm_system.specs.Steps.{DevicesHaveCause, GrowsWithinLimit, HasMore, KeepsCanonical, KeepsOpen, LeavesBacking, Setting, arms, takes_any, took_up};
+ghost use Rattle.vm_system.specs.Steps.{GrowsWithinLimit, HasMore, KeepsCanonical, KeepsOpen, LeavesBacking, Setting, arms, takes_any, took_up};
 
 use crate::channels::Channels;
 use crate::state::State;
@@ -110,8 +111,7 @@ impl System {
     ) -> Result<u32, SystemStop>
         ghost given: { Setting }
         requires stands { SystemStands given.header given.outside self.old }
-        requires kept { PagingIsKept given.header given.outside (P.area paging.old.inner) self.old }
-        requires files { FilesAreKept given.header given.outside (F.area files.old.inner) self.old }
+        requires backings { (start : List ℕ → Told) × BackingsFit given.header given.outside start (F.area files.old.inner) (P.area paging.old.inner) self.old }
         requires range { InRange given.header command.now }
         ensures stands { OnOk result (SystemStands given.header given.outside self.new) }
         ensures legal { OnOk result (KeepsCanonical given.header given.outside (record { line = line; command = command.now }) self.old.history.items self.new.history.items) }
@@ -123,23 +123,17 @@ impl System {
         ensures front { OnOk result (before_last_line self.new.history.items ≡ self.old.history.items) }
         ensures unchanged { IsErrOf result SystemStop.EventLimit → (self.new ≡ self.old) × (files.new ≡ files.old) × (paging.new ≡ paging.old) }
         ensures refused { IsErrOf result SystemStop.NoMemory → SystemStands given.header given.outside self.new × ((self.new.history.items ≡ self.old.history.items) × (KeepsArming files.old files.new × KeepsArming paging.old paging.new)) }
-        ensures kept { PagingIsKept given.header given.outside (P.area paging.new.inner) self.new }
-        ensures files_kept { FilesAreKept given.header given.outside (F.area files.new.inner) self.new }
-        ensures carried { (start : List ℕ → Told) → FilesCarry given.header start (F.area files.old.inner) self.old.history.items → FilesCarry given.header start (F.area files.new.inner) self.new.history.items }
+        ensures backings { (start : List ℕ → Told) → BackingsFit given.header given.outside start (F.area files.old.inner) (P.area paging.old.inner) self.old → BackingsFit given.header given.outside start (F.area files.new.inner) (P.area paging.new.inner) self.new }
         ensures alone { OnOk result ((count : ℕ) → command.now ≡ Command.Settle count → self.new.history.items ≡ event.Line line ∷ self.old.history.items) }
 
         // The backings; at an error all is as it was, unless the command takes a message that goes to a pager, which may have asked its own.
-        ensures files { OnOk result (LeavesBacking given.header device.Files command.now files.old files.new) }
-        ensures paging { OnOk result (LeavesBacking given.header device.Paging command.now paging.old paging.new) }
-        ensures files_unasked { OnOk result (arms device.Files command.now ≡ None → took_up given.header device.Files self.new.history.items ≡ false → files.new ≡ files.old) }
-        ensures unasked { OnOk result (arms device.Paging command.now ≡ None → took_up given.header device.Paging self.new.history.items ≡ false → paging.new ≡ paging.old) }
-        ensures files_later { arms device.Files command.now ≡ None → ⟦<Armed<F> as Backing>⟧.later files.old files.new }
-        ensures later { arms device.Paging command.now ≡ None → ⟦<Armed<P> as Backing>⟧.later paging.old paging.new }
+        ensures files { OnOk result (LeavesBacking given.header device.Files command.now self.new.history.items files.old files.new) }
+        ensures paging { OnOk result (LeavesBacking given.header device.Paging command.now self.new.history.items paging.old paging.new) }
         ensures files_reached { ReachesOne files.old files.new }
         ensures reached { ReachesOne paging.old paging.new }
         ensures calm { OnErr result (takes_any command.now ≡ false → (self.new.history.items ≡ self.old.history.items) × (files.new ≡ files.old) × (paging.new ≡ paging.old)) }
-        ensures devices { DevicesHaveCause device.Paging (⟦<Armed<P> as Backing>⟧.faults paging.old) (⟦<Armed<P> as Backing>⟧.faults paging.new) self.old.history.items self.new.history.items }
-        ensures files_devices { DevicesHaveCause device.Files (⟦<Armed<F> as Backing>⟧.faults files.old) (⟦<Armed<F> as Backing>⟧.faults files.new) self.old.history.items self.new.history.items }
+        ensures files_go { BackingGoes device.Files (arms device.Files command.now ≡ None → ⟦<Armed<F> as Backing>⟧.later files.old files.new) (⟦<Armed<F> as Backing>⟧.faults files.old) (⟦<Armed<F> as Backing>⟧.faults files.new) self.old.history.items self.new.history.items }
+        ensures paging_goes { BackingGoes device.Paging (arms device.Paging command.now ≡ None → ⟦<Armed<P> as Backing>⟧.later paging.old paging.new) (⟦<Armed<P> as Backing>⟧.faults paging.old) (⟦<Armed<P> as Backing>⟧.faults paging.new) self.old.history.items self.new.history.items }
     {
         if self.is_full() {
             return Err(SystemStop::EventLimit);
@@ -161,8 +155,7 @@ impl System {
     ) -> Result<bool, SystemStop>
         ghost given: { Step }
         requires stands { SystemStands given.header given.outside self.old }
-        requires kept { PagingIsKept given.header given.outside (P.area paging.old.inner) self.old }
-        requires files { FilesAreKept given.header given.outside (F.area files.old.inner) self.old }
+        requires backings { (start : List ℕ → Told) × BackingsFit given.header given.outside start (F.area files.old.inner) (P.area paging.old.inner) self.old }
         requires past { given.past ≡ self.old.history.items }
         requires more { HasMore given.command self.old.history.items }
         ensures stands { OnOk result (SystemStands given.header given.outside self.new) }
@@ -180,15 +173,11 @@ impl System {
         ensures full { IsErrOf result SystemStop.EventLimit ↔ ((most_events ≤ length self.old.history.items) × (undelivered self.old.history.items ≢ [])) }
         ensures unchanged { IsErrOf result SystemStop.EventLimit → (self.new ≡ self.old) × (files.new ≡ files.old) × (paging.new ≡ paging.old) }
         ensures refused { IsErrOf result SystemStop.NoMemory → SystemStands given.header given.outside self.new × ((self.new.history.items ≡ self.old.history.items) × (KeepsArming files.old files.new × KeepsArming paging.old paging.new)) }
-        ensures kept { PagingIsKept given.header given.outside (P.area paging.new.inner) self.new }
-        ensures files_kept { FilesAreKept given.header given.outside (F.area files.new.inner) self.new }
-        ensures carried { (start : List ℕ → Told) → FilesCarry given.header start (F.area files.old.inner) self.old.history.items → FilesCarry given.header start (F.area files.new.inner) self.new.history.items }
-        ensures files_later { ⟦<Armed<F> as Backing>⟧.later files.old files.new }
-        ensures later { ⟦<Armed<P> as Backing>⟧.later paging.old paging.new }
+        ensures backings { (start : List ℕ → Told) → BackingsFit given.header given.outside start (F.area files.old.inner) (P.area paging.old.inner) self.old → BackingsFit given.header given.outside start (F.area files.new.inner) (P.area paging.new.inner) self.new }
         ensures files_reached { ReachesOne files.old files.new }
         ensures reached { ReachesOne paging.old paging.new }
-        ensures devices { DevicesHaveCause device.Paging (⟦<Armed<P> as Backing>⟧.faults paging.old) (⟦<Armed<P> as Backing>⟧.faults paging.new) self.old.history.items self.new.history.items }
-        ensures files_devices { DevicesHaveCause device.Files (⟦<Armed<F> as Backing>⟧.faults files.old) (⟦<Armed<F> as Backing>⟧.faults files.new) self.old.history.items self.new.history.items }
+        ensures files_go { BackingGoes device.Files (⟦<Armed<F> as Backing>⟧.later files.old files.new) (⟦<Armed<F> as Backing>⟧.faults files.old) (⟦<Armed<F> as Backing>⟧.faults files.new) self.old.history.items self.new.history.items }
+        ensures paging_goes { BackingGoes device.Paging (⟦<Armed<P> as Backing>⟧.later paging.old paging.new) (⟦<Armed<P> as Backing>⟧.faults paging.old) (⟦<Armed<P> as Backing>⟧.faults paging.new) self.old.history.items self.new.history.items }
     {
         let Some(number) = self.state.ports.oldest() else {
             return Ok(false);

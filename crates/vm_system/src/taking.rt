@@ -5,6 +5,7 @@ ghost use Rattle.vm_model.specs.declared.message.Channel.{Channel};
 ghost use Rattle.vm_model.specs.declared.message.Channel.TheVariants as channels;
 ghost use Rattle.vm_model.specs.declared.event.Device.TheVariants as device;
 ghost use Rattle.vm_outside.specs.Areas.{Told};
+ghost use Rattle.vm_system.specs.Backed.{BackingGoes, BackingsFit};
 ghost use Rattle.vm_system.specs.Keeping.{FilesCarry};
 ghost use Rattle.vm_model.specs.Channels.{queue};
 ghost use Rattle.vm_model.specs.Named.{named};
@@ -21,7 +22,7 @@ ghost use Rattle.vm_system.specs.Stands.{FilesAreKept, PagingIsKept, StandsStill
 ghost use Rattle.vm_legal.specs.Homes.{gives_frame};
 ghost use Rattle.vm_legal.specs.Outside.{is_file, is_shared, is_wild, kind_of};
 ghost use Rattle.vm_hosts.specs.Steps.{Going, Step};
-ghost use Rattle.vm_system.specs.Steps.{DevicesHaveCause, takes_up};
+ghost use Rattle.vm_system.specs.Steps.{takes_up};
 ghost use Rattle.vm_system.specs.Takings.{Followed, MayTakeFrom, PagerHasAnswered, Took};
 
 use crate::committing::sent;
@@ -52,20 +53,15 @@ impl State {
     ) -> Result<(), NoMemory>
         ghost given: { Step }
         requires may { (channel : Channel) × MayTakeFrom given line number channel self.old }
-        requires kept { PagingIsKept given.header given.outside (P.area paging.old.inner) self.old }
-        requires files { FilesAreKept given.header given.outside (F.area files.old.inner) self.old }
+        requires backings { (start : List ℕ → Told) × BackingsFit given.header given.outside start (F.area files.old.inner) (P.area paging.old.inner) self.old }
         ensures took { OnOk result (Took given self.new) }
         ensures err { OnErr result (StandsStill given.header given.outside self.old self.new) }
-        ensures kept { PagingIsKept given.header given.outside (P.area paging.new.inner) self.new }
-        ensures files_kept { FilesAreKept given.header given.outside (F.area files.new.inner) self.new }
-        ensures carried { (start : List ℕ → Told) → FilesCarry given.header start (F.area files.old.inner) self.old.history.items → FilesCarry given.header start (F.area files.new.inner) self.new.history.items }
-        ensures devices { DevicesHaveCause device.Paging (⟦<Armed<P> as Backing>⟧.faults paging.old) (⟦<Armed<P> as Backing>⟧.faults paging.new) self.old.history.items self.new.history.items }
-        ensures files_devices { DevicesHaveCause device.Files (⟦<Armed<F> as Backing>⟧.faults files.old) (⟦<Armed<F> as Backing>⟧.faults files.new) self.old.history.items self.new.history.items }
+        ensures backings { (start : List ℕ → Told) → BackingsFit given.header given.outside start (F.area files.old.inner) (P.area paging.old.inner) self.old → BackingsFit given.header given.outside start (F.area files.new.inner) (P.area paging.new.inner) self.new }
         ensures paging { (channel : Channel) → slice_get self.old.channels.made number.0 ≡ Some channel → takes_up given.header device.Paging (command.Take channel) ≡ false → paging.new ≡ paging.old }
         ensures files { (channel : Channel) → slice_get self.old.channels.made number.0 ≡ Some channel → takes_up given.header device.Files (command.Take channel) ≡ false → files.new ≡ files.old }
         ensures unmoved { OnErr result (KeepsArming files.old files.new × KeepsArming paging.old paging.new) }
-        ensures later { ⟦<Armed<P> as Backing>⟧.later paging.old paging.new }
-        ensures files_later { ⟦<Armed<F> as Backing>⟧.later files.old files.new }
+        ensures files_go { BackingGoes device.Files (⟦<Armed<F> as Backing>⟧.later files.old files.new) (⟦<Armed<F> as Backing>⟧.faults files.old) (⟦<Armed<F> as Backing>⟧.faults files.new) self.old.history.items self.new.history.items }
+        ensures paging_goes { BackingGoes device.Paging (⟦<Armed<P> as Backing>⟧.later paging.old paging.new) (⟦<Armed<P> as Backing>⟧.faults paging.old) (⟦<Armed<P> as Backing>⟧.faults paging.new) self.old.history.items self.new.history.items }
     {
         let channel = self.channels.channel(number);
         match channel {
@@ -120,20 +116,15 @@ impl State {
     ) -> Result<(), NoMemory>
         ghost given: { Step }
         requires may { MayTakeFrom given line number (channels.Up host object) self.old }
-        requires kept { PagingIsKept given.header given.outside (P.area paging.old.inner) self.old }
-        requires files { FilesAreKept given.header given.outside (F.area files.old.inner) self.old }
+        requires backings { (start : List ℕ → Told) × BackingsFit given.header given.outside start (F.area files.old.inner) (P.area paging.old.inner) self.old }
         ensures took { OnOk result (Took given self.new) }
         ensures err { OnErr result (StandsStill given.header given.outside self.old self.new) }
-        ensures kept { PagingIsKept given.header given.outside (P.area paging.new.inner) self.new }
-        ensures files_kept { FilesAreKept given.header given.outside (F.area files.new.inner) self.new }
-        ensures carried { (start : List ℕ → Told) → FilesCarry given.header start (F.area files.old.inner) self.old.history.items → FilesCarry given.header start (F.area files.new.inner) self.new.history.items }
-        ensures devices { DevicesHaveCause device.Paging (⟦<Armed<P> as Backing>⟧.faults paging.old) (⟦<Armed<P> as Backing>⟧.faults paging.new) self.old.history.items self.new.history.items }
-        ensures files_devices { DevicesHaveCause device.Files (⟦<Armed<F> as Backing>⟧.faults files.old) (⟦<Armed<F> as Backing>⟧.faults files.new) self.old.history.items self.new.history.items }
+        ensures backings { (start : List ℕ → Told) → BackingsFit given.header given.outside start (F.area files.old.inner) (P.area paging.old.inner) self.old → BackingsFit given.header given.outside start (F.area files.new.inner) (P.area paging.new.inner) self.new }
         ensures paging { takes_up given.header device.Paging (command.Take (channels.Up host object)) ≡ false → paging.new ≡ paging.old }
         ensures files { takes_up given.header device.Files (command.Take (channels.Up host object)) ≡ false → files.new ≡ files.old }
         ensures unmoved { OnErr result (KeepsArming files.old files.new × KeepsArming paging.old paging.new) }
-        ensures later { ⟦<Armed<P> as Backing>⟧.later paging.old paging.new }
-        ensures files_later { ⟦<Armed<F> as Backing>⟧.later files.old files.new }
+        ensures files_go { BackingGoes device.Files (⟦<Armed<F> as Backing>⟧.later files.old files.new) (⟦<Armed<F> as Backing>⟧.faults files.old) (⟦<Armed<F> as Backing>⟧.faults files.new) self.old.history.items self.new.history.items }
+        ensures paging_goes { BackingGoes device.Paging (⟦<Armed<P> as Backing>⟧.later paging.old paging.new) (⟦<Armed<P> as Backing>⟧.faults paging.old) (⟦<Armed<P> as Backing>⟧.faults paging.new) self.old.history.items self.new.history.items }
     {
         match self.kind(object) {
             ObjectKind::Temp => self.take_paged(line, number, host, object, paging),
@@ -171,10 +162,9 @@ impl State {
         ensures took { OnOk result (Took given self.new) }
         ensures err { OnErr result (StandsStill given.header given.outside self.old self.new) }
         ensures kept { PagingIsKept given.header given.outside (P.area paging.new.inner) self.new }
-        ensures devices { DevicesHaveCause device.Paging (⟦<Armed<P> as Backing>⟧.faults paging.old) (⟦<Armed<P> as Backing>⟧.faults paging.new) self.old.history.items self.new.history.items }
         ensures spares { SparesFiles given.header given.outside self.old self.new }
         ensures unmoved { OnErr result (KeepsArming paging.old paging.new) }
-        ensures later { ⟦<Armed<P> as Backing>⟧.later paging.old paging.new }
+        ensures paging_goes { BackingGoes device.Paging (⟦<Armed<P> as Backing>⟧.later paging.old paging.new) (⟦<Armed<P> as Backing>⟧.faults paging.old) (⟦<Armed<P> as Backing>⟧.faults paging.new) self.old.history.items self.new.history.items }
     {
         self.prepare(Breadth::Few, 4)?;
         let Some(index) = self.ports.head(number) else {
@@ -207,10 +197,9 @@ impl State {
         ensures err { OnErr result (StandsStill given.header given.outside self.old self.new) }
         ensures files_kept { FilesAreKept given.header given.outside (F.area files.new.inner) self.new }
         ensures carried { (start : List ℕ → Told) → FilesCarry given.header start (F.area files.old.inner) self.old.history.items → FilesCarry given.header start (F.area files.new.inner) self.new.history.items }
-        ensures files_devices { DevicesHaveCause device.Files (⟦<Armed<F> as Backing>⟧.faults files.old) (⟦<Armed<F> as Backing>⟧.faults files.new) self.old.history.items self.new.history.items }
         ensures spares { SparesPaging given.header given.outside self.old self.new }
         ensures unmoved { OnErr result (KeepsArming files.old files.new) }
-        ensures files_later { ⟦<Armed<F> as Backing>⟧.later files.old files.new }
+        ensures files_go { BackingGoes device.Files (⟦<Armed<F> as Backing>⟧.later files.old files.new) (⟦<Armed<F> as Backing>⟧.faults files.old) (⟦<Armed<F> as Backing>⟧.faults files.new) self.old.history.items self.new.history.items }
     {
         self.prepare(Breadth::Few, 4)?;
         let Some(index) = self.ports.head(number) else {

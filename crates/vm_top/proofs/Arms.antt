@@ -101,15 +101,15 @@ backing_behind header who n run old_h new_h start old new unarmed later un was =
     backing_later header who run (n ∷ run) old_h new_h start old new (last_none (arms who) n run unarmed) (armings_none (arms who) n run unarmed) later un was
 
 -- a command's step
-pub backing_step : {B : Type 0} (header : Header) (who : Device) (n : Numbered) (run : List Numbered) (old_h new_h : List Event) (start old new : Arming B) → InRange header n.command → LeavesBacking header who n.command old new
-    → (arms who n.command ≡ None → ArmedLater old.left old.reached new.left new.reached) → (arms who n.command ≡ None → took_up header who new_h ≡ false → new ≡ old)
+pub backing_step : {B : Type 0} (header : Header) (who : Device) (n : Numbered) (run : List Numbered) (old_h new_h : List Event) (start old new : Arming B) → InRange header n.command → LeavesBacking header who n.command new_h old new
+    → (arms who n.command ≡ None → ArmedLater old.left old.reached new.left new.reached)
     → before_last_line new_h ≡ old_h → BackingRuns header who run old_h start old → BackingRuns header who (n ∷ run) new_h start new
-backing_step header who n run old_h new_h start old new range leaves later unasked front was = by_arming (arms who n.command) refl
+backing_step header who n run old_h new_h start old new range leaves later front was = by_arming (arms who n.command) refl
   where
     by_arming : (a : Option ℕ) → arms who n.command ≡ a → BackingRuns header who (n ∷ run) new_h start new
     by_arming None is =
         backing_behind header who n run old_h new_h start old new is (later is)
-        (λ un. let both = untouched_line header who n run new_h old_h is front un in (ap (λ z. z.left) (unasked is both.0), both.1)) was
+        (λ un. let both = untouched_line header who n run new_h old_h is front un in (ap (λ z. z.left) (leaves.asked is both.0), both.1)) was
     by_arming (Some count) is = backing_armed header who n run old_h new_h start old new count is (arms_some header who n.command count is range) (leaves.armed count is) was
 
 -- a taking of a settle

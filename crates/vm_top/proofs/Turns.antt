@@ -1,5 +1,5 @@
 -- A command's step keeps what a run keeps, or stops it.
-use Rattle.std.proofs.Common.{◌≡◌, ℕ, ◌+◌, ◌-◌, ◌<◌, ◌≤◌, ◌⊎◌, inl, inr, List, [], ◌∷◌, ◌++◌, length, reverse, slice_get, take, false, Option, Some, None, Err, refl, ap, sym, ◌∙◌, subst, arith, append_assoc, append-nil}
+use Rattle.std.proofs.Common.{◌≡◌, ℕ, ◌+◌, ◌-◌, ◌<◌, ◌≤◌, ◌⊎◌, inl, inr, List, [], ◌∷◌, ◌++◌, length, reverse, slice_get, take, Option, Some, None, Err, refl, ap, sym, ◌∙◌, subst, arith, append_assoc, append-nil}
 use Rattle.std.specs.Prelude.{IsErrOf}
 use Rattle.std.specs.Io.KnownBytes.{Appends}
 use Rattle.std.proofs.KnownBytes.{Appends-nil}
@@ -21,7 +21,7 @@ use Rattle.vm_legal.specs.Outside.{Outside}
 use Rattle.vm_legal.specs.Steps.{takings}
 use Rattle.vm_legal.proofs.Turns.{legal_of, open_in_turn}
 use Rattle.vm_outside.specs.Arming.{Arming, ArmedLater, KeepsArming}
-use Rattle.vm_system.specs.Steps.{DevicesHaveCause, GrowsWithinLimit, IsNextCanonical, KeepsCanonical, LeavesBacking, CanonicalOpen, IsBelowLimit, arms, settles, took_up}
+use Rattle.vm_system.specs.Steps.{DevicesHaveCause, GrowsWithinLimit, IsNextCanonical, KeepsCanonical, LeavesBacking, CanonicalOpen, IsBelowLimit, arms, settles}
 use Rattle.vm_system.specs.declared.stop.SystemStop.{SystemStop}
 use Rattle.vm_system.specs.declared.stop.SystemStop.TheVariants as stops
 use Rattle.vm_top.specs.Arming.{BackingLeft, FailuresCounted, ran_of}
@@ -39,9 +39,8 @@ use Rattle.vm_top.proofs.Writings.{front_start, oldest_step, start_all}
 
 -- what a command's step does to a backing
 pub record BackingStep {B : Type 0} (header : Header) (who : Device) (n : Numbered) (new : List Event) (before after : Arming B) : Type 0 where
-  pub leaves : LeavesBacking header who n.command before after
+  pub leaves : LeavesBacking header who n.command new before after
   pub later : arms who n.command ≡ None → ArmedLater before.left before.reached after.left after.reached
-  pub unasked : arms who n.command ≡ None → took_up header who new ≡ false → after ≡ before
 
 -- what a command's step does, where it is made
 pub record Stepped {F P : Type 0} (header : Header) (outside : Outside) (n : Numbered) (old new : List Event) (f0 f1 : Arming F) (p0 p1 : Arming P) (e0 e1 : FaultCounts) : Type 0 where
@@ -81,8 +80,8 @@ made {F = F} {P = P} report given n old new was f0 f1 p0 p1 e0 e1 runs follows r
     let next = step.legal run runs.legal in
     let lines = lines_step given.script.header given.outside n run old new step.front next in
     let here : ran_of given.script new ≡ n ∷ run = ap (λ z. oldest_items z given.script.commands.items) lines ∙ follows in
-    let files = backing_step given.script.header device.Files n run old new given.files f0 f1 range step.files.leaves step.files.later step.files.unasked step.front runs.keeps.arms.files in
-    let paging = backing_step given.script.header device.Paging n run old new given.paging p0 p1 range step.paging.leaves step.paging.later step.paging.unasked step.front runs.keeps.arms.paging in
+    let files = backing_step given.script.header device.Files n run old new given.files f0 f1 range step.files.leaves step.files.later step.front runs.keeps.arms.files in
+    let paging = backing_step given.script.header device.Paging n run old new given.paging p0 p1 range step.paging.leaves step.paging.later step.front runs.keeps.arms.paging in
     record {
       lines = lines;
       here = here;

@@ -11,12 +11,8 @@ use Rattle.vm_model.specs.declared.script.Script.{Script}
 use Rattle.vm_model.specs.Summary.{count_of, is_line}
 use Rattle.vm_legal.specs.Legal.{CanonicalFor}
 use Rattle.vm_legal.specs.Outside.{Outside}
-use Rattle.vm_outside.specs.Areas.{Told}
 use Rattle.vm_outside.specs.Arming.{Arming}
 use Rattle.vm_outside.specs.Causes.{next_count}
-use Rattle.vm_system.specs.Keeping.{FilesCarry}
-use Rattle.vm_system.specs.Stands.{FilesAreKept, PagingIsKept}
-use Rattle.vm_system.specs.declared.state.State.{State}
 use Rattle.vm_system.specs.Steps.{IsBelowLimit, IsNextCanonical, CanonicalOpen}
 use Rattle.vm_top.specs.Arming.{BackingLeft, FailuresCounted, ran_of}
 use Rattle.vm_top.specs.Run.{RanAs, text_so_far}
@@ -97,10 +93,3 @@ pub record RunStops {F P : Type 0} (report : Report) (given : Running F P) (hist
   pub below : IsBelowLimit history
   pub arms : Arms given history f p
   pub failed : (who : Device) → FailuresCounted who (counted who given.faults) (counted who faults) history
-
--- What the backings tell fits the system: each page that was returned and not lost stands at its slot, the pagers know what their files have, and each declared file has
--- what was returned, and else what it had at the start.
-pub record BackingsFit (header : Header) (outside : Outside) (start files paging : List ℕ → Told) (system : State) : Type 0 where
-  pub kept : PagingIsKept header outside paging system
-  pub files_kept : FilesAreKept header outside files system
-  pub carried : FilesCarry header start files system.history.items

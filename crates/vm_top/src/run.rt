@@ -10,12 +10,13 @@ ghost use Rattle.vm_model.specs.declared.event.Device.TheVariants as device;
 ghost use Rattle.vm_legal.specs.Steps.{takings};
 ghost use Rattle.vm_legal.specs.Undelivered.{undelivered};
 ghost use Rattle.vm_outside.specs.Causes.{CountRises};
+ghost use Rattle.vm_system.specs.Backed.{BackingsFit};
 ghost use Rattle.vm_system.specs.Keeping.{FilesCarry, PagingKeepsPages};
 ghost use Rattle.vm_system.specs.Stands.{SystemStands};
 ghost use Rattle.vm_system.specs.Steps.{HasMore, IsBelowLimit};
 ghost use Rattle.vm_top.specs.Run.{IsRunnable, RanAs, outside_of, text_so_far};
 ghost use Rattle.vm_top.specs.Always.{BackingKept};
-ghost use Rattle.vm_top.specs.Running.{BackingsFit, IsBetweenCommands, IsNextOf, RunStops, RunTaking, Running, Settles, Turned};
+ghost use Rattle.vm_top.specs.Running.{IsBetweenCommands, IsNextOf, RunStops, RunTaking, Running, Settles, Turned};
 ghost use Rattle.vm_top.specs.Writing.{WroteBeyond, oldest_items};
 
 use crate::render::write_step;

@@ -1,8 +1,9 @@
-use Rattle.vm_system.proofs.Common.{Event, EventLimit, GrowsWithinLimit, List, Prompt, State, StaysOpen, SystemStands, ap, arith, armed_later_more, subst, sym, takings, ◌∙◌, ◌≡◌}
+use Rattle.vm_system.proofs.Common.{Event, EventLimit, GrowsWithinLimit, List, Prompt, State, StaysOpen, SystemStands, ap, arith, subst, sym, takings, ◌∙◌, ◌≡◌}
 use Rattle.vm_model.specs.declared.event.Device.TheVariants as device
+use Rattle.vm_system.proofs.Backed.{went_more}
 use Rattle.vm_system.proofs.Growth.{grew_more}
 use Rattle.vm_system.proofs.Resting.{left_at_rest}
-use Rattle.vm_system.proofs.Settled.{by_stop, counted_more, grew_stop, other_err, stays_more}
+use Rattle.vm_system.proofs.Settled.{by_stop, grew_stop, other_err, stays_more}
 use Rattle.vm_system.specs.Resting.{LeavesAtRest}
 use Rattle.vm_system.proofs.settling.settle.Goals as goal
 
@@ -36,59 +37,47 @@ returns-in-Ok-false-clause-rests g c =
 pub returns-clause-rests : goal.returns-clause-rests
 returns-clause-rests g c = left_at_rest g.given.header g.given.outside c.args.system.now.history.items c.all.system c.all.invariant.stands c.all.invariant.prompt
 
-pub returns-in-Err-clause-later : goal.returns-in-Err-clause-later
-returns-in-Err-clause-later g c =
-    let first = c.all.invariant.later in
-    let more = c.take_oldest.ensures.later in
-    (g.met.P.Backing.later_more c.args.paging.now.inner c.all.paging.inner c.take_oldest.new.paging.inner first.0 more.0, armed_later_more _ _ _ _ _ _ first.1 more.1)
+pub returns-in-Err-clause-files_went : goal.returns-in-Err-clause-files_went
+returns-in-Err-clause-files_went g c =
+    went_more device.Files g.F.Backing.later g.F.Backing.faults c.args.files.now c.all.files c.take_oldest.new.files _ _ _ g.met.F.Backing.later_more
+    c.all.invariant.grew c.take_oldest.ensures.grew c.all.invariant.files_went c.take_oldest.ensures.files_go
 
-pub returns-in-Err-clause-files_later : goal.returns-in-Err-clause-files_later
-returns-in-Err-clause-files_later g c =
-    let first = c.all.invariant.files_later in
-    let more = c.take_oldest.ensures.files_later in
-    (g.met.F.Backing.later_more c.args.files.now.inner c.all.files.inner c.take_oldest.new.files.inner first.0 more.0, armed_later_more _ _ _ _ _ _ first.1 more.1)
+pub returns-in-Err-clause-paging_went : goal.returns-in-Err-clause-paging_went
+returns-in-Err-clause-paging_went g c =
+    went_more device.Paging g.P.Backing.later g.P.Backing.faults c.args.paging.now c.all.paging c.take_oldest.new.paging _ _ _ g.met.P.Backing.later_more
+    c.all.invariant.grew c.take_oldest.ensures.grew c.all.invariant.paging_went c.take_oldest.ensures.paging_goes
 
-pub returns-in-Ok-false-clause-later : goal.returns-in-Ok-false-clause-later
-returns-in-Ok-false-clause-later g c =
-    let first = c.all.invariant.later in
-    let more = c.take_oldest.ensures.later in
-    (g.met.P.Backing.later_more c.args.paging.now.inner c.all.paging.inner c.take_oldest.new.paging.inner first.0 more.0, armed_later_more _ _ _ _ _ _ first.1 more.1)
+pub returns-in-Ok-false-clause-files_went : goal.returns-in-Ok-false-clause-files_went
+returns-in-Ok-false-clause-files_went g c =
+    went_more device.Files g.F.Backing.later g.F.Backing.faults c.args.files.now c.all.files c.take_oldest.new.files _ _ _ g.met.F.Backing.later_more
+    c.all.invariant.grew c.take_oldest.ensures.grew c.all.invariant.files_went c.take_oldest.ensures.files_go
 
-pub returns-in-Ok-false-clause-files_later : goal.returns-in-Ok-false-clause-files_later
-returns-in-Ok-false-clause-files_later g c =
-    let first = c.all.invariant.files_later in
-    let more = c.take_oldest.ensures.files_later in
-    (g.met.F.Backing.later_more c.args.files.now.inner c.all.files.inner c.take_oldest.new.files.inner first.0 more.0, armed_later_more _ _ _ _ _ _ first.1 more.1)
+pub returns-in-Ok-false-clause-paging_went : goal.returns-in-Ok-false-clause-paging_went
+returns-in-Ok-false-clause-paging_went g c =
+    went_more device.Paging g.P.Backing.later g.P.Backing.faults c.args.paging.now c.all.paging c.take_oldest.new.paging _ _ _ g.met.P.Backing.later_more
+    c.all.invariant.grew c.take_oldest.ensures.grew c.all.invariant.paging_went c.take_oldest.ensures.paging_goes
 
 pub returns-in-Ok-false-clause-count : goal.returns-in-Ok-false-clause-count
 returns-in-Ok-false-clause-count g c = ap (λ (z : State). takings z.history.items) (c.in-Ok-false.ensures.quiet c.in-Ok-false.field-0-test).1 ∙ c.all.invariant.count
-
-pub returns-in-Ok-false-clause-carried : goal.returns-in-Ok-false-clause-carried
-returns-in-Ok-false-clause-carried g c = λ start carry. c.take_oldest.ensures.carried start (c.all.invariant.carried start carry)
-
-pub returns-in-Err-clause-carried : goal.returns-in-Err-clause-carried
-returns-in-Err-clause-carried g c = λ start carry. c.take_oldest.ensures.carried start (c.all.invariant.carried start carry)
 
 pub all-preserved : goal.all-preserved
 all-preserved g c =
     let taking = c.in-Ok-true.ensures in
     let took = c.in-Ok-true.field-0-test in
     let before = c.all.invariant in
-    let more = c.take_oldest.ensures.later in
-    let files_more = c.take_oldest.ensures.files_later in
     record {
       stands = taking.stands;
-      kept = c.take_oldest.ensures.kept;
-      files_kept = c.take_oldest.ensures.files_kept;
-      carried = λ start carry. c.take_oldest.ensures.carried start (before.carried start carry);
+      backings = λ start fit. c.take_oldest.ensures.backings start (before.backings start fit);
       legal = stays_more g.given.header g.given.outside g.given.command c.args.system.now.history.items c.all.system.history.items c.take_oldest.new.self.history.items before.legal (taking.legal took);
       prompt = λ first. taking.rests.prompt (before.prompt first);
       count = omega (arith, taking.count took, before.count);
       grew = grew_more c.args.system.now.history.items c.all.system.history.items c.take_oldest.new.self.history.items before.grew c.take_oldest.ensures.grew (taking.below took);
-      devices = counted_more device.Paging _ _ _ c.args.system.now.history.items c.all.system.history.items c.take_oldest.new.self.history.items before.grew c.take_oldest.ensures.grew before.devices c.take_oldest.ensures.devices;
-      files_devices = counted_more device.Files _ _ _ c.args.system.now.history.items c.all.system.history.items c.take_oldest.new.self.history.items before.grew c.take_oldest.ensures.grew before.files_devices c.take_oldest.ensures.files_devices;
-      later = (g.met.P.Backing.later_more c.args.paging.now.inner c.all.paging.inner c.take_oldest.new.paging.inner before.later.0 more.0, armed_later_more _ _ _ _ _ _ before.later.1 more.1);
-      files_later = (g.met.F.Backing.later_more c.args.files.now.inner c.all.files.inner c.take_oldest.new.files.inner before.files_later.0 files_more.0, armed_later_more _ _ _ _ _ _ before.files_later.1 files_more.1);
+      files_went =
+          went_more device.Files g.F.Backing.later g.F.Backing.faults c.args.files.now c.all.files c.take_oldest.new.files _ _ _ g.met.F.Backing.later_more
+          c.all.invariant.grew c.take_oldest.ensures.grew c.all.invariant.files_went c.take_oldest.ensures.files_go;
+      paging_went =
+          went_more device.Paging g.P.Backing.later g.P.Backing.faults c.args.paging.now c.all.paging c.take_oldest.new.paging _ _ _ g.met.P.Backing.later_more
+          c.all.invariant.grew c.take_oldest.ensures.grew c.all.invariant.paging_went c.take_oldest.ensures.paging_goes;
     }
 
 pub returns-in-Ok-false-clause-grew : goal.returns-in-Ok-false-clause-grew
@@ -107,15 +96,3 @@ returns-in-Err-clause-left g c = λ full.
     let same = (c.in-Err.ensures.unchanged (other_err c.in-Err.stop EventLimit full)).0 in
     let count : takings c.take_oldest.new.self.history.items ≡ takings c.all.system.history.items = ap (λ (z : State). takings z.history.items) same in
     omega (arith, count, c.all.invariant.count, c.all-test.true)
-
-pub returns-in-Err-clause-devices : goal.returns-in-Err-clause-devices
-returns-in-Err-clause-devices g c = counted_more device.Paging _ _ _ c.args.system.now.history.items c.all.system.history.items c.take_oldest.new.self.history.items c.all.invariant.grew c.take_oldest.ensures.grew c.all.invariant.devices c.take_oldest.ensures.devices
-
-pub returns-in-Err-clause-files_devices : goal.returns-in-Err-clause-files_devices
-returns-in-Err-clause-files_devices g c = counted_more device.Files _ _ _ c.args.system.now.history.items c.all.system.history.items c.take_oldest.new.self.history.items c.all.invariant.grew c.take_oldest.ensures.grew c.all.invariant.files_devices c.take_oldest.ensures.files_devices
-
-pub returns-in-Ok-false-clause-devices : goal.returns-in-Ok-false-clause-devices
-returns-in-Ok-false-clause-devices g c = counted_more device.Paging _ _ _ c.args.system.now.history.items c.all.system.history.items c.take_oldest.new.self.history.items c.all.invariant.grew c.take_oldest.ensures.grew c.all.invariant.devices c.take_oldest.ensures.devices
-
-pub returns-in-Ok-false-clause-files_devices : goal.returns-in-Ok-false-clause-files_devices
-returns-in-Ok-false-clause-files_devices g c = counted_more device.Files _ _ _ c.args.system.now.history.items c.all.system.history.items c.take_oldest.new.self.history.items c.all.invariant.grew c.take_oldest.ensures.grew c.all.invariant.files_devices c.take_oldest.ensures.files_devices

@@ -1,8 +1,9 @@
 use Rattle.std.proofs.Common.{◌≡◌, ◌≤◌}
 use Rattle.vm_model.specs.Summary.{count_of, is_line}
 use Rattle.vm_outside.specs.Causes.{sum_count}
+use Rattle.vm_system.specs.Backed.{BackingsFit}
 use Rattle.vm_system.specs.Stands.{SystemStands}
-use Rattle.vm_top.specs.Running.{BackingsFit, IsBetweenCommands}
+use Rattle.vm_top.specs.Running.{IsBetweenCommands}
 use Rattle.vm_top.proofs.run.run_all.Given as goal
 
 abbrev pub ghost-run_one : goal.ghost-run_one

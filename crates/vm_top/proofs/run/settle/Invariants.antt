@@ -2,8 +2,9 @@ use Rattle.std.proofs.Common.{◌≡◌, ◌≤◌}
 use Rattle.vm_legal.specs.Steps.{takings}
 use Rattle.vm_model.specs.Summary.{count_of, is_line}
 use Rattle.vm_outside.specs.Causes.{sum_count}
+use Rattle.vm_system.specs.Backed.{BackingsFit}
 use Rattle.vm_system.specs.Stands.{SystemStands}
-use Rattle.vm_top.specs.Running.{BackingsFit, Settles}
+use Rattle.vm_top.specs.Running.{Settles}
 use Rattle.vm_top.proofs.run.settle.Given as goal
 
 abbrev pub ghost-take_one : goal.ghost-take_one

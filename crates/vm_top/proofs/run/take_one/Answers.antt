@@ -27,9 +27,9 @@ returns-in_err-show-in-Ok-true-clause-stops g c = λ end is.
       grew = all.grew;
       front = (rw is_true at all.front) refl;
       below = (rw is_true at all.below) refl;
-      files = record { later = all.files_later.1; unasked = (rw is_true at all.files_unasked) refl };
-      paging = record { later = all.later.1; unasked = (rw is_true at all.unasked) refl };
-      devices = of_both (λ who. DevicesHaveCause who (counted who e0) (counted who e1) old new) all.files_devices all.devices;
+      files = record { later = all.files_go.later.1; unasked = (rw is_true at all.files_unasked) refl };
+      paging = record { later = all.paging_goes.later.1; unasked = (rw is_true at all.unasked) refl };
+      devices = of_both (λ who. DevicesHaveCause who (counted who e0) (counted who e1) old new) all.files_go.devices all.paging_goes.devices;
     } in
     let done = held c.args.report g.given old new (g.K.Sink.written c.args.out.now) c.args.files.now c.take_oldest.new.files c.args.paging.now c.take_oldest.new.paging e0 e1 settles took in
     let from : oldest_items c.len-from.result new ≡ old = oldest_before new all.grew.more old c.len-from.result (c.len-from.ensures ∙ ap (λ z. length z.items) c.history.ensures) all.grew.is in
@@ -57,9 +57,9 @@ returns-in_ok-show-in-Ok-true-clause-settles g c =
       grew = all.grew;
       front = (rw is_true at all.front) refl;
       below = (rw is_true at all.below) refl;
-      files = record { later = all.files_later.1; unasked = (rw is_true at all.files_unasked) refl };
-      paging = record { later = all.later.1; unasked = (rw is_true at all.unasked) refl };
-      devices = of_both (λ who. DevicesHaveCause who (counted who e0) (counted who e1) old new) all.files_devices all.devices;
+      files = record { later = all.files_go.later.1; unasked = (rw is_true at all.files_unasked) refl };
+      paging = record { later = all.paging_goes.later.1; unasked = (rw is_true at all.unasked) refl };
+      devices = of_both (λ who. DevicesHaveCause who (counted who e0) (counted who e1) old new) all.files_go.devices all.paging_goes.devices;
     } in
     let done = held c.args.report g.given old new (g.K.Sink.written c.args.out.now) c.args.files.now c.take_oldest.new.files c.args.paging.now c.take_oldest.new.paging e0 e1 settles took in
     let from : oldest_items c.len-from.result new ≡ old = oldest_before new all.grew.more old c.len-from.result (c.len-from.ensures ∙ ap (λ z. length z.items) c.history.ensures) all.grew.is in
@@ -81,9 +81,9 @@ returns-in_ok-show-in-Ok-true-clause-more g c = λ yes.
       grew = all.grew;
       front = (rw is_true at all.front) refl;
       below = (rw is_true at all.below) refl;
-      files = record { later = all.files_later.1; unasked = (rw is_true at all.files_unasked) refl };
-      paging = record { later = all.later.1; unasked = (rw is_true at all.unasked) refl };
-      devices = of_both (λ who. DevicesHaveCause who (counted who e0) (counted who e1) old new) all.files_devices all.devices;
+      files = record { later = all.files_go.later.1; unasked = (rw is_true at all.files_unasked) refl };
+      paging = record { later = all.paging_goes.later.1; unasked = (rw is_true at all.unasked) refl };
+      devices = of_both (λ who. DevicesHaveCause who (counted who e0) (counted who e1) old new) all.files_go.devices all.paging_goes.devices;
     } in
     let done = held c.args.report g.given old new (g.K.Sink.written c.args.out.now) c.args.files.now c.take_oldest.new.files c.args.paging.now c.take_oldest.new.paging e0 e1 settles took in
     done.legal.more
@@ -102,12 +102,15 @@ returns-in_ok-show-in-Ok-true-clause-lines g c =
       grew = all.grew;
       front = (rw is_true at all.front) refl;
       below = (rw is_true at all.below) refl;
-      files = record { later = all.files_later.1; unasked = (rw is_true at all.files_unasked) refl };
-      paging = record { later = all.later.1; unasked = (rw is_true at all.unasked) refl };
-      devices = of_both (λ who. DevicesHaveCause who (counted who e0) (counted who e1) old new) all.files_devices all.devices;
+      files = record { later = all.files_go.later.1; unasked = (rw is_true at all.files_unasked) refl };
+      paging = record { later = all.paging_goes.later.1; unasked = (rw is_true at all.unasked) refl };
+      devices = of_both (λ who. DevicesHaveCause who (counted who e0) (counted who e1) old new) all.files_go.devices all.paging_goes.devices;
     } in
     let done = held c.args.report g.given old new (g.K.Sink.written c.args.out.now) c.args.files.now c.take_oldest.new.files c.args.paging.now c.take_oldest.new.paging e0 e1 settles took in
     done.lines
+
+pub returns-in-Ok-false-clause-settles : goal.returns-in-Ok-false-clause-settles
+returns-in-Ok-false-clause-settles g c = let same = c.in-Ok-false.ensures.quiet c.in-Ok-false.field-0-test in rw (same.1, same.2, same.3) c.requires.1.1.1.1.1.0
 
 pub returns-in-Err-clause-stops : goal.returns-in-Err-clause-stops
 returns-in-Err-clause-stops g c = λ end is.
@@ -133,18 +136,9 @@ returns-in-Err-clause-stops g c = λ end is.
           (let refused = all.refused (err ∙ ap Err none.0) in
           take_stops c.args.report g.given old new written c.args.files.now c.take_oldest.new.files c.args.paging.now c.take_oldest.new.paging e0 e1
           c.requires.1.1.1.1.1.0 all.grew refused.1.0 refused.1.1.0 refused.1.1.1
-          (of_both (λ who. DevicesHaveCause who (counted who e0) (counted who e1) old new) all.files_devices all.devices))
+          (of_both (λ who. DevicesHaveCause who (counted who e0) (counted who e1) old new) all.files_go.devices all.paging_goes.devices))
     ] in
     stop
 
 pub returns-in-Err-clause-cause : goal.returns-in-Err-clause-cause
 returns-in-Err-clause-cause g c = λ is. absurd (step_wrote c.in-Err.stop c.end_of.result c.end_of.ensures.full c.end_of.ensures.none (same_end is))
-
-pub returns-in_err-show-in-Ok-true-clause-backings : goal.returns-in_err-show-in-Ok-true-clause-backings
-returns-in_err-show-in-Ok-true-clause-backings g c = record { kept = c.take_oldest.ensures.kept; files_kept = c.take_oldest.ensures.files_kept; carried = c.take_oldest.ensures.carried (g.F.Backing.area g.given.running.files.inner) c.requires.1.1.1.1.0.carried }
-
-pub returns-in_ok-show-in-Ok-true-clause-backings : goal.returns-in_ok-show-in-Ok-true-clause-backings
-returns-in_ok-show-in-Ok-true-clause-backings g c = record { kept = c.take_oldest.ensures.kept; files_kept = c.take_oldest.ensures.files_kept; carried = c.take_oldest.ensures.carried (g.F.Backing.area g.given.running.files.inner) c.requires.1.1.1.1.0.carried }
-
-pub returns-in-Err-clause-backings : goal.returns-in-Err-clause-backings
-returns-in-Err-clause-backings g c = record { kept = c.take_oldest.ensures.kept; files_kept = c.take_oldest.ensures.files_kept; carried = c.take_oldest.ensures.carried (g.F.Backing.area g.given.running.files.inner) c.requires.1.1.1.1.0.carried }

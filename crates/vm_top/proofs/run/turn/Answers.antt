@@ -27,7 +27,7 @@ returns-in-Err-clause-stops g c = λ end is.
           subst (RunStops c.args.report g.given new (g.K.Sink.written c.args.out.now) c.step.new.files c.step.new.paging e1) (sym none.1)
           (let refused = step.refused (c.in-Err.is ∙ ap Err none.0) in
           step_stops c.args.report g.given old new (g.K.Sink.written c.args.out.now) c.args.files.now c.step.new.files c.args.paging.now c.step.new.paging e0 e1
-          c.requires.1.1.1.1.1.1.1.0 step.grew refused.1.0 refused.1.1.0 refused.1.1.1 (of_both (λ who. DevicesHaveCause who (counted who e0) (counted who e1) old new) step.files_devices step.devices))
+          c.requires.1.1.1.1.1.1.1.0 step.grew refused.1.0 refused.1.1.0 refused.1.1.1 (of_both (λ who. DevicesHaveCause who (counted who e0) (counted who e1) old new) step.files_go.devices step.paging_goes.devices))
     ] in
     stop
 
@@ -43,9 +43,9 @@ returns-in_err-show-clause-stops g c = λ end is.
       legal = step.legal;
       grew = step.grew;
       front = step.front;
-      files = record { leaves = step.files; later = λ none. (step.files_later none).1; unasked = step.files_unasked };
-      paging = record { leaves = step.paging; later = λ none. (step.later none).1; unasked = step.unasked };
-      devices = of_both (λ who. DevicesHaveCause who (counted who e0) (counted who e1) old new) step.files_devices step.devices;
+      files = record { leaves = step.files; later = λ none. (step.files_go.later none).1 };
+      paging = record { leaves = step.paging; later = λ none. (step.paging_goes.later none).1 };
+      devices = of_both (λ who. DevicesHaveCause who (counted who e0) (counted who e1) old new) step.files_go.devices step.paging_goes.devices;
     } in
     let done = made c.args.report g.given c.args.numbered.now old new (g.K.Sink.written c.args.out.now) c.args.files.now c.step.new.files c.args.paging.now c.step.new.paging e0 e1
     runs c.requires.1.1.1.1.1.1.1.1 c.requires.1.1.1.1.1.0 c.requires.1.1.1.1.1.1.0 stepped in
@@ -71,9 +71,9 @@ returns-clause-turned g c =
       legal = step.legal;
       grew = step.grew;
       front = step.front;
-      files = record { leaves = step.files; later = λ none. (step.files_later none).1; unasked = step.files_unasked };
-      paging = record { leaves = step.paging; later = λ none. (step.later none).1; unasked = step.unasked };
-      devices = of_both (λ who. DevicesHaveCause who (counted who e0) (counted who e1) old new) step.files_devices step.devices;
+      files = record { leaves = step.files; later = λ none. (step.files_go.later none).1 };
+      paging = record { leaves = step.paging; later = λ none. (step.paging_goes.later none).1 };
+      devices = of_both (λ who. DevicesHaveCause who (counted who e0) (counted who e1) old new) step.files_go.devices step.paging_goes.devices;
     } in
     let done = made c.args.report g.given c.args.numbered.now old new (g.K.Sink.written c.args.out.now) c.args.files.now c.step.new.files c.args.paging.now c.step.new.paging e0 e1
     runs c.requires.1.1.1.1.1.1.1.1 c.requires.1.1.1.1.1.0 c.requires.1.1.1.1.1.1.0 stepped in
@@ -93,9 +93,9 @@ returns-clause-lines g c =
       legal = step.legal;
       grew = step.grew;
       front = step.front;
-      files = record { leaves = step.files; later = λ none. (step.files_later none).1; unasked = step.files_unasked };
-      paging = record { leaves = step.paging; later = λ none. (step.later none).1; unasked = step.unasked };
-      devices = of_both (λ who. DevicesHaveCause who (counted who e0) (counted who e1) old new) step.files_devices step.devices;
+      files = record { leaves = step.files; later = λ none. (step.files_go.later none).1 };
+      paging = record { leaves = step.paging; later = λ none. (step.paging_goes.later none).1 };
+      devices = of_both (λ who. DevicesHaveCause who (counted who e0) (counted who e1) old new) step.files_go.devices step.paging_goes.devices;
     } in
     let done = made c.args.report g.given c.args.numbered.now old new (g.K.Sink.written c.args.out.now) c.args.files.now c.step.new.files c.args.paging.now c.step.new.paging e0 e1
     runs c.requires.1.1.1.1.1.1.1.1 c.requires.1.1.1.1.1.0 c.requires.1.1.1.1.1.1.0 stepped in
@@ -103,12 +103,3 @@ returns-clause-lines g c =
 
 pub returns-in-Err-clause-cause : goal.returns-in-Err-clause-cause
 returns-in-Err-clause-cause g c = λ is. absurd (step_wrote c.in-Err.stop c.end_of.result c.end_of.ensures.full c.end_of.ensures.none (same_end is))
-
-pub returns-in-Err-clause-backings : goal.returns-in-Err-clause-backings
-returns-in-Err-clause-backings g c = record { kept = c.step.ensures.kept; files_kept = c.step.ensures.files_kept; carried = c.step.ensures.carried (g.F.Backing.area g.given.files.inner) c.requires.1.1.1.1.0.carried }
-
-pub returns-in_err-show-clause-backings : goal.returns-in_err-show-clause-backings
-returns-in_err-show-clause-backings g c = record { kept = c.step.ensures.kept; files_kept = c.step.ensures.files_kept; carried = c.step.ensures.carried (g.F.Backing.area g.given.files.inner) c.requires.1.1.1.1.0.carried }
-
-pub returns-clause-backings : goal.returns-clause-backings
-returns-clause-backings g c = record { kept = c.step.ensures.kept; files_kept = c.step.ensures.files_kept; carried = c.step.ensures.carried (g.F.Backing.area g.given.files.inner) c.requires.1.1.1.1.0.carried }

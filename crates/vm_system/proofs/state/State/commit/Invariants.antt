@@ -1,15 +1,13 @@
-use Rattle.vm_system.proofs.Common.{CanTellAll, HasRoom, Posts, SameHosts, length, ℕ, ◌++◌, ◌+◌, ◌≡◌}
+use Rattle.std.specs.Prelude.{drop, take}
+use Rattle.vm_system.proofs.Common.{CanTellAll, Event, HasRoom, List, Posts, SameHosts, length, reverse, ℕ, ◌++◌, ◌+◌, ◌≡◌}
+use Rattle.vm_system.proofs.Posting.{told}
 use Rattle.vm_system.proofs.state.State.commit.Given as goal
 
 abbrev pub invariant-all : goal.invariant-all
 invariant-all l = record {
-  posts : Posts l.self l.self.history.items;
-  can : CanTellAll l.self.size l.events.items l.self.history.items;
-  room : HasRoom (length l.events.items) l.self;
-  rest : (n : ℕ) → HasRoom (n + length l.fn.events.items) l.fn.self → HasRoom (n + length l.events.items) l.self;
+  posts : Posts l.self (told l.i l.fn.events.items l.self.history.items);
+  can : CanTellAll l.self.size (reverse (drop l.i (reverse l.fn.events.items))) (told l.i l.fn.events.items l.self.history.items);
+  rest : (n : ℕ) → HasRoom (n + length l.fn.events.items) l.fn.self → HasRoom (n + length (drop l.i (reverse l.fn.events.items))) l.self;
   hosts : SameHosts l.fn.self l.self;
-  history : l.events.items ++ l.self.history.items ≡ l.fn.events.items ++ l.fn.self.history.items;
+  history : l.self.history ≡ l.fn.self.history;
 }
-
-abbrev pub decreases-all : goal.decreases-all
-decreases-all l = length l.events.items

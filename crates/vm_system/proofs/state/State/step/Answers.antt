@@ -1,6 +1,7 @@
-use Rattle.vm_system.proofs.Common.{Command, Makes, None, Some, ap, armed_later_same, arms, false, none-some, on_err_weaker, on_ok_weaker, refl, refusal, subst, sym, takes_any, ◌∙◌, ◌≡◌}
+use Rattle.vm_system.proofs.Common.{Command, Makes, None, Some, ap, arms, false, none-some, on_err_weaker, on_ok_weaker, refl, refusal, subst, sym, takes_any, ◌∙◌, ◌≡◌}
 use Rattle.vm_model.specs.declared.command.Command.TheVariants as command
 use Rattle.vm_model.specs.declared.event.Device.TheVariants as device
+use Rattle.vm_system.proofs.Backed.{fit_spared, goes_still, still}
 use Rattle.vm_system.proofs.Beginning.{arms_none, arms_refused, causes_same, leaves_armed, leaves_same, leaves_taken_by, on_either, settle_refused}
 use Rattle.vm_system.proofs.Growth.{grew_none}
 use Rattle.vm_system.proofs.state.State.step.Goals as goal
@@ -15,19 +16,13 @@ returns-in-Some g c =
       grew = on_either c.refuse.result (λ made. made.grew) (λ still. grew_none _ _ still.1) c.refuse.ensures.made c.refuse.ensures.err;
       err = c.refuse.ensures.err;
       unmoved = on_err_weaker c.refuse.result (λ still. ((refl, refl), (refl, refl))) c.refuse.ensures.err;
-      kept = c.refuse.ensures.spares.paging.kept (g.P.Backing.area c.args.paging.now.inner) c.requires.1.1.1.0;
-      files_kept = c.refuse.ensures.spares.files.kept (g.F.Backing.area c.args.files.now.inner) c.requires.1.1.1.1.0;
-      carried = λ start carry. c.refuse.ensures.spares.files.carried start (g.F.Backing.area c.args.files.now.inner) carry;
+      backings = λ start fit. fit_spared _ _ start _ _ _ _ c.refuse.ensures.spares fit;
       alone = on_ok_weaker c.refuse.result (λ made count is. absurd (settle_refused g.given.header c.args.self.now.history.items c.args.command.now c.in-Some.code refused count is)) c.refuse.ensures.made;
-      files = on_ok_weaker c.refuse.result (λ made. leaves_same g.given.header device.Files c.args.command.now c.args.files.now unarmed_files) c.refuse.ensures.made;
-      paging = on_ok_weaker c.refuse.result (λ made. leaves_same g.given.header device.Paging c.args.command.now c.args.paging.now unarmed_paging) c.refuse.ensures.made;
-      files_unasked = on_ok_weaker c.refuse.result (λ made unarmed none. refl) c.refuse.ensures.made;
-      unasked = on_ok_weaker c.refuse.result (λ made unarmed none. refl) c.refuse.ensures.made;
-      files_later = λ unarmed. (g.met.F.Backing.later_same c.args.files.now.inner, armed_later_same c.args.files.now.left c.args.files.now.reached);
-      later = λ unarmed. (g.met.P.Backing.later_same c.args.paging.now.inner, armed_later_same c.args.paging.now.left c.args.paging.now.reached);
+      files = on_ok_weaker c.refuse.result (λ made. leaves_same g.given.header device.Files c.args.command.now _ c.args.files.now unarmed_files) c.refuse.ensures.made;
+      paging = on_ok_weaker c.refuse.result (λ made. leaves_same g.given.header device.Paging c.args.command.now _ c.args.paging.now unarmed_paging) c.refuse.ensures.made;
       calm = on_err_weaker c.refuse.result (λ still up. (still.1, refl, refl)) c.refuse.ensures.err;
-      devices = causes_same _ _ _ _ c.refuse.ensures.spares.paging.devices;
-      files_devices = causes_same _ _ _ _ c.refuse.ensures.spares.files.devices;
+      files_go = goes_still _ _ _ _ (λ unarmed. still g.F.Backing.later g.met.F.Backing.later_same c.args.files.now) c.refuse.ensures.spares.files.devices;
+      paging_goes = goes_still _ _ _ _ (λ unarmed. still g.P.Backing.later g.met.P.Backing.later_same c.args.paging.now) c.refuse.ensures.spares.paging.devices;
     }
 
 pub returns-in-Take : goal.returns-in-Take
@@ -37,19 +32,13 @@ returns-in-Take g c =
       grew = c.take_from.ensures.grew;
       err = c.take_from.ensures.err;
       unmoved = c.take_from.ensures.unmoved;
-      kept = c.take_from.ensures.kept;
-      files_kept = c.take_from.ensures.files_kept;
-      carried = c.take_from.ensures.carried;
+      backings = c.take_from.ensures.backings;
       alone = on_ok_weaker c.take_from.result (λ made count same. absurd (let bad : command.Take c.in-Take.channel ≡ command.Settle count = sym c.in-Take.is ∙ same in cc)) c.take_from.ensures.made;
-      files = on_ok_weaker c.take_from.result (λ made. leaves_taken_by g.given.header device.Files c.args.command.now c.in-Take.channel _ _ c.in-Take.is c.take_from.ensures.files) c.take_from.ensures.made;
-      paging = on_ok_weaker c.take_from.result (λ made. leaves_taken_by g.given.header device.Paging c.args.command.now c.in-Take.channel _ _ c.in-Take.is c.take_from.ensures.paging) c.take_from.ensures.made;
-      files_unasked = on_ok_weaker c.take_from.result (λ unasked unarmed none. unasked none) c.take_from.ensures.files_unasked;
-      unasked = on_ok_weaker c.take_from.result (λ unasked unarmed none. unasked none) c.take_from.ensures.unasked;
-      files_later = λ unarmed. c.take_from.ensures.files_later;
-      later = λ unarmed. c.take_from.ensures.later;
+      files = on_ok_weaker c.take_from.result (λ asked. leaves_taken_by g.given.header device.Files c.args.command.now c.in-Take.channel _ _ _ c.in-Take.is c.take_from.ensures.files asked) c.take_from.ensures.files_unasked;
+      paging = on_ok_weaker c.take_from.result (λ asked. leaves_taken_by g.given.header device.Paging c.args.command.now c.in-Take.channel _ _ _ c.in-Take.is c.take_from.ensures.paging asked) c.take_from.ensures.unasked;
       calm = on_err_weaker c.take_from.result (λ calm down. calm (subst (λ (z : Command). takes_any z ≡ false) c.in-Take.is down)) c.take_from.ensures.calm;
-      devices = c.take_from.ensures.devices;
-      files_devices = c.take_from.ensures.files_devices;
+      files_go = record { later = λ unarmed. c.take_from.ensures.files_go.later; devices = c.take_from.ensures.files_go.devices };
+      paging_goes = record { later = λ unarmed. c.take_from.ensures.paging_goes.later; devices = c.take_from.ensures.paging_goes.devices };
     }
 
 pub returns-in-Settle : goal.returns-in-Settle
@@ -61,19 +50,13 @@ returns-in-Settle g c =
       grew = on_either c.settle.result (λ made. made.grew) (λ still. grew_none _ _ still.1) c.settle.ensures.made c.settle.ensures.err;
       err = c.settle.ensures.err;
       unmoved = on_err_weaker c.settle.result (λ still. ((refl, refl), (refl, refl))) c.settle.ensures.err;
-      kept = c.settle.ensures.spares.paging.kept (g.P.Backing.area c.args.paging.now.inner) c.requires.1.1.1.0;
-      files_kept = c.settle.ensures.spares.files.kept (g.F.Backing.area c.args.files.now.inner) c.requires.1.1.1.1.0;
-      carried = λ start carry. c.settle.ensures.spares.files.carried start (g.F.Backing.area c.args.files.now.inner) carry;
+      backings = λ start fit. fit_spared _ _ start _ _ _ _ c.settle.ensures.spares fit;
       alone = on_ok_weaker c.settle.result (λ line count is. line) c.settle.ensures.line;
-      files = on_ok_weaker c.settle.result (λ made. leaves_same g.given.header device.Files c.args.command.now c.args.files.now unarmed_files) c.settle.ensures.made;
-      paging = on_ok_weaker c.settle.result (λ made. leaves_same g.given.header device.Paging c.args.command.now c.args.paging.now unarmed_paging) c.settle.ensures.made;
-      files_unasked = on_ok_weaker c.settle.result (λ made unarmed none. refl) c.settle.ensures.made;
-      unasked = on_ok_weaker c.settle.result (λ made unarmed none. refl) c.settle.ensures.made;
-      files_later = λ unarmed. (g.met.F.Backing.later_same c.args.files.now.inner, armed_later_same c.args.files.now.left c.args.files.now.reached);
-      later = λ unarmed. (g.met.P.Backing.later_same c.args.paging.now.inner, armed_later_same c.args.paging.now.left c.args.paging.now.reached);
+      files = on_ok_weaker c.settle.result (λ made. leaves_same g.given.header device.Files c.args.command.now _ c.args.files.now unarmed_files) c.settle.ensures.made;
+      paging = on_ok_weaker c.settle.result (λ made. leaves_same g.given.header device.Paging c.args.command.now _ c.args.paging.now unarmed_paging) c.settle.ensures.made;
       calm = on_err_weaker c.settle.result (λ still up. (still.1, refl, refl)) c.settle.ensures.err;
-      devices = causes_same _ _ _ _ c.settle.ensures.spares.paging.devices;
-      files_devices = causes_same _ _ _ _ c.settle.ensures.spares.files.devices;
+      files_go = goes_still _ _ _ _ (λ unarmed. still g.F.Backing.later g.met.F.Backing.later_same c.args.files.now) c.settle.ensures.spares.files.devices;
+      paging_goes = goes_still _ _ _ _ (λ unarmed. still g.P.Backing.later g.met.P.Backing.later_same c.args.paging.now) c.settle.ensures.spares.paging.devices;
     }
 
 pub returns-in-Clean : goal.returns-in-Clean
@@ -85,19 +68,13 @@ returns-in-Clean g c =
       grew = on_either c.pass-in-Clean.result (λ made. made.grew) (λ still. grew_none _ _ still.1) c.pass-in-Clean.ensures.made c.pass-in-Clean.ensures.err;
       err = c.pass-in-Clean.ensures.err;
       unmoved = on_err_weaker c.pass-in-Clean.result (λ still. ((refl, refl), (refl, refl))) c.pass-in-Clean.ensures.err;
-      kept = c.pass-in-Clean.ensures.spares.paging.kept (g.P.Backing.area c.args.paging.now.inner) c.requires.1.1.1.0;
-      files_kept = c.pass-in-Clean.ensures.spares.files.kept (g.F.Backing.area c.args.files.now.inner) c.requires.1.1.1.1.0;
-      carried = λ start carry. c.pass-in-Clean.ensures.spares.files.carried start (g.F.Backing.area c.args.files.now.inner) carry;
+      backings = λ start fit. fit_spared _ _ start _ _ _ _ c.pass-in-Clean.ensures.spares fit;
       alone = on_ok_weaker c.pass-in-Clean.result (λ made count same. absurd (let bad : command.Clean c.in-Clean.object c.in-Clean.page c.in-Clean.count c.in-Clean.flush ≡ command.Settle count = sym c.in-Clean.is ∙ same in cc)) c.pass-in-Clean.ensures.made;
-      files = on_ok_weaker c.pass-in-Clean.result (λ made. leaves_same g.given.header device.Files c.args.command.now c.args.files.now unarmed_files) c.pass-in-Clean.ensures.made;
-      paging = on_ok_weaker c.pass-in-Clean.result (λ made. leaves_same g.given.header device.Paging c.args.command.now c.args.paging.now unarmed_paging) c.pass-in-Clean.ensures.made;
-      files_unasked = on_ok_weaker c.pass-in-Clean.result (λ made unarmed none. refl) c.pass-in-Clean.ensures.made;
-      unasked = on_ok_weaker c.pass-in-Clean.result (λ made unarmed none. refl) c.pass-in-Clean.ensures.made;
-      files_later = λ unarmed. (g.met.F.Backing.later_same c.args.files.now.inner, armed_later_same c.args.files.now.left c.args.files.now.reached);
-      later = λ unarmed. (g.met.P.Backing.later_same c.args.paging.now.inner, armed_later_same c.args.paging.now.left c.args.paging.now.reached);
+      files = on_ok_weaker c.pass-in-Clean.result (λ made. leaves_same g.given.header device.Files c.args.command.now _ c.args.files.now unarmed_files) c.pass-in-Clean.ensures.made;
+      paging = on_ok_weaker c.pass-in-Clean.result (λ made. leaves_same g.given.header device.Paging c.args.command.now _ c.args.paging.now unarmed_paging) c.pass-in-Clean.ensures.made;
       calm = on_err_weaker c.pass-in-Clean.result (λ still up. (still.1, refl, refl)) c.pass-in-Clean.ensures.err;
-      devices = causes_same _ _ _ _ c.pass-in-Clean.ensures.spares.paging.devices;
-      files_devices = causes_same _ _ _ _ c.pass-in-Clean.ensures.spares.files.devices;
+      files_go = goes_still _ _ _ _ (λ unarmed. still g.F.Backing.later g.met.F.Backing.later_same c.args.files.now) c.pass-in-Clean.ensures.spares.files.devices;
+      paging_goes = goes_still _ _ _ _ (λ unarmed. still g.P.Backing.later g.met.P.Backing.later_same c.args.paging.now) c.pass-in-Clean.ensures.spares.paging.devices;
     }
 
 pub returns-in-Say : goal.returns-in-Say
@@ -109,19 +86,13 @@ returns-in-Say g c =
       grew = on_either c.pass-in-Say.result (λ made. made.grew) (λ still. grew_none _ _ still.1) c.pass-in-Say.ensures.made c.pass-in-Say.ensures.err;
       err = c.pass-in-Say.ensures.err;
       unmoved = on_err_weaker c.pass-in-Say.result (λ still. ((refl, refl), (refl, refl))) c.pass-in-Say.ensures.err;
-      kept = c.pass-in-Say.ensures.spares.paging.kept (g.P.Backing.area c.args.paging.now.inner) c.requires.1.1.1.0;
-      files_kept = c.pass-in-Say.ensures.spares.files.kept (g.F.Backing.area c.args.files.now.inner) c.requires.1.1.1.1.0;
-      carried = λ start carry. c.pass-in-Say.ensures.spares.files.carried start (g.F.Backing.area c.args.files.now.inner) carry;
+      backings = λ start fit. fit_spared _ _ start _ _ _ _ c.pass-in-Say.ensures.spares fit;
       alone = on_ok_weaker c.pass-in-Say.result (λ made count same. absurd (let bad : command.Say c.in-Say.host c.in-Say.object c.in-Say.message ≡ command.Settle count = sym c.in-Say.is ∙ same in cc)) c.pass-in-Say.ensures.made;
-      files = on_ok_weaker c.pass-in-Say.result (λ made. leaves_same g.given.header device.Files c.args.command.now c.args.files.now unarmed_files) c.pass-in-Say.ensures.made;
-      paging = on_ok_weaker c.pass-in-Say.result (λ made. leaves_same g.given.header device.Paging c.args.command.now c.args.paging.now unarmed_paging) c.pass-in-Say.ensures.made;
-      files_unasked = on_ok_weaker c.pass-in-Say.result (λ made unarmed none. refl) c.pass-in-Say.ensures.made;
-      unasked = on_ok_weaker c.pass-in-Say.result (λ made unarmed none. refl) c.pass-in-Say.ensures.made;
-      files_later = λ unarmed. (g.met.F.Backing.later_same c.args.files.now.inner, armed_later_same c.args.files.now.left c.args.files.now.reached);
-      later = λ unarmed. (g.met.P.Backing.later_same c.args.paging.now.inner, armed_later_same c.args.paging.now.left c.args.paging.now.reached);
+      files = on_ok_weaker c.pass-in-Say.result (λ made. leaves_same g.given.header device.Files c.args.command.now _ c.args.files.now unarmed_files) c.pass-in-Say.ensures.made;
+      paging = on_ok_weaker c.pass-in-Say.result (λ made. leaves_same g.given.header device.Paging c.args.command.now _ c.args.paging.now unarmed_paging) c.pass-in-Say.ensures.made;
       calm = on_err_weaker c.pass-in-Say.result (λ still up. (still.1, refl, refl)) c.pass-in-Say.ensures.err;
-      devices = causes_same _ _ _ _ c.pass-in-Say.ensures.spares.paging.devices;
-      files_devices = causes_same _ _ _ _ c.pass-in-Say.ensures.spares.files.devices;
+      files_go = goes_still _ _ _ _ (λ unarmed. still g.F.Backing.later g.met.F.Backing.later_same c.args.files.now) c.pass-in-Say.ensures.spares.files.devices;
+      paging_goes = goes_still _ _ _ _ (λ unarmed. still g.P.Backing.later g.met.P.Backing.later_same c.args.paging.now) c.pass-in-Say.ensures.spares.paging.devices;
     }
 
 pub returns-in_default-command : goal.returns-in_default-command
@@ -133,97 +104,69 @@ returns-in_default-command g c =
       grew = on_either c.begin.result (λ made. made.grew) (λ still. grew_none _ _ still.1) c.begin.ensures.made c.begin.ensures.err;
       err = c.begin.ensures.err;
       unmoved = on_err_weaker c.begin.result (λ still. ((refl, refl), (refl, refl))) c.begin.ensures.err;
-      kept = c.begin.ensures.spares.paging.kept (g.P.Backing.area c.args.paging.now.inner) c.requires.1.1.1.0;
-      files_kept = c.begin.ensures.spares.files.kept (g.F.Backing.area c.args.files.now.inner) c.requires.1.1.1.1.0;
-      carried = λ start carry. c.begin.ensures.spares.files.carried start (g.F.Backing.area c.args.files.now.inner) carry;
+      backings = λ start fit. fit_spared _ _ start _ _ _ _ c.begin.ensures.spares fit;
       alone = on_ok_weaker c.begin.result (λ made count is. absurd (c.in_default-command.not-Settle count is)) c.begin.ensures.made;
-      files = on_ok_weaker c.begin.result (λ made. leaves_same g.given.header device.Files c.args.command.now c.args.files.now unarmed_files) c.begin.ensures.made;
-      paging = on_ok_weaker c.begin.result (λ made. leaves_same g.given.header device.Paging c.args.command.now c.args.paging.now unarmed_paging) c.begin.ensures.made;
-      files_unasked = on_ok_weaker c.begin.result (λ made unarmed none. refl) c.begin.ensures.made;
-      unasked = on_ok_weaker c.begin.result (λ made unarmed none. refl) c.begin.ensures.made;
-      files_later = λ unarmed. (g.met.F.Backing.later_same c.args.files.now.inner, armed_later_same c.args.files.now.left c.args.files.now.reached);
-      later = λ unarmed. (g.met.P.Backing.later_same c.args.paging.now.inner, armed_later_same c.args.paging.now.left c.args.paging.now.reached);
+      files = on_ok_weaker c.begin.result (λ made. leaves_same g.given.header device.Files c.args.command.now _ c.args.files.now unarmed_files) c.begin.ensures.made;
+      paging = on_ok_weaker c.begin.result (λ made. leaves_same g.given.header device.Paging c.args.command.now _ c.args.paging.now unarmed_paging) c.begin.ensures.made;
       calm = on_err_weaker c.begin.result (λ still up. (still.1, refl, refl)) c.begin.ensures.err;
-      devices = causes_same _ _ _ _ c.begin.ensures.spares.paging.devices;
-      files_devices = causes_same _ _ _ _ c.begin.ensures.spares.files.devices;
+      files_go = goes_still _ _ _ _ (λ unarmed. still g.F.Backing.later g.met.F.Backing.later_same c.args.files.now) c.begin.ensures.spares.files.devices;
+      paging_goes = goes_still _ _ _ _ (λ unarmed. still g.P.Backing.later g.met.P.Backing.later_same c.args.paging.now) c.begin.ensures.spares.paging.devices;
     }
 
 pub returns-in_ok-pass-in-FailFiles : goal.returns-in_ok-pass-in-FailFiles
 returns-in_ok-pass-in-FailFiles g c =
     let armed : arms device.Files c.args.command.now ≡ Some c.in-FailFiles.count = ap (arms device.Files) c.in-FailFiles.is in
     let unarmed : arms device.Paging c.args.command.now ≡ None = ap (arms device.Paging) c.in-FailFiles.is in
-    let kept = c.pass.ensures.spares.files.kept (g.F.Backing.area c.args.files.now.inner) c.requires.1.1.1.1.0 in
     record {
       made = c.in_ok-pass-in-FailFiles.ensures.made;
       grew = c.in_ok-pass-in-FailFiles.ensures.made.grew;
       err = tt;
       unmoved = tt;
-      kept = c.pass.ensures.spares.paging.kept (g.P.Backing.area c.args.paging.now.inner) c.requires.1.1.1.0;
-      files_kept = rw c.arm.ensures kept;
-      carried = λ start carry. let carried = c.pass.ensures.spares.files.carried start (g.F.Backing.area c.args.files.now.inner) carry in rw c.arm.ensures carried;
+      backings = λ start fit. rw c.arm.ensures (fit_spared _ _ start _ _ _ _ c.pass.ensures.spares fit);
       alone = λ count same. absurd (let bad : command.FailFiles c.in-FailFiles.count ≡ command.Settle count = sym c.in-FailFiles.is ∙ same in cc);
-      files = leaves_armed g.given.header device.Files c.args.command.now c.in-FailFiles.count _ c.args.files.now _ armed c.from.ensures c.arm.ensures;
-      paging = leaves_same g.given.header device.Paging c.args.command.now c.args.paging.now unarmed;
-      files_unasked = λ none up. absurd (none-some c.in-FailFiles.count (sym none ∙ armed));
-      unasked = λ none up. refl;
-      files_later = λ none. absurd (none-some c.in-FailFiles.count (sym none ∙ armed));
-      later = λ none. (g.met.P.Backing.later_same c.args.paging.now.inner, armed_later_same c.args.paging.now.left c.args.paging.now.reached);
+      files = leaves_armed g.given.header device.Files c.args.command.now _ c.in-FailFiles.count _ c.args.files.now _ armed c.from.ensures c.arm.ensures;
+      paging = leaves_same g.given.header device.Paging c.args.command.now _ c.args.paging.now unarmed;
       calm = tt;
-      devices = causes_same _ _ _ _ c.pass.ensures.spares.paging.devices;
-      files_devices = rw c.arm.ensures (causes_same _ _ _ _ c.pass.ensures.spares.files.devices);
+      files_go = record { later = λ none. absurd (none-some c.in-FailFiles.count (sym none ∙ armed)); devices = rw c.arm.ensures (causes_same _ _ _ _ c.pass.ensures.spares.files.devices) };
+      paging_goes = goes_still _ _ _ _ (λ unarmed. still g.P.Backing.later g.met.P.Backing.later_same c.args.paging.now) c.pass.ensures.spares.paging.devices;
     }
 
-pub returns-in_err-pass-in-FailFiles-clause-kept : goal.returns-in_err-pass-in-FailFiles-clause-kept
-returns-in_err-pass-in-FailFiles-clause-kept g c = c.pass.ensures.spares.paging.kept (g.P.Backing.area c.args.paging.now.inner) c.requires.1.1.1.0
+pub returns-in_err-pass-in-FailFiles-clause-backings : goal.returns-in_err-pass-in-FailFiles-clause-backings
+returns-in_err-pass-in-FailFiles-clause-backings g c = λ start fit. fit_spared _ _ start _ _ _ _ c.pass.ensures.spares fit
 
-pub returns-in_err-pass-in-FailFiles-clause-files_kept : goal.returns-in_err-pass-in-FailFiles-clause-files_kept
-returns-in_err-pass-in-FailFiles-clause-files_kept g c = c.pass.ensures.spares.files.kept (g.F.Backing.area c.args.files.now.inner) c.requires.1.1.1.1.0
+pub returns-in_err-pass-in-FailFiles-clause-files_go : goal.returns-in_err-pass-in-FailFiles-clause-files_go
+returns-in_err-pass-in-FailFiles-clause-files_go g c =
+    goes_still _ _ _ _ (λ unarmed. still g.F.Backing.later g.met.F.Backing.later_same c.args.files.now) c.pass.ensures.spares.files.devices
 
-pub returns-in_err-pass-in-FailFiles-clause-carried : goal.returns-in_err-pass-in-FailFiles-clause-carried
-returns-in_err-pass-in-FailFiles-clause-carried g c = λ start carry. c.pass.ensures.spares.files.carried start (g.F.Backing.area c.args.files.now.inner) carry
-
-pub returns-in_err-pass-in-FailFiles-clause-devices : goal.returns-in_err-pass-in-FailFiles-clause-devices
-returns-in_err-pass-in-FailFiles-clause-devices g c = causes_same _ _ _ _ c.pass.ensures.spares.paging.devices
-
-pub returns-in_err-pass-in-FailFiles-clause-files_devices : goal.returns-in_err-pass-in-FailFiles-clause-files_devices
-returns-in_err-pass-in-FailFiles-clause-files_devices g c = causes_same _ _ _ _ c.pass.ensures.spares.files.devices
+pub returns-in_err-pass-in-FailFiles-clause-paging_goes : goal.returns-in_err-pass-in-FailFiles-clause-paging_goes
+returns-in_err-pass-in-FailFiles-clause-paging_goes g c =
+    goes_still _ _ _ _ (λ unarmed. still g.P.Backing.later g.met.P.Backing.later_same c.args.paging.now) c.pass.ensures.spares.paging.devices
 
 pub returns-in_ok-pass-in-FailPaging : goal.returns-in_ok-pass-in-FailPaging
 returns-in_ok-pass-in-FailPaging g c =
     let armed : arms device.Paging c.args.command.now ≡ Some c.in-FailPaging.count = ap (arms device.Paging) c.in-FailPaging.is in
     let unarmed : arms device.Files c.args.command.now ≡ None = ap (arms device.Files) c.in-FailPaging.is in
-    let kept = c.pass-in-FailPaging.ensures.spares.paging.kept (g.P.Backing.area c.args.paging.now.inner) c.requires.1.1.1.0 in
     record {
       made = c.in_ok-pass-in-FailPaging.ensures.made;
       grew = c.in_ok-pass-in-FailPaging.ensures.made.grew;
       err = tt;
       unmoved = tt;
-      kept = rw c.arm-in-FailPaging.ensures kept;
-      files_kept = c.pass-in-FailPaging.ensures.spares.files.kept (g.F.Backing.area c.args.files.now.inner) c.requires.1.1.1.1.0;
-      carried = λ start carry. c.pass-in-FailPaging.ensures.spares.files.carried start (g.F.Backing.area c.args.files.now.inner) carry;
+      backings = λ start fit. rw c.arm-in-FailPaging.ensures (fit_spared _ _ start _ _ _ _ c.pass-in-FailPaging.ensures.spares fit);
       alone = λ count same. absurd (let bad : command.FailPaging c.in-FailPaging.count ≡ command.Settle count = sym c.in-FailPaging.is ∙ same in cc);
-      files = leaves_same g.given.header device.Files c.args.command.now c.args.files.now unarmed;
-      paging = leaves_armed g.given.header device.Paging c.args.command.now c.in-FailPaging.count _ c.args.paging.now _ armed c.from-in-FailPaging.ensures c.arm-in-FailPaging.ensures;
-      files_unasked = λ none up. refl;
-      unasked = λ none up. absurd (none-some c.in-FailPaging.count (sym none ∙ armed));
-      files_later = λ none. (g.met.F.Backing.later_same c.args.files.now.inner, armed_later_same c.args.files.now.left c.args.files.now.reached);
-      later = λ none. absurd (none-some c.in-FailPaging.count (sym none ∙ armed));
+      files = leaves_same g.given.header device.Files c.args.command.now _ c.args.files.now unarmed;
+      paging = leaves_armed g.given.header device.Paging c.args.command.now _ c.in-FailPaging.count _ c.args.paging.now _ armed c.from-in-FailPaging.ensures c.arm-in-FailPaging.ensures;
       calm = tt;
-      devices = rw c.arm-in-FailPaging.ensures (causes_same _ _ _ _ c.pass-in-FailPaging.ensures.spares.paging.devices);
-      files_devices = causes_same _ _ _ _ c.pass-in-FailPaging.ensures.spares.files.devices;
+      files_go = goes_still _ _ _ _ (λ unarmed. still g.F.Backing.later g.met.F.Backing.later_same c.args.files.now) c.pass-in-FailPaging.ensures.spares.files.devices;
+      paging_goes = record { later = λ none. absurd (none-some c.in-FailPaging.count (sym none ∙ armed)); devices = rw c.arm-in-FailPaging.ensures (causes_same _ _ _ _ c.pass-in-FailPaging.ensures.spares.paging.devices) };
     }
 
-pub returns-in_err-pass-in-FailPaging-clause-kept : goal.returns-in_err-pass-in-FailPaging-clause-kept
-returns-in_err-pass-in-FailPaging-clause-kept g c = c.pass-in-FailPaging.ensures.spares.paging.kept (g.P.Backing.area c.args.paging.now.inner) c.requires.1.1.1.0
+pub returns-in_err-pass-in-FailPaging-clause-backings : goal.returns-in_err-pass-in-FailPaging-clause-backings
+returns-in_err-pass-in-FailPaging-clause-backings g c = λ start fit. fit_spared _ _ start _ _ _ _ c.pass-in-FailPaging.ensures.spares fit
 
-pub returns-in_err-pass-in-FailPaging-clause-files_kept : goal.returns-in_err-pass-in-FailPaging-clause-files_kept
-returns-in_err-pass-in-FailPaging-clause-files_kept g c = c.pass-in-FailPaging.ensures.spares.files.kept (g.F.Backing.area c.args.files.now.inner) c.requires.1.1.1.1.0
+pub returns-in_err-pass-in-FailPaging-clause-files_go : goal.returns-in_err-pass-in-FailPaging-clause-files_go
+returns-in_err-pass-in-FailPaging-clause-files_go g c =
+    goes_still _ _ _ _ (λ unarmed. still g.F.Backing.later g.met.F.Backing.later_same c.args.files.now) c.pass-in-FailPaging.ensures.spares.files.devices
 
-pub returns-in_err-pass-in-FailPaging-clause-carried : goal.returns-in_err-pass-in-FailPaging-clause-carried
-returns-in_err-pass-in-FailPaging-clause-carried g c = λ start carry. c.pass-in-FailPaging.ensures.spares.files.carried start (g.F.Backing.area c.args.files.now.inner) carry
-
-pub returns-in_err-pass-in-FailPaging-clause-devices : goal.returns-in_err-pass-in-FailPaging-clause-devices
-returns-in_err-pass-in-FailPaging-clause-devices g c = causes_same _ _ _ _ c.pass-in-FailPaging.ensures.spares.paging.devices
-
-pub returns-in_err-pass-in-FailPaging-clause-files_devices : goal.returns-in_err-pass-in-FailPaging-clause-files_devices
-returns-in_err-pass-in-FailPaging-clause-files_devices g c = causes_same _ _ _ _ c.pass-in-FailPaging.ensures.spares.files.devices
+pub returns-in_err-pass-in-FailPaging-clause-paging_goes : goal.returns-in_err-pass-in-FailPaging-clause-paging_goes
+returns-in_err-pass-in-FailPaging-clause-paging_goes g c =
+    goes_still _ _ _ _ (λ unarmed. still g.P.Backing.later g.met.P.Backing.later_same c.args.paging.now) c.pass-in-FailPaging.ensures.spares.paging.devices

@@ -1,4 +1,5 @@
 use Rattle.vm_system.proofs.Common.{Channel, Down, Some, Up, ap, ◌∙◌}
+use Rattle.vm_system.proofs.Backed.{fit_spared}
 use Rattle.vm_system.proofs.Taken.{may_found, may_there}
 use Rattle.vm_system.proofs.state.State.take.Goals as goal
 
@@ -17,8 +18,5 @@ take_down-requires g c =
     let s = c.args.self.now in
     may_found g.given c.args.line c.args.number may.0 (Down c.in-Down.host c.in-Down.object c.in-Down.control) s may.1 (c.channel-channel.ensures.channel ∙ ap (λ (z : Channel). Some z) c.in-Down.is)
 
-pub returns-in-Down-clause-kept : goal.returns-in-Down-clause-kept
-returns-in-Down-clause-kept g c = c.take_down.ensures.spares.paging.kept (g.P.Backing.area c.args.paging.now.inner) c.requires.1.1.1.0
-
-pub returns-in-Down-clause-files_kept : goal.returns-in-Down-clause-files_kept
-returns-in-Down-clause-files_kept g c = c.take_down.ensures.spares.files.kept (g.F.Backing.area c.args.files.now.inner) c.requires.1.1.1.1
+pub returns-in-Down-clause-backings : goal.returns-in-Down-clause-backings
+returns-in-Down-clause-backings g c = λ start fit. fit_spared _ _ start _ _ _ _ c.take_down.ensures.spares fit

@@ -230,8 +230,8 @@ returns-clause-carried g c =
     c.follow.ensures.spares.files.carried start _
     (carried_filed given c.args.line c.args.number c.args.host c.args.object m t now old table c.in_ok-replies.replies start _ _ any reply e.told items (rw r.history carry))
 
-pub returns-clause-files_devices : goal.returns-clause-files_devices
-returns-clause-files_devices g c =
+pub returns-clause-files_go : goal.returns-clause-files_go
+returns-clause-files_go g c =
     let given = g.given in
     let r = c.prepare.ensures.same in
     let t = c.prepare.new.self in
@@ -249,7 +249,7 @@ returns-clause-files_devices g c =
     let told = first_told given c.args.line c.args.number channel m t t c.take_first.new.self any at refl refl c.take_first.ensures.history in
     let now = c.commit.new.self in
     let items : now.history.items ≡ events ++ event.Taken channel m ∷ given.past = c.commit.ensures.history ∙ ap (λ (z : List Event). events ++ z) told in
-    rw (sym r.history) (devices_filed given c.args.line c.args.number c.args.host c.args.object m t old table c.in_ok-replies.replies _ _ c.follow.new.self.history.items any reply e.cause (c.follow.ensures.spares.files.devices ∙ ap (devices Files) items))
+    record { later = e.later; devices = rw (sym r.history) (devices_filed given c.args.line c.args.number c.args.host c.args.object m t old table c.in_ok-replies.replies _ _ c.follow.new.self.history.items any reply e.cause (c.follow.ensures.spares.files.devices ∙ ap (devices Files) items)) }
 
 pub returns-clause-spares : goal.returns-clause-spares
 returns-clause-spares g c =

@@ -17,7 +17,7 @@ returns-clause-made g c =
     let took = subst (λ (z : Step). Took z new) c.requires.1.1.0 was in
     record {
       stands = took.stands;
-      legal = keeps_taken given.header given.outside c.args.line c.args.channel old new c.requires.1.1.1.0 c.requires.1.1.1.1.1.1 took;
+      legal = keeps_taken given.header given.outside c.args.line c.args.channel old new c.requires.1.1.1.0 c.requires.1.1.1.1.1 took;
       prompt = λ prompt. took.prompt;
       grew = grew_taken _ (Some c.args.line) old.history.items _ took.step refl;
       front = line_taken _ c.args.line old.history.items _ took.step refl;

@@ -195,8 +195,8 @@ returns-clause-kept g c =
     let items : now.history.items ≡ events ++ event.Taken channel m ∷ given.past = c.commit.ensures.history ∙ ap (λ (z : List Event). events ++ z) told in
     c.follow.ensures.spares.paging.kept _ (kept_up given c.args.line c.args.number c.args.host c.args.object m t now old slots _ _ c.in_ok-answers.answers any reply e.fits e.told had pagers items)
 
-pub returns-clause-devices : goal.returns-clause-devices
-returns-clause-devices g c =
+pub returns-clause-paging_goes : goal.returns-clause-paging_goes
+returns-clause-paging_goes g c =
     let given = g.given in
     let r = c.prepare.ensures.same in
     let t = c.prepare.new.self in
@@ -216,7 +216,7 @@ returns-clause-devices g c =
     let now = c.commit.new.self in
     let pagers : now.pagers.items ≡ set t.pagers.items c.args.host.0 slots = same_pagers _ _ both in
     let items : now.history.items ≡ events ++ event.Taken channel m ∷ given.past = c.commit.ensures.history ∙ ap (λ (z : List Event). events ++ z) told in
-    rw (sym r.history) (devices_up given c.args.line c.args.number c.args.host c.args.object m t old slots c.in_ok-answers.answers _ _ c.follow.new.self.history.items any e.answered e.cause (c.follow.ensures.spares.paging.devices ∙ ap (devices Paging) items))
+    record { later = e.later; devices = rw (sym r.history) (devices_up given c.args.line c.args.number c.args.host c.args.object m t old slots c.in_ok-answers.answers _ _ c.follow.new.self.history.items any e.answered e.cause (c.follow.ensures.spares.paging.devices ∙ ap (devices Paging) items)) }
 
 pub returns-clause-took : goal.returns-clause-took
 returns-clause-took g c =
