@@ -1,5 +1,5 @@
 -- The most events of an answer.
-use Rattle.std.proofs.Common.{ℕ, ◌≡◌, List, length, Option, Some, sym, ◌∙◌, ap, subst, arith}
+use Rattle.std.proofs.Common.{ℕ, ◌≡◌, List, length, Some, sym, ◌∙◌, ap, subst, arith}
 use Rattle.std.proofs.Common.{Err, IfOk, Ok, Result}
 use Rattle.std.specs.Prelude.{slice_get}
 use Rattle.sms_pages.specs.Directory.{most_replies}

@@ -2,7 +2,7 @@
 ghost use Rattle.std.specs.Prelude.{◌≡◌, ◌≤◌, ◌<◌, ◌^◌, [], ◌∷◌, true, false, IsOk, IsSome, None, OnOk, OnErr, IfOk, length};
 ghost use Rattle.vm_base.specs.Limits.{most_hosts};
 ghost use Rattle.sms_server.specs.Answers.{AreServerWords, IsAbout, IsEnd, IsOfOnePage, IsToServer, ReturnsWhole, ServerAnswer, most_told, sent_to};
-ghost use Rattle.sms_server.specs.Kept.{HasMemory, IsPreparedAt};
+ghost use Rattle.sms_server.specs.Kept.{HasMemory, IsPreparedAt, rows_before};
 ghost use Rattle.sms_server.specs.Table.{ArePrepared, IsPrepared, IsSameTable, most_events, row_among};
 
 use crate::PageRow;
@@ -245,9 +245,10 @@ impl Server {
         Ok(())
     }
 
-    // Makes the row of a page, if there is none.
-    fn find_or_name(&mut self, key: PageKey) -> Result<(), NoMemory>
+    // The index of a page's row, which is made where there is none.
+    fn find_or_name(&mut self, key: PageKey) -> Result<usize, NoMemory>
         ensures same { IsSameTable self.old self.new }
+        ensures at { IfOk result (λ i. i ≡ rows_before key.object.0 key.page.0 self.new.rows) }
         ensures named { OnOk result (IsSome (row_among key.object.0 key.page.0 self.new.rows)) }
         ensures memory { OnOk result (IsPrepared key.object.0 self.old
             → HasMemory self.new.room (row_among key.object.0 key.page.0 self.new.rows)) }
@@ -255,9 +256,10 @@ impl Server {
     {
         let i = find(&self.rows, key);
         if stands_at(&self.rows, i, key) {
-            return Ok(());
+            return Ok(i);
         }
-        self.name_page(key)
+        self.name_page(key)?;
+        Ok(find(&self.rows, key))
     }
 
     // The index of a page's row, which is made where there is none, with the memory of an answer.
@@ -266,8 +268,7 @@ impl Server {
         ensures at { IfOk result (λ i. IsPreparedAt key i self.new) }
         ensures succeeds { IsPrepared key.object.0 self.old → IsOk result }
     {
-        self.find_or_name(key)?;
-        let i = find(&self.rows, key);
+        let i = self.find_or_name(key)?;
         let most = self.rows[i].reserve()?;
         self.events.reserve(most)?;
         Ok(i)

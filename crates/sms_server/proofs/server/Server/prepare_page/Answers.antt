@@ -12,11 +12,11 @@ use Rattle.sms_server.proofs.server.Server.prepare_page.Goals as goal
 pub index_mut-requires : goal.index_mut-requires
 index_mut-requires c =
     let rows = c.self.inside.rows.items in
-    let i = c.find-i.result in
+    let i = c.in_ok-i.i in
     let table = c.find_or_name.new.self in
     let seen : table.rows ≡ rows = ap (λ (t : ServerTable). t.rows) (sym c.self.view_is) in
-    let some : IsSome (row_among c.args.key.object.0 c.args.key.page.0 rows) = subst (λ (l : List PageRow). IsSome (row_among c.args.key.object.0 c.args.key.page.0 l)) seen c.in_ok-find_or_name.ensures.named in
-    let place : i ≡ rows_before c.args.key.object.0 c.args.key.page.0 rows = c.find-i.ensures.value ∙ ap (rows_before c.args.key.object.0 c.args.key.page.0) c.deref.ensures.value in
+    let some : IsSome (row_among c.args.key.object.0 c.args.key.page.0 rows) = subst (λ (l : List PageRow). IsSome (row_among c.args.key.object.0 c.args.key.page.0 l)) seen c.in_ok-i.ensures.named in
+    let place : i ≡ rows_before c.args.key.object.0 c.args.key.page.0 rows = c.in_ok-i.ensures.at ∙ ap (rows_before c.args.key.object.0 c.args.key.page.0) seen in
     let f = found rows c.args.key i c.self.invariant.by_key place some in
     let within = slice_get_within rows i f.row f.at in
     omega (arith, within, c.self.inside.rows.ok.0)
@@ -24,11 +24,11 @@ index_mut-requires c =
 pub invariant_of-self : goal.invariant_of-self
 invariant_of-self c =
     let rows = c.self.inside.rows.items in
-    let i = c.find-i.result in
+    let i = c.in_ok-i.i in
     let table = c.find_or_name.new.self in
     let seen : table.rows ≡ rows = ap (λ (t : ServerTable). t.rows) (sym c.self.view_is) in
-    let some : IsSome (row_among c.args.key.object.0 c.args.key.page.0 rows) = subst (λ (l : List PageRow). IsSome (row_among c.args.key.object.0 c.args.key.page.0 l)) seen c.in_ok-find_or_name.ensures.named in
-    let place : i ≡ rows_before c.args.key.object.0 c.args.key.page.0 rows = c.find-i.ensures.value ∙ ap (rows_before c.args.key.object.0 c.args.key.page.0) c.deref.ensures.value in
+    let some : IsSome (row_among c.args.key.object.0 c.args.key.page.0 rows) = subst (λ (l : List PageRow). IsSome (row_among c.args.key.object.0 c.args.key.page.0 l)) seen c.in_ok-i.ensures.named in
+    let place : i ≡ rows_before c.args.key.object.0 c.args.key.page.0 rows = c.in_ok-i.ensures.at ∙ ap (rows_before c.args.key.object.0 c.args.key.page.0) seen in
     let x = c.index_mut.result.now in
     let y = c.reserve.new.self in
     let stands = found_now rows c.args.key i x c.self.invariant.by_key place some c.index_mut.ensures.value in
@@ -38,11 +38,11 @@ invariant_of-self c =
 pub returns-in_err-most-clause-same : goal.returns-in_err-most-clause-same
 returns-in_err-most-clause-same c =
     let rows = c.self.inside.rows.items in
-    let i = c.find-i.result in
+    let i = c.in_ok-i.i in
     let table = c.find_or_name.new.self in
     let seen : table.rows ≡ rows = ap (λ (t : ServerTable). t.rows) (sym c.self.view_is) in
-    let some : IsSome (row_among c.args.key.object.0 c.args.key.page.0 rows) = subst (λ (l : List PageRow). IsSome (row_among c.args.key.object.0 c.args.key.page.0 l)) seen c.in_ok-find_or_name.ensures.named in
-    let place : i ≡ rows_before c.args.key.object.0 c.args.key.page.0 rows = c.find-i.ensures.value ∙ ap (rows_before c.args.key.object.0 c.args.key.page.0) c.deref.ensures.value in
+    let some : IsSome (row_among c.args.key.object.0 c.args.key.page.0 rows) = subst (λ (l : List PageRow). IsSome (row_among c.args.key.object.0 c.args.key.page.0 l)) seen c.in_ok-i.ensures.named in
+    let place : i ≡ rows_before c.args.key.object.0 c.args.key.page.0 rows = c.in_ok-i.ensures.at ∙ ap (rows_before c.args.key.object.0 c.args.key.page.0) seen in
     let x = c.index_mut.result.now in
     let y = c.reserve.new.self in
     let stands = found_now rows c.args.key i x c.self.invariant.by_key place some c.index_mut.ensures.value in
@@ -52,26 +52,26 @@ returns-in_err-most-clause-same c =
 pub returns-in_err-most-clause-succeeds : goal.returns-in_err-most-clause-succeeds
 returns-in_err-most-clause-succeeds c = λ prepared.
     let rows = c.self.inside.rows.items in
-    let i = c.find-i.result in
+    let i = c.in_ok-i.i in
     let table = c.find_or_name.new.self in
     let seen : table.rows ≡ rows = ap (λ (t : ServerTable). t.rows) (sym c.self.view_is) in
-    let some : IsSome (row_among c.args.key.object.0 c.args.key.page.0 rows) = subst (λ (l : List PageRow). IsSome (row_among c.args.key.object.0 c.args.key.page.0 l)) seen c.in_ok-find_or_name.ensures.named in
-    let place : i ≡ rows_before c.args.key.object.0 c.args.key.page.0 rows = c.find-i.ensures.value ∙ ap (rows_before c.args.key.object.0 c.args.key.page.0) c.deref.ensures.value in
+    let some : IsSome (row_among c.args.key.object.0 c.args.key.page.0 rows) = subst (λ (l : List PageRow). IsSome (row_among c.args.key.object.0 c.args.key.page.0 l)) seen c.in_ok-i.ensures.named in
+    let place : i ≡ rows_before c.args.key.object.0 c.args.key.page.0 rows = c.in_ok-i.ensures.at ∙ ap (rows_before c.args.key.object.0 c.args.key.page.0) seen in
     let x = c.index_mut.result.now in
     let y = c.reserve.new.self in
     let stands = found_now rows c.args.key i x c.self.invariant.by_key place some c.index_mut.ensures.value in
     let same = rows_set rows i x y stands.is c.reserve.ensures.same in
-    let memory : HasMemory table.room (Some x) = subst (HasMemory table.room) (ap (row_among c.args.key.object.0 c.args.key.page.0) seen ∙ stands.among) (c.in_ok-find_or_name.ensures.memory prepared) in
+    let memory : HasMemory table.room (Some x) = subst (HasMemory table.room) (ap (row_among c.args.key.object.0 c.args.key.page.0) seen ∙ stands.among) (c.in_ok-i.ensures.memory prepared) in
     absurd (false≢true (c.in_err-most.ensures.succeeds memory.0))
 
 pub invariant_of-self-in_err-reserve : goal.invariant_of-self-in_err-reserve
 invariant_of-self-in_err-reserve c =
     let rows = c.self.inside.rows.items in
-    let i = c.find-i.result in
+    let i = c.in_ok-i.i in
     let table = c.find_or_name.new.self in
     let seen : table.rows ≡ rows = ap (λ (t : ServerTable). t.rows) (sym c.self.view_is) in
-    let some : IsSome (row_among c.args.key.object.0 c.args.key.page.0 rows) = subst (λ (l : List PageRow). IsSome (row_among c.args.key.object.0 c.args.key.page.0 l)) seen c.in_ok-find_or_name.ensures.named in
-    let place : i ≡ rows_before c.args.key.object.0 c.args.key.page.0 rows = c.find-i.ensures.value ∙ ap (rows_before c.args.key.object.0 c.args.key.page.0) c.deref.ensures.value in
+    let some : IsSome (row_among c.args.key.object.0 c.args.key.page.0 rows) = subst (λ (l : List PageRow). IsSome (row_among c.args.key.object.0 c.args.key.page.0 l)) seen c.in_ok-i.ensures.named in
+    let place : i ≡ rows_before c.args.key.object.0 c.args.key.page.0 rows = c.in_ok-i.ensures.at ∙ ap (rows_before c.args.key.object.0 c.args.key.page.0) seen in
     let x = c.index_mut.result.now in
     let y = c.reserve.new.self in
     let stands = found_now rows c.args.key i x c.self.invariant.by_key place some c.index_mut.ensures.value in
@@ -81,11 +81,11 @@ invariant_of-self-in_err-reserve c =
 pub returns-in_err-reserve-clause-same : goal.returns-in_err-reserve-clause-same
 returns-in_err-reserve-clause-same c =
     let rows = c.self.inside.rows.items in
-    let i = c.find-i.result in
+    let i = c.in_ok-i.i in
     let table = c.find_or_name.new.self in
     let seen : table.rows ≡ rows = ap (λ (t : ServerTable). t.rows) (sym c.self.view_is) in
-    let some : IsSome (row_among c.args.key.object.0 c.args.key.page.0 rows) = subst (λ (l : List PageRow). IsSome (row_among c.args.key.object.0 c.args.key.page.0 l)) seen c.in_ok-find_or_name.ensures.named in
-    let place : i ≡ rows_before c.args.key.object.0 c.args.key.page.0 rows = c.find-i.ensures.value ∙ ap (rows_before c.args.key.object.0 c.args.key.page.0) c.deref.ensures.value in
+    let some : IsSome (row_among c.args.key.object.0 c.args.key.page.0 rows) = subst (λ (l : List PageRow). IsSome (row_among c.args.key.object.0 c.args.key.page.0 l)) seen c.in_ok-i.ensures.named in
+    let place : i ≡ rows_before c.args.key.object.0 c.args.key.page.0 rows = c.in_ok-i.ensures.at ∙ ap (rows_before c.args.key.object.0 c.args.key.page.0) seen in
     let x = c.index_mut.result.now in
     let y = c.reserve.new.self in
     let stands = found_now rows c.args.key i x c.self.invariant.by_key place some c.index_mut.ensures.value in
@@ -95,27 +95,27 @@ returns-in_err-reserve-clause-same c =
 pub returns-in_err-reserve-clause-succeeds : goal.returns-in_err-reserve-clause-succeeds
 returns-in_err-reserve-clause-succeeds c = λ prepared.
     let rows = c.self.inside.rows.items in
-    let i = c.find-i.result in
+    let i = c.in_ok-i.i in
     let table = c.find_or_name.new.self in
     let seen : table.rows ≡ rows = ap (λ (t : ServerTable). t.rows) (sym c.self.view_is) in
-    let some : IsSome (row_among c.args.key.object.0 c.args.key.page.0 rows) = subst (λ (l : List PageRow). IsSome (row_among c.args.key.object.0 c.args.key.page.0 l)) seen c.in_ok-find_or_name.ensures.named in
-    let place : i ≡ rows_before c.args.key.object.0 c.args.key.page.0 rows = c.find-i.ensures.value ∙ ap (rows_before c.args.key.object.0 c.args.key.page.0) c.deref.ensures.value in
+    let some : IsSome (row_among c.args.key.object.0 c.args.key.page.0 rows) = subst (λ (l : List PageRow). IsSome (row_among c.args.key.object.0 c.args.key.page.0 l)) seen c.in_ok-i.ensures.named in
+    let place : i ≡ rows_before c.args.key.object.0 c.args.key.page.0 rows = c.in_ok-i.ensures.at ∙ ap (rows_before c.args.key.object.0 c.args.key.page.0) seen in
     let x = c.index_mut.result.now in
     let y = c.reserve.new.self in
     let stands = found_now rows c.args.key i x c.self.invariant.by_key place some c.index_mut.ensures.value in
     let same = rows_set rows i x y stands.is c.reserve.ensures.same in
-    let memory : HasMemory table.room (Some x) = subst (HasMemory table.room) (ap (row_among c.args.key.object.0 c.args.key.page.0) seen ∙ stands.among) (c.in_ok-find_or_name.ensures.memory prepared) in
+    let memory : HasMemory table.room (Some x) = subst (HasMemory table.room) (ap (row_among c.args.key.object.0 c.args.key.page.0) seen ∙ stands.among) (c.in_ok-i.ensures.memory prepared) in
     let room = ap (λ (t : ServerTable). t.room) c.self.view_is in
     absurd (false≢true (c.in_err-reserve.ensures.succeeds (omega (arith, memory.1, room, c.in_ok-most.ensures.most))))
 
 pub invariant_of-self-2 : goal.invariant_of-self-2
 invariant_of-self-2 c =
     let rows = c.self.inside.rows.items in
-    let i = c.find-i.result in
+    let i = c.in_ok-i.i in
     let table = c.find_or_name.new.self in
     let seen : table.rows ≡ rows = ap (λ (t : ServerTable). t.rows) (sym c.self.view_is) in
-    let some : IsSome (row_among c.args.key.object.0 c.args.key.page.0 rows) = subst (λ (l : List PageRow). IsSome (row_among c.args.key.object.0 c.args.key.page.0 l)) seen c.in_ok-find_or_name.ensures.named in
-    let place : i ≡ rows_before c.args.key.object.0 c.args.key.page.0 rows = c.find-i.ensures.value ∙ ap (rows_before c.args.key.object.0 c.args.key.page.0) c.deref.ensures.value in
+    let some : IsSome (row_among c.args.key.object.0 c.args.key.page.0 rows) = subst (λ (l : List PageRow). IsSome (row_among c.args.key.object.0 c.args.key.page.0 l)) seen c.in_ok-i.ensures.named in
+    let place : i ≡ rows_before c.args.key.object.0 c.args.key.page.0 rows = c.in_ok-i.ensures.at ∙ ap (rows_before c.args.key.object.0 c.args.key.page.0) seen in
     let x = c.index_mut.result.now in
     let y = c.reserve.new.self in
     let stands = found_now rows c.args.key i x c.self.invariant.by_key place some c.index_mut.ensures.value in
@@ -125,11 +125,11 @@ invariant_of-self-2 c =
 pub returns-clause-same : goal.returns-clause-same
 returns-clause-same c =
     let rows = c.self.inside.rows.items in
-    let i = c.find-i.result in
+    let i = c.in_ok-i.i in
     let table = c.find_or_name.new.self in
     let seen : table.rows ≡ rows = ap (λ (t : ServerTable). t.rows) (sym c.self.view_is) in
-    let some : IsSome (row_among c.args.key.object.0 c.args.key.page.0 rows) = subst (λ (l : List PageRow). IsSome (row_among c.args.key.object.0 c.args.key.page.0 l)) seen c.in_ok-find_or_name.ensures.named in
-    let place : i ≡ rows_before c.args.key.object.0 c.args.key.page.0 rows = c.find-i.ensures.value ∙ ap (rows_before c.args.key.object.0 c.args.key.page.0) c.deref.ensures.value in
+    let some : IsSome (row_among c.args.key.object.0 c.args.key.page.0 rows) = subst (λ (l : List PageRow). IsSome (row_among c.args.key.object.0 c.args.key.page.0 l)) seen c.in_ok-i.ensures.named in
+    let place : i ≡ rows_before c.args.key.object.0 c.args.key.page.0 rows = c.in_ok-i.ensures.at ∙ ap (rows_before c.args.key.object.0 c.args.key.page.0) seen in
     let x = c.index_mut.result.now in
     let y = c.reserve.new.self in
     let stands = found_now rows c.args.key i x c.self.invariant.by_key place some c.index_mut.ensures.value in
@@ -139,11 +139,11 @@ returns-clause-same c =
 pub returns-clause-at : goal.returns-clause-at
 returns-clause-at c =
     let rows = c.self.inside.rows.items in
-    let i = c.find-i.result in
+    let i = c.in_ok-i.i in
     let table = c.find_or_name.new.self in
     let seen : table.rows ≡ rows = ap (λ (t : ServerTable). t.rows) (sym c.self.view_is) in
-    let some : IsSome (row_among c.args.key.object.0 c.args.key.page.0 rows) = subst (λ (l : List PageRow). IsSome (row_among c.args.key.object.0 c.args.key.page.0 l)) seen c.in_ok-find_or_name.ensures.named in
-    let place : i ≡ rows_before c.args.key.object.0 c.args.key.page.0 rows = c.find-i.ensures.value ∙ ap (rows_before c.args.key.object.0 c.args.key.page.0) c.deref.ensures.value in
+    let some : IsSome (row_among c.args.key.object.0 c.args.key.page.0 rows) = subst (λ (l : List PageRow). IsSome (row_among c.args.key.object.0 c.args.key.page.0 l)) seen c.in_ok-i.ensures.named in
+    let place : i ≡ rows_before c.args.key.object.0 c.args.key.page.0 rows = c.in_ok-i.ensures.at ∙ ap (rows_before c.args.key.object.0 c.args.key.page.0) seen in
     let x = c.index_mut.result.now in
     let y = c.reserve.new.self in
     let stands = found_now rows c.args.key i x c.self.invariant.by_key place some c.index_mut.ensures.value in
