@@ -102,7 +102,7 @@ fn shadowed(rt: HostRuntime) -> Result<(), Fail> {
     shows(&rt, shadow(&mut chains, &mut ids, FIRST)? == ObjectId(10));
     shows(
         &rt,
-        depth(&chains, FIRST) == 2 && depth(&chains, RegionId(6)) == 1,
+        depth(&chains, FIRST) == 2 && depth(&chains, RegionId(6)) == 1 && chains.marked() == 1,
     );
     let place = PageKey {
         object: ObjectId(9),

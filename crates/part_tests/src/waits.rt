@@ -111,6 +111,6 @@ fn goes_on(rt: HostRuntime) -> Result<(), Fail> {
     waits.set_want(YOUNG, copy(2));
     let row = waits.get(YOUNG).ok_or("it waits")?;
     shows(&rt, row.want == copy(2) && row.on == On::Again);
-    shows(&rt, row.destination.is_some());
+    shows(&rt, row.destination.is_some() && waits.copies() == 1);
     Ok(())
 }

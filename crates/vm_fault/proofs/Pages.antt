@@ -184,25 +184,25 @@ runs_then maps host task may_claim answer what old mid f more final last new res
 
 next_room : (maps : Mapped) (host : HostId) (task : TaskId) (may_claim : Bool) (value address pages next : ℕ) (target : ObjectId) (old new : FaultState) (room rest : ℕ)
     → Faulted maps host task (want.CopyTo address pages target next) may_claim (step.Done value) old new → next + 1 < pages → TakesRoom old new room rest
-    → HasRoom (want.CopyTo address pages target next) old.parts old.chains old.ids room → HasRoom (want.CopyTo address pages target (next + 1)) new.parts new.chains new.ids rest
+    → HasRoom (want.CopyTo address pages target next) old.parts old.chains room → HasRoom (want.CopyTo address pages target (next + 1)) new.parts new.chains rest
 next_room maps host task may_claim value address pages next target old new room rest f less takes has =
     let made = made_next maps host task may_claim value address pages next target old new f in
     let one : length new.events ≡ length old.events + 1 = made.told in
-    let marks : new.ids.marks ≡ old.ids.marks = ap (λ (z : Ids). z.marks) made.ids in
+    let marked : new.chains.marked ≡ old.chains.marked = ap (λ (z : ChainTable). z.marked) made.chains in
     let shadows : new.chains.spare ≡ old.chains.spare = ap (λ (z : ChainTable). z.spare) made.chains in
     let objects : new.parts.objects.rows ≡ old.parts.objects.rows = ap (λ (z : ObjectTable). z.rows) made.page.objects in
     record {
       log = omega (arith, has.log, less, takes.log, one, made.page.claimed);
       rows = omega (arith, has.rows, less, takes.rows, one, made.page.claimed);
-      shadows = omega (arith, has.shadows, marks, shadows);
-      objects = omega (arith, has.objects, marks, objects);
+      shadows = omega (arith, has.shadows, marked, shadows);
+      objects = omega (arith, has.objects, marked, objects);
     }
 
 pub room_then : (maps : Mapped) (host : HostId) (task : TaskId) (may_claim : Bool) (answer : FaultStep) (what : Want) (old new : FaultState) (room rest : ℕ)
     → Faulted maps host task what may_claim answer old new → goes_on answer what ≡ true → TakesRoom old new room rest
-    → HasRoom what old.parts old.chains old.ids room → HasRoom (want_after answer what) new.parts new.chains new.ids rest
+    → HasRoom what old.parts old.chains room → HasRoom (want_after answer what) new.parts new.chains rest
 room_then maps host task may_claim answer what old new room rest f more takes has =
     let is = copied answer what more in
-    from_copied (λ a w. HasRoom (want_after a w) new.parts new.chains new.ids rest) answer what is
+    from_copied (λ a w. HasRoom (want_after a w) new.parts new.chains rest) answer what is
     (next_room maps host task may_claim is.value is.address is.pages is.next is.target old new room rest (as_copied (λ a w. Faulted maps host task w may_claim a old new) answer what is f) is.less
-    takes (as_copied (λ a w. HasRoom w old.parts old.chains old.ids room) answer what is has))
+    takes (as_copied (λ a w. HasRoom w old.parts old.chains room) answer what is has))

@@ -22,7 +22,7 @@ places_take mid new after room rest plan takes = record {
   log = takes.log;
   rows = takes.rows;
   shadows = omega arith;
-  objects = subst (λ (z : ObjectTable). mid.parts.objects.rows + mid.ids.marks ≤ z.rows + mid.ids.marks) (sym plan.objects) (omega arith);
+  objects = subst (λ (z : ObjectTable). mid.parts.objects.rows + mid.chains.marked ≤ z.rows + mid.chains.marked) (sym plan.objects) (omega arith);
 }
 
 -- what a run takes that first made room in the log, then prepared its region, and then went on

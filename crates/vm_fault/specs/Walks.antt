@@ -16,6 +16,7 @@ use Rattle.vm_shadow.specs.Chains.{ChainTable, region_at, shadow_at}
 use Rattle.vm_shadow.specs.declared.region_row.RegionRow.{RegionRow}
 use Rattle.vm_shadow.specs.declared.shadow_row.ShadowRow.{ShadowRow}
 use Rattle.vm_waits.specs.Wants.{address_in}
+pub use Rattle.vm_waits.specs.Wants.{is_copying}
 use Rattle.vm_waits.specs.declared.waiting.Want.{Want}
 use Rattle.vm_waits.specs.declared.waiting.Want.TheVariants as want
 
@@ -85,11 +86,6 @@ abbrev pub is_storing : Want → Bool
 is_storing (want.Load address size) = false
 is_storing (want.Store address size value) = true
 is_storing (want.CopyTo address pages target next) = false
-
-abbrev pub is_copying : Want → Bool
-is_copying (want.Load address size) = false
-is_copying (want.Store address size value) = false
-is_copying (want.CopyTo address pages target next) = true
 
 -- a store is to write its top place, and to read all others
 abbrev pub writes_at : Want → ℕ → Bool

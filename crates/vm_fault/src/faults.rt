@@ -50,7 +50,7 @@ pub fn fault(
     ensures takes { OnOk result (TakesRoom
         (record { parts = parts.old; chains = chains.old; ids = ids.old; events = log.old.items })
         (record { parts = parts.new; chains = chains.new; ids = ids.new; events = log.new.items }) log.old.room log.new.room) }
-    ensures succeeds { HasRoom want.old parts.old chains.old ids.old log.old.room → IsOk result }
+    ensures succeeds { HasRoom want.old parts.old chains.old log.old.room → IsOk result }
 {
     'pages: loop {
         let step = once(host, task, *want, may_claim, parts, chains, maps, ids, log)?;
@@ -82,7 +82,7 @@ fn once(
     ensures takes { OnOk result (TakesRoom
         (record { parts = parts.old; chains = chains.old; ids = ids.old; events = log.old.items })
         (record { parts = parts.new; chains = chains.new; ids = ids.new; events = log.new.items }) log.old.room log.new.room) }
-    ensures succeeds { HasRoom want parts.old chains.old ids.old log.old.room → IsOk result }
+    ensures succeeds { HasRoom want parts.old chains.old log.old.room → IsOk result }
 {
     log.reserve(3)?;
     let address = address_of(want, parts.buffers.size());

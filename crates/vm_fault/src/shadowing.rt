@@ -38,7 +38,7 @@ pub fn prepare(
     ensures takes { OnOk result (TakesRoom
         (record { parts = parts.old; chains = chains.old; ids = ids.old; events = log.old.items })
         (record { parts = parts.new; chains = chains.new; ids = ids.new; events = log.new.items }) log.old.room log.new.room) }
-    ensures succeeds { ids.old.marks ≤ chains.old.spare → ids.old.marks ≤ parts.old.objects.rows → IsOk result }
+    ensures succeeds { chains.old.marked ≤ chains.old.spare → chains.old.marked ≤ parts.old.objects.rows → IsOk result }
 {
     let Some(row) = chains.region(region) else {
         unreachable!()
@@ -63,6 +63,7 @@ fn shadow(
     requires fit { Fit parts.old }
     requires chains { ChainsFit chains.old parts.old.objects }
     requires counted { 0 < ids.old.marks }
+    requires some { 0 < chains.old.marked }
     requires named { ObjectsBelow ids.old.next_object chains.old }
     requires unmade { (o : ℕ) → ids.old.next_object ≤ o → object_at parts.old.objects o ≡ None }
     requires few { ids.old.next_object < 2 ^ 32 - 1 }
@@ -74,7 +75,7 @@ fn shadow(
     ensures takes { OnOk result (TakesRoom
         (record { parts = parts.old; chains = chains.old; ids = ids.old; events = log.old.items })
         (record { parts = parts.new; chains = chains.new; ids = ids.new; events = log.new.items }) log.old.room log.new.room) }
-    ensures succeeds { ids.old.marks ≤ chains.old.spare → ids.old.marks ≤ parts.old.objects.rows → IsOk result }
+    ensures succeeds { chains.old.marked ≤ chains.old.spare → chains.old.marked ≤ parts.old.objects.rows → IsOk result }
 {
     parts.objects.reserve(1, 0)?;
     let object = chains.shadow_over(region, ids)?;

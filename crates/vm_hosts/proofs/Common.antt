@@ -26,7 +26,7 @@ pub use Rattle.vm_kernel.specs.Built.{kernel_runs}
 pub use Rattle.vm_kernel.specs.Matches.{IsRanged, Rests, first_ids, host_id}
 pub use Rattle.vm_kernel.proofs.Roomier.{rests_roomier}
 pub use Rattle.vm_kernel.specs.declared.breadth.Breadth.{Breadth}
-pub use Rattle.vm_kernel.specs.Rooms.{IsReady as IsReadyOn, ServeRoom, breadth_of, dues_of, front, full_dues, making, most, rooms_of, to_run, with_rooms, with_rooms_of}
+pub use Rattle.vm_kernel.specs.Rooms.{IsReady as IsReadyOn, ServeRoom, breadth_of, dues, front, full_dues, making, most, rooms_of, to_run, with_rooms, with_rooms_of}
 pub use Rattle.vm_kernel.specs.Serving.{HasQueue}
 pub use Rattle.vm_kernel.specs.Taking.{IsAbsencePaid, IsErrorPaid, IsLockPaid}
 pub use Rattle.vm_legal.specs.InTurn.{EndsAll}

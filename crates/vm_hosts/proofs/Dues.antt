@@ -1,79 +1,35 @@
 -- What is still to be told on the hosts, and the room for it.
-use Rattle.vm_hosts.proofs.Common.{Bool, Breadth, CanServe, CanServeOn, HostTable, Ids, IsReady, IsReadyOn, List, None, On, Parts, ServeRoom, Some, Waiting, [], add-one, ap, arith, dues_of, false, free, front, full_dues, inl, inr, is_again, is_frame, length, making, most, most_of, one, own_dues, refl, same_Some, set, slice_get, slice_get_within, subst, suc, sum_of_dues, sym, to_run, true, zero, ℕ, ◌+◌, ◌<◌, ◌==◌, ◌∙◌, ◌∷◌, ◌≡◌, ◌≤◌}
-use Rattle.vm_kernel.specs.declared.breadth.Breadth.TheVariants as wide
-use Rattle.vm_waits.specs.declared.waiting.On.TheVariants as on
+use Rattle.vm_hosts.proofs.Common.{Breadth, CanServe, CanServeOn, HostTable, Ids, IsReady, IsReadyOn, List, None, Parts, ServeRoom, Some, [], add-one, ap, arith, dues, front, full_dues, inl, inr, length, most, most_of, one, own_dues, refl, same_Some, set, slice_get, slice_get_within, subst, suc, sum_of_dues, sym, zero, ℕ, ◌+◌, ◌<◌, ◌∙◌, ◌∷◌, ◌≡◌, ◌≤◌}
+use Rattle.vm_kernel.proofs.Composing.{dues_full}
 use Rattle.vm_hosts.proofs.Tables.{put, set_cases}
 
 -- one kernel's
 
-one_most : (b : Bool) → one b ≤ 1
-one_most true = omega arith
-one_most false = omega arith
+own_full : (k : Parts) → own_dues k ≤ full_dues k + 2
+own_full k = let full = dues_full k in omega (arith, full)
 
--- an access is to be run again, or waits for a frame, or neither
-one_reason : (reason : On) → one (is_again reason) + one (is_frame reason) ≤ 1
-one_reason on.Again = omega arith
-one_reason (on.Ready object) = omega arith
-one_reason (on.Page key) = omega arith
-one_reason on.Frame = omega arith
+own_few : (b : Breadth) (k : Parts) → own_dues k ≤ most b k
+own_few b k = let full = own_full k in omega (arith, full)
 
-run_few : (rows : List Waiting) → to_run rows ≤ length rows
-run_few [] = omega arith
-run_few (w ∷ ws) =
-    let here = one_reason w.on in
-    let rest = run_few ws in
-    omega (arith, here, rest)
-
--- they are few, beside what a step adds at most
-marks_front : (b : Breadth) (k : Parts) → making b ≤ front b k
-marks_front wide.Few k = omega arith
-marks_front wide.Entries k = omega arith
-marks_front wide.Pages k = omega arith
-
-own_full : (k : Parts) (ids : Ids) → own_dues k + ids.marks ≤ full_dues k ids + 2
-own_full k ids =
-    let run = run_few k.waits.rows in
-    let full = one_most (free k.memory.frames == 0) in
-    omega (arith, run, full)
-
-own_few : (b : Breadth) (k : Parts) (ids : Ids) → own_dues k + (ids.marks + making b) ≤ most b k ids
-own_few b k ids =
-    let full = own_full k ids in
-    let made = marks_front b k in
-    omega (arith, full, made)
-
--- behind what one host did in front, with few more marks
-pub serve_ready : (b : Breadth) (k : Parts) (ids next : Ids) → next.marks ≤ ids.marks + making b → IsReadyOn b k ids → CanServeOn k next
-serve_ready b k ids next marks ready =
-    let full = own_full k ids in
+-- behind what another host did in front
+pub serve_ready : (b : Breadth) (k : Parts) → IsReadyOn b k → CanServeOn k
+serve_ready b k ready =
+    let full = dues_full k in
     let rows = ready.rows in
     let shadows = ready.shadows in
     let objects = ready.objects in
     let buffers = ready.buffers in
     let skip = ready.skip in
     record {
-      rows = omega (arith, full, rows, marks);
-      shadows = omega (arith, shadows, marks);
-      objects = omega (arith, objects, marks);
+      rows = omega (arith, full, rows);
+      shadows = omega (arith, shadows);
+      objects = omega (arith, objects);
       buffers = omega (arith, buffers);
       skip = omega (arith, skip);
     }
 
-serve_fewer : (k : Parts) (ids next : Ids) → next.marks ≤ ids.marks → CanServeOn k ids → CanServeOn k next
-serve_fewer k ids next marks can =
-    let rows = can.rows in
-    let shadows = can.shadows in
-    let objects = can.objects in
-    record {
-      rows = omega (arith, rows, marks);
-      shadows = omega (arith, shadows, marks);
-      objects = omega (arith, objects, marks);
-      buffers = can.buffers;
-      skip = can.skip;
-    }
-
-serve_own : (more : ℕ) (k : Parts) (ids : Ids) (space : ℕ) → ServeRoom more k ids space → CanServeOn k ids
-serve_own more k ids space room = record { rows = room.has.rows; shadows = room.has.shadows; objects = room.has.objects; buffers = room.buffers; skip = room.skip }
+serve_own : (more : ℕ) (k : Parts) (space : ℕ) → ServeRoom more k space → CanServeOn k
+serve_own more k space room = record { rows = room.has.rows; shadows = room.has.shadows; objects = room.has.objects; buffers = room.buffers; skip = room.skip }
 
 -- what the other hosts have still to tell
 
@@ -92,44 +48,34 @@ sum_set (x ∷ ks) (suc h) k less =
     swap_sums : (a b c d : ℕ) → c ≡ b + d → a + c ≡ b + (a + d)
     swap_sums a b c d is = omega (arith, is)
 
-all_few : (b : Breadth) (ks : List Parts) (ids : Ids) → sum_of_dues ks ≤ most_of b ks ids
-all_few b [] ids = omega arith
-all_few b (k ∷ ks) ids = two_few (own_dues k) (ids.marks + making b) (most b k ids) (sum_of_dues ks) (most_of b ks ids) (own_few b k ids) (all_few b ks ids)
+all_few : (b : Breadth) (ks : List Parts) → sum_of_dues ks ≤ most_of b ks
+all_few b [] = omega arith
+all_few b (k ∷ ks) = two_few (own_dues k) (most b k) (sum_of_dues ks) (most_of b ks) (own_few b k) (all_few b ks)
   where
-    two_few : (a b c d e : ℕ) → a + b ≤ c → d ≤ e → a + d ≤ c + e
-    two_few a b c d e one rest = omega (arith, one, rest)
+    two_few : (a c d e : ℕ) → a ≤ c → d ≤ e → a + d ≤ c + e
+    two_few a c d e one rest = omega (arith, one, rest)
 
-others_few : (b : Breadth) (ks : List Parts) (h : ℕ) (k : Parts) (ids : Ids) → slice_get ks h ≡ Some k → most b k ids + other_dues h ks ≤ most_of b ks ids
-others_few b [] h k ids at = absurd (let bad : None ≡ Some k = at in cc)
-others_few b (x ∷ ks) zero k ids at =
-    let rest = all_few b ks ids in
-    subst (λ (z : Parts). most b z ids + sum_of_dues ks ≤ most b x ids + most_of b ks ids) (same_Some x k at) (omega (arith, rest))
-others_few b (x ∷ ks) (suc h) k ids at = three_few (most b k ids) (own_dues x) (ids.marks + making b) (other_dues h ks) (most b x ids) (most_of b ks ids) (own_few b x ids) (others_few b ks h k ids at)
+others_few : (b : Breadth) (ks : List Parts) (h : ℕ) (k : Parts) → slice_get ks h ≡ Some k → most b k + other_dues h ks ≤ most_of b ks
+others_few b [] h k at = absurd (let bad : None ≡ Some k = at in cc)
+others_few b (x ∷ ks) zero k at =
+    let rest = all_few b ks in
+    subst (λ (z : Parts). most b z + sum_of_dues ks ≤ most b x + most_of b ks) (same_Some x k at) (omega (arith, rest))
+others_few b (x ∷ ks) (suc h) k at = three_few (most b k) (own_dues x) (other_dues h ks) (most b x) (most_of b ks) (own_few b x) (others_few b ks h k at)
   where
-    three_few : (a b c d e f : ℕ) → b + c ≤ e → a + d ≤ f → a + (b + d) ≤ e + f
-    three_few a b c d e f one rest = omega (arith, one, rest)
-
-marks_few : (b : Breadth) (ks : List Parts) (ids : Ids) → 0 < length ks → ids.marks + sum_of_dues ks ≤ most_of b ks ids
-marks_few b [] ids some = absurd (omega arith)
-marks_few b (k ∷ ks) ids some = sums_few ids.marks (making b) (own_dues k) (most b k ids) (sum_of_dues ks) (most_of b ks ids) (own_few b k ids) (all_few b ks ids)
-  where
-    sums_few : (a m c d e f : ℕ) → c + (a + m) ≤ d → e ≤ f → a + (c + e) ≤ d + f
-    sums_few a m c d e f one rest = omega (arith, one, rest)
+    three_few : (a b d e f : ℕ) → b ≤ e → a + d ≤ f → a + (b + d) ≤ e + f
+    three_few a b d e f one rest = omega (arith, one, rest)
 
 -- where there is room for a step, there is room to serve at once
-pub can_serve : (b : Breadth) (hosts : HostTable) (events space : ℕ) → 0 < length hosts.kernels → IsReady b events hosts space → CanServe hosts space
-can_serve b hosts events space some ready =
-    let few = marks_few b hosts.kernels hosts.ids some in
-    let enough = ready.enough in
-    let room = ready.room in
-    record { each = λ h k found. serve_ready b k hosts.ids hosts.ids (omega arith) (ready.each h k found); room = within_all few enough room }
+pub can_serve : (b : Breadth) (hosts : HostTable) (events space : ℕ) → IsReady b events hosts space → CanServe hosts space
+can_serve b hosts events space ready =
+    record { each = λ h k found. serve_ready b k (ready.each h k found); room = within_all (all_few b hosts.kernels) ready.enough ready.room }
   where
     within_all : {a b c d : ℕ} → a ≤ b → b ≤ c → c ≤ d → a ≤ d
     within_all one two three = omega (arith, one, two, three)
 
 -- what they tell then is little
-pub served_few : (b : Breadth) (hosts : HostTable) (events space : ℕ) → 0 < length hosts.kernels → IsReady b events hosts space → hosts.ids.marks + sum_of_dues hosts.kernels ≤ events
-served_few b hosts events space some ready = between (marks_few b hosts.kernels hosts.ids some) ready.enough
+pub served_few : (b : Breadth) (hosts : HostTable) (events space : ℕ) → IsReady b events hosts space → sum_of_dues hosts.kernels ≤ events
+served_few b hosts events space ready = between (all_few b hosts.kernels) ready.enough
   where
     between : {a b c : ℕ} → a ≤ b → b ≤ c → a ≤ c
     between one two = omega (arith, one, two)
@@ -139,9 +85,9 @@ module _ (hosts : HostTable) (h : ℕ) (new k : Parts) (next : Ids) (at : slice_
   within = slice_get_within hosts.kernels h k at
 
   -- a host may act, and the others serve behind it
-  pub front_room : (b : Breadth) (events space : ℕ) → IsReady b events hosts space → most b k hosts.ids + other_dues h hosts.kernels ≤ space
+  pub front_room : (b : Breadth) (events space : ℕ) → IsReady b events hosts space → most b k + other_dues h hosts.kernels ≤ space
   front_room b events space ready =
-      let few = others_few b hosts.kernels h k hosts.ids at in
+      let few = others_few b hosts.kernels h k at in
       let enough = ready.enough in
       let room = ready.room in
       between few enough room
@@ -149,32 +95,32 @@ module _ (hosts : HostTable) (h : ℕ) (new k : Parts) (next : Ids) (at : slice_
       between : {a b c d : ℕ} → a ≤ b → b ≤ c → c ≤ d → a ≤ d
       between one two three = omega (arith, one, two, three)
 
-  pub front_fits : (b : Breadth) (events space : ℕ) → IsReady b events hosts space → most b k hosts.ids ≤ space
-  front_fits b events space ready = first (most b k hosts.ids) (other_dues h hosts.kernels) (front_room b events space ready)
+  pub front_fits : (b : Breadth) (events space : ℕ) → IsReady b events hosts space → most b k ≤ space
+  front_fits b events space ready = first (most b k) (other_dues h hosts.kernels) (front_room b events space ready)
     where
       first : (a b : ℕ) → a + b ≤ space → a ≤ space
       first a b fits = omega (arith, fits)
 
-  pub acted_room : (b : Breadth) (events space left : ℕ) → IsReady b events hosts space → ServeRoom (other_dues h hosts.kernels) new next left → next.marks ≤ hosts.ids.marks + making b → CanServe (put hosts h new next) left
-  acted_room b events space left ready room marks = record {
+  pub acted_room : (b : Breadth) (events space left : ℕ) → IsReady b events hosts space → ServeRoom (other_dues h hosts.kernels) new left → CanServe (put hosts h new next) left
+  acted_room b events space left ready room = record {
     each = λ g m found. elim (set_cases hosts.kernels h g new m within found) [
-      | inl same ↦ subst (λ (z : Parts). CanServeOn z next) same.1 (serve_own (other_dues h hosts.kernels) new next left room)
-      | inr apart ↦ serve_ready b m hosts.ids next marks (ready.each g m apart.1)
+      | inl same ↦ subst CanServeOn same.1 (serve_own (other_dues h hosts.kernels) new left room)
+      | inr apart ↦ serve_ready b m (ready.each g m apart.1)
     ];
     room = rw (sum_set hosts.kernels h new within) (sum_room (other_dues h hosts.kernels) room.has.log);
   }
     where
-      sum_room : (more : ℕ) → dues_of new next + (more + 2) ≤ left → next.marks + (own_dues new + more) ≤ left
+      sum_room : (more : ℕ) → dues new + (more + 2) ≤ left → own_dues new + more ≤ left
       sum_room more log = omega (arith, log)
 
-  pub acted_few : (b : Breadth) (events space told last : ℕ) → IsReady b events hosts space → told + dues_of new next ≤ full_dues k hosts.ids + front b k → last ≤ told + (next.marks + sum_of_dues (set hosts.kernels h new)) → last ≤ events
+  pub acted_few : (b : Breadth) (events space told last : ℕ) → IsReady b events hosts space → told + dues new ≤ full_dues k + front b k → last ≤ told + sum_of_dues (set hosts.kernels h new) → last ≤ events
   acted_few b events space told last ready few served =
       let sum = sum_set hosts.kernels h new within in
-      let others = others_few b hosts.kernels h k hosts.ids at in
+      let others = others_few b hosts.kernels h k at in
       let enough = ready.enough in
-      by_sums (other_dues h hosts.kernels) (sum_of_dues (set hosts.kernels h new)) (most_of b hosts.kernels hosts.ids) sum others enough few served
+      by_sums (other_dues h hosts.kernels) (sum_of_dues (set hosts.kernels h new)) (most_of b hosts.kernels) sum others enough few served
     where
-      by_sums : (more sum all : ℕ) → sum ≡ own_dues new + more → most b k hosts.ids + more ≤ all → all ≤ events → told + dues_of new next ≤ full_dues k hosts.ids + front b k → last ≤ told + (next.marks + sum) → last ≤ events
+      by_sums : (more sum all : ℕ) → sum ≡ own_dues new + more → most b k + more ≤ all → all ≤ events → told + dues new ≤ full_dues k + front b k → last ≤ told + sum → last ≤ events
       by_sums more sum all is others enough few served = omega (arith, is, others, enough, few, served)
 
 -- what the hosts from a number on have still to tell
@@ -202,63 +148,63 @@ dues_set ks n k = subst (λ (z : ℕ). dues_from z (set ks n k) ≡ dues_from z 
 
 -- the hosts from a number on can serve, with so much room in the log; so many events are told, and there are so many at most in the end
 pub record Serves (total n : ℕ) (hosts : HostTable) (told space : ℕ) : Type 0 where
-  pub each : (h : ℕ) (k : Parts) → n ≤ h → slice_get hosts.kernels h ≡ Some k → CanServeOn k hosts.ids
-  pub room : hosts.ids.marks + dues_from n hosts.kernels ≤ space
-  pub few : told + (hosts.ids.marks + dues_from n hosts.kernels) ≤ total
+  pub each : (h : ℕ) (k : Parts) → n ≤ h → slice_get hosts.kernels h ≡ Some k → CanServeOn k
+  pub room : dues_from n hosts.kernels ≤ space
+  pub few : told + dues_from n hosts.kernels ≤ total
 
-pub serves_start : (hosts : HostTable) (told space : ℕ) → CanServe hosts space → Serves (told + (hosts.ids.marks + sum_of_dues hosts.kernels)) 0 hosts told space
-serves_start hosts told space can = record { each = λ h k least found. can.each h k found; room = can.room; few = most_itself (told + (hosts.ids.marks + sum_of_dues hosts.kernels)) }
+pub serves_start : (hosts : HostTable) (told space : ℕ) → CanServe hosts space → Serves (told + sum_of_dues hosts.kernels) 0 hosts told space
+serves_start hosts told space can = record { each = λ h k least found. can.each h k found; room = can.room; few = most_itself (told + sum_of_dues hosts.kernels) }
   where
     most_itself : (a : ℕ) → a ≤ a
     most_itself a = omega arith
 
 module _ (total n : ℕ) (hosts : HostTable) (k : Parts) (told space : ℕ) (at : slice_get hosts.kernels n ≡ Some k) (was : Serves total n hosts told space) where
-  pub serves_room : ServeRoom (dues_from (n + 1) hosts.kernels) k hosts.ids space
+  pub serves_room : ServeRoom (dues_from (n + 1) hosts.kernels) k space
   serves_room =
-      let can : CanServeOn k hosts.ids = was.each n k (let m : n ≤ n = omega arith in m) at in
+      let can : CanServeOn k = was.each n k (let m : n ≤ n = omega arith in m) at in
       record {
         has = record { log = log_room (dues_from n hosts.kernels) (dues_from (n + 1) hosts.kernels) (dues_next hosts.kernels n k at) was.room; rows = can.rows; shadows = can.shadows; objects = can.objects };
         buffers = can.buffers;
         skip = can.skip;
       }
     where
-      log_room : (all more : ℕ) → all ≡ own_dues k + more → hosts.ids.marks + all ≤ space → dues_of k hosts.ids + (more + 2) ≤ space
+      log_room : (all more : ℕ) → all ≡ own_dues k + more → all ≤ space → dues k + (more + 2) ≤ space
       log_room all more is room = omega (arith, is, room)
 
-  pub serves_next : (new : Parts) (next : Ids) (later left : ℕ) → next.marks ≤ hosts.ids.marks → later + next.marks ≤ told + dues_of k hosts.ids + 2 → next.marks + dues_from (n + 1) hosts.kernels ≤ left
+  pub serves_next : (new : Parts) (next : Ids) (later left : ℕ) → later ≤ told + dues k + 2 → dues_from (n + 1) hosts.kernels ≤ left
       → Serves total (n + 1) (put hosts n new next) later left
-  serves_next new next later left marks few room = record {
+  serves_next new next later left few room = record {
     each = λ h m least found. elim (set_cases hosts.kernels n h new m (slice_get_within hosts.kernels n k at) found) [
       | inl same ↦ absurd (let is = same.0 in omega (arith, is, least))
-      | inr apart ↦ serve_fewer m hosts.ids next marks (was.each h m (omega (arith, least)) apart.1)
+      | inr apart ↦ was.each h m (omega (arith, least)) apart.1
     ];
     room = rw (dues_set hosts.kernels n new) room;
     few = rw (dues_set hosts.kernels n new) (told_few (dues_from n hosts.kernels) (dues_from (n + 1) hosts.kernels) (dues_next hosts.kernels n k at) was.few);
   }
     where
-      told_few : (all more : ℕ) → all ≡ own_dues k + more → told + (hosts.ids.marks + all) ≤ total → later + (next.marks + more) ≤ total
+      told_few : (all more : ℕ) → all ≡ own_dues k + more → told + all ≤ total → later + more ≤ total
       told_few all more is before = omega (arith, is, before, few)
 
 pub serves_done : (total n : ℕ) (hosts : HostTable) (told space : ℕ) → Serves total n hosts told space → told ≤ total
-serves_done total n hosts told space was = let few = was.few in less_all told (hosts.ids.marks + dues_from n hosts.kernels) few
+serves_done total n hosts told space was = let few = was.few in less_all told (dues_from n hosts.kernels) few
   where
     less_all : (a b : ℕ) → a + b ≤ total → a ≤ total
     less_all a b few = omega (arith, few)
 
 -- what a step adds at most stays, where one host's part of it does
-most_same : (b : Breadth) (ks : List Parts) (h : ℕ) (k new : Parts) (ids : Ids) → slice_get ks h ≡ Some k → most b new ids ≡ most b k ids → most_of b (set ks h new) ids ≡ most_of b ks ids
-most_same b [] h k new ids at same = refl
-most_same b (x ∷ ks) zero k new ids at same = ap (λ (z : ℕ). z + most_of b ks ids) (same ∙ ap (λ (z : Parts). most b z ids) (sym (same_Some x k at)))
-most_same b (x ∷ ks) (suc h) k new ids at same = ap (λ (z : ℕ). most b x ids + z) (most_same b ks h k new ids at same)
+most_same : (b : Breadth) (ks : List Parts) (h : ℕ) (k new : Parts) → slice_get ks h ≡ Some k → most b new ≡ most b k → most_of b (set ks h new) ≡ most_of b ks
+most_same b [] h k new at same = refl
+most_same b (x ∷ ks) zero k new at same = ap (λ (z : ℕ). z + most_of b ks) (same ∙ ap (λ (z : Parts). most b z) (sym (same_Some x k at)))
+most_same b (x ∷ ks) (suc h) k new at same = ap (λ (z : ℕ). most b x + z) (most_same b ks h k new at same)
 
-pub ready_same : (b : Breadth) (hosts : HostTable) (h : ℕ) (k new : Parts) (events space : ℕ) → slice_get hosts.kernels h ≡ Some k → (IsReadyOn b k hosts.ids → IsReadyOn b new hosts.ids) → most b new hosts.ids ≡ most b k hosts.ids → IsReady b events hosts space
+pub ready_same : (b : Breadth) (hosts : HostTable) (h : ℕ) (k new : Parts) (events space : ℕ) → slice_get hosts.kernels h ≡ Some k → (IsReadyOn b k → IsReadyOn b new) → most b new ≡ most b k → IsReady b events hosts space
     → IsReady b events (put hosts h new hosts.ids) space
 ready_same b hosts h k new events space at keeps same ready = record {
   each = λ g m found. elim (set_cases hosts.kernels h g new m (slice_get_within hosts.kernels h k at) found) [
-    | inl is ↦ subst (λ (z : Parts). IsReadyOn b z hosts.ids) is.1 (keeps (ready.each h k at))
+    | inl is ↦ subst (λ (z : Parts). IsReadyOn b z) is.1 (keeps (ready.each h k at))
     | inr apart ↦ ready.each g m apart.1
   ];
-  enough = subst (λ (z : ℕ). z ≤ events) (sym (most_same b hosts.kernels h k new hosts.ids at same)) ready.enough;
+  enough = subst (λ (z : ℕ). z ≤ events) (sym (most_same b hosts.kernels h k new at same)) ready.enough;
   room = ready.room;
 }
 
@@ -268,6 +214,3 @@ more_few told last events few less = omega (arith, few, less)
 
 pub none_more : {A : Type 0} (last events : ℕ) (told : List A) {dues : ℕ} → told ≡ [] → last ≤ length told + dues → dues ≤ events → last ≤ events
 none_more last events told none few less = let empty = ap length none in omega (arith, few, less, empty)
-
-pub few_more : {a b : ℕ} (more : ℕ) → a ≤ b → a ≤ b + more
-few_more more less = omega (arith, less)

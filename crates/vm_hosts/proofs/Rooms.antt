@@ -78,35 +78,35 @@ module _ (hosts : HostTable) (h : ℕ) (new k : Parts) (next : Ids) (at : slice_
   ]
 
 -- how many events the kernels below a number add at most
-abbrev pub most_below : Breadth → ℕ → List Parts → Ids → ℕ
-most_below b zero ks ids = 0
-most_below b (suc n) [] ids = 0
-most_below b (suc n) (k ∷ ks) ids = most b k ids + most_below b n ks ids
+abbrev pub most_below : Breadth → ℕ → List Parts → ℕ
+most_below b zero ks = 0
+most_below b (suc n) [] = 0
+most_below b (suc n) (k ∷ ks) = most b k + most_below b n ks
 
-most_step : (b : Breadth) (ks : List Parts) (n : ℕ) (k : Parts) (ids : Ids) → n < length ks → most_below b (suc n) (set ks n k) ids ≡ most_below b n ks ids + most b k ids
-most_step b [] n k ids less = absurd (omega arith)
-most_step b (x ∷ ks) zero k ids less = plus_none (most b k ids)
+most_step : (b : Breadth) (ks : List Parts) (n : ℕ) (k : Parts) → n < length ks → most_below b (suc n) (set ks n k) ≡ most_below b n ks + most b k
+most_step b [] n k less = absurd (omega arith)
+most_step b (x ∷ ks) zero k less = plus_none (most b k)
   where
     plus_none : (a : ℕ) → a + 0 ≡ 0 + a
     plus_none a = omega arith
-most_step b (x ∷ ks) (suc n) k ids less = plus_more (most b x ids) (most_below b (suc n) (set ks n k) ids) (most_below b n ks ids) (most b k ids) (most_step b ks n k ids (omega (arith, less)))
+most_step b (x ∷ ks) (suc n) k less = plus_more (most b x) (most_below b (suc n) (set ks n k)) (most_below b n ks) (most b k) (most_step b ks n k (omega (arith, less)))
   where
     plus_more : (a b c d : ℕ) → b ≡ c + d → a + b ≡ a + c + d
     plus_more a b c d is = omega (arith, is)
 
-most_next : (b : Breadth) (ks : List Parts) (n : ℕ) (k : Parts) (ids : Ids) → n < length ks → most_below b (n + 1) (set ks n k) ids ≡ most_below b n ks ids + most b k ids
-most_next b ks n k ids less = subst (λ (z : ℕ). most_below b z (set ks n k) ids ≡ most_below b n ks ids + most b k ids) (sym (add-one n)) (most_step b ks n k ids less)
+most_next : (b : Breadth) (ks : List Parts) (n : ℕ) (k : Parts) → n < length ks → most_below b (n + 1) (set ks n k) ≡ most_below b n ks + most b k
+most_next b ks n k less = subst (λ (z : ℕ). most_below b z (set ks n k) ≡ most_below b n ks + most b k) (sym (add-one n)) (most_step b ks n k less)
 
-most_all : (b : Breadth) (ks : List Parts) (ids : Ids) → most_below b (length ks) ks ids ≡ most_of b ks ids
-most_all b [] ids = refl
-most_all b (k ∷ ks) ids = ap (λ (z : ℕ). most b k ids + z) (most_all b ks ids)
+most_all : (b : Breadth) (ks : List Parts) → most_below b (length ks) ks ≡ most_of b ks
+most_all b [] = refl
+most_all b (k ∷ ks) = ap (λ (z : ℕ). most b k + z) (most_all b ks)
 
 -- the hosts below a number have made room
 pub record Reserving (b : Breadth) (first : HostTable) (n sum : ℕ) (hosts : HostTable) : Type 0 where
   pub rests : (header : Header) (past : List Event) → AllRest header first past → AllRest header hosts past
   pub queues : (header : Header) (past : List Event) → AllRest header first past → AllQueued header first past → AllQueued header hosts past
-  pub each : (h : ℕ) (k : Parts) → h < n → slice_get hosts.kernels h ≡ Some k → IsReadyOn b k hosts.ids
-  pub adds : sum ≡ most_below b n hosts.kernels hosts.ids
+  pub each : (h : ℕ) (k : Parts) → h < n → slice_get hosts.kernels h ≡ Some k → IsReadyOn b k
+  pub adds : sum ≡ most_below b n hosts.kernels
 
 pub reserving_start : (b : Breadth) (hosts : HostTable) → Reserving b hosts 0 0 hosts
 reserving_start b hosts = record { rests = λ header past all. all; queues = λ header past all queues. queues; each = λ h k less found. absurd (omega arith); adds = refl }
@@ -120,7 +120,7 @@ reserving_tried b first hosts n sum new k at is was = (
   λ header past all queues. queued_rooms hosts n new k hosts.ids at is refl header past (was.queues header past all queues),
 )
 
-pub reserving_next : (b : Breadth) (first hosts : HostTable) (n sum told after : ℕ) (new k : Parts) → slice_get hosts.kernels n ≡ Some k → new ≡ with_rooms_of new k → IsReadyOn b new hosts.ids → told ≡ most b new hosts.ids → after ≡ sum + told → Reserving b first n sum hosts
+pub reserving_next : (b : Breadth) (first hosts : HostTable) (n sum told after : ℕ) (new k : Parts) → slice_get hosts.kernels n ≡ Some k → new ≡ with_rooms_of new k → IsReadyOn b new → told ≡ most b new → after ≡ sum + told → Reserving b first n sum hosts
     → Reserving b first (n + 1) after (put hosts n new hosts.ids)
 reserving_next b first hosts n sum told after new k at is ready tells adds was =
     let within = slice_get_within hosts.kernels n k at in
@@ -129,15 +129,15 @@ reserving_next b first hosts n sum told after new k at is ready tells adds was =
       rests = tried.0;
       queues = tried.1;
       each = λ g m less found. elim (set_cases hosts.kernels n g new m within found) [
-        | inl same ↦ subst (λ (z : Parts). IsReadyOn b z hosts.ids) same.1 ready
+        | inl same ↦ subst (λ (z : Parts). IsReadyOn b z) same.1 ready
         | inr apart ↦ was.each g m (let far = apart.0 in omega (arith, less, far)) apart.1
       ];
-      adds = adds ∙ (ap (λ (z : ℕ). sum + z) tells ∙ (ap (λ (z : ℕ). z + most b new hosts.ids) was.adds ∙ sym (most_next b hosts.kernels n new hosts.ids within)));
+      adds = adds ∙ (ap (λ (z : ℕ). sum + z) tells ∙ (ap (λ (z : ℕ). z + most b new) was.adds ∙ sym (most_next b hosts.kernels n new within)));
     }
 
 pub reserving_done : (b : Breadth) (first hosts : HostTable) (n sum space : ℕ) → length hosts.kernels ≡ n → sum ≤ space → Reserving b first n sum hosts → IsReady b sum hosts space
 reserving_done b first hosts n sum space all room was =
-    let whole : most_below b n hosts.kernels hosts.ids ≡ most_of b hosts.kernels hosts.ids = subst (λ (z : ℕ). most_below b z hosts.kernels hosts.ids ≡ most_of b hosts.kernels hosts.ids) all (most_all b hosts.kernels hosts.ids) in
+    let whole : most_below b n hosts.kernels ≡ most_of b hosts.kernels = subst (λ (z : ℕ). most_below b z hosts.kernels ≡ most_of b hosts.kernels) all (most_all b hosts.kernels) in
     let is = was.adds in
     record {
       each = λ h k found. was.each h k (let within = slice_get_within hosts.kernels h k found in omega (arith, within, all)) found;

@@ -28,13 +28,6 @@ set_cases (x ∷ ks) (suc h) (suc g) k m within is = elim (set_cases ks h g k m 
 pub kernel_of : (header : Header) (hosts : HostTable) (past : List Event) → AllRest header hosts past → (h : ℕ) → h < length header.frames.items → (k : Parts) × (slice_get hosts.kernels h ≡ Some k)
 kernel_of header hosts past all h known = let count = all.count in kernel_at hosts.kernels h (omega (arith, count, known))
 
--- there is one kernel at the least
-pub some_kernels : (header : Header) (hosts : HostTable) (past : List Event) → AllRest header hosts past → 0 < length hosts.kernels
-some_kernels header hosts past all =
-    let least = all.ranged.hosts.0 in
-    let count = all.count in
-    omega (arith, least, count)
-
 -- the kernel that stands at a place
 pub kernel_read : (ks : List Parts) (h : ℕ) (k : Parts) → h < length ks → k ≡ get_or ks h k → slice_get ks h ≡ Some k
 kernel_read ks h k within read = slice_get_read ks (length ks) h k refl within read

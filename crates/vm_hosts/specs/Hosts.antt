@@ -10,7 +10,7 @@ use Rattle.vm_abroad.specs.Sound.{Sound}
 use Rattle.vm_shadow.specs.declared.ids.Ids.{Ids}
 use Rattle.vm_kernel.specs.Matches.{IsRanged, Rests, first_ids}
 use Rattle.vm_kernel.specs.declared.breadth.Breadth.{Breadth}
-use Rattle.vm_kernel.specs.Rooms.{IsReady as IsReadyOn, IsSkipRoom, dues, dues_of, most, to_run}
+use Rattle.vm_kernel.specs.Rooms.{IsReady as IsReadyOn, IsSkipRoom, dues, most}
 use Rattle.vm_kernel.specs.Serving.{HasQueue}
 use Rattle.vm_kernel.specs.declared.parts.Parts.{Parts}
 
@@ -44,33 +44,33 @@ pub record AreNew (header : Header) (number : ℕ) (kernels : List Parts) : Type
   pub queues : (h : ℕ) (k : Parts) → slice_get kernels h ≡ Some k → HasQueue header h k []
 
 -- how many events these kernels add to a step at most
-abbrev pub most_of : Breadth → List Parts → Ids → ℕ
-most_of breadth [] ids = 0
-most_of breadth (k ∷ ks) ids = most breadth k ids + most_of breadth ks ids
+abbrev pub most_of : Breadth → List Parts → ℕ
+most_of breadth [] = 0
+most_of breadth (k ∷ ks) = most breadth k + most_of breadth ks
 
 -- there is room for a step of so many events at most: in the tables of each host, and in a log with so much room
 pub record IsReady (breadth : Breadth) (events : ℕ) (hosts : HostTable) (space : ℕ) : Type 0 where
-  pub each : (h : ℕ) (k : Parts) → slice_get hosts.kernels h ≡ Some k → IsReadyOn breadth k hosts.ids
-  pub enough : most_of breadth hosts.kernels hosts.ids ≤ events
+  pub each : (h : ℕ) (k : Parts) → slice_get hosts.kernels h ≡ Some k → IsReadyOn breadth k
+  pub enough : most_of breadth hosts.kernels ≤ events
   pub room : events ≤ space
 
--- what is still to be told on a host, but for the shadows of marked regions, and a page that is returned at last
+-- what is still to be told on a host, and a page that is returned at last
 abbrev pub own_dues : Parts → ℕ
-own_dues k = dues (to_run k.waits.rows) k.memory 0 + 2
+own_dues k = dues k + 2
 
 abbrev pub sum_of_dues : List Parts → ℕ
 sum_of_dues [] = 0
 sum_of_dues (k ∷ ks) = own_dues k + sum_of_dues ks
 
 -- there is room in a host's tables to serve its queue
-pub record CanServeOn (k : Parts) (ids : Ids) : Type 0 where
-  pub rows : dues_of k ids ≤ k.memory.resident.spare
-  pub shadows : ids.marks ≤ k.chains.spare
-  pub objects : ids.marks ≤ k.memory.objects.rows
+pub record CanServeOn (k : Parts) : Type 0 where
+  pub rows : dues k ≤ k.memory.resident.spare
+  pub shadows : k.chains.marked ≤ k.chains.spare
+  pub objects : k.chains.marked ≤ k.memory.objects.rows
   pub buffers : 0 < k.memory.buffers.count
   pub skip : IsSkipRoom k
 
 -- there is room for all hosts to serve theirs: in the tables of each, and in a log with so much room
 pub record CanServe (hosts : HostTable) (space : ℕ) : Type 0 where
-  pub each : (h : ℕ) (k : Parts) → slice_get hosts.kernels h ≡ Some k → CanServeOn k hosts.ids
-  pub room : hosts.ids.marks + sum_of_dues hosts.kernels ≤ space
+  pub each : (h : ℕ) (k : Parts) → slice_get hosts.kernels h ≡ Some k → CanServeOn k
+  pub room : sum_of_dues hosts.kernels ≤ space

@@ -108,8 +108,8 @@ impl Hosts {
         let mut most: u64 = 0;
         'rooms: for host in 0..self.kernels.len() {
             let kernel = &mut self.kernels[host];
-            kernel.reserve(breadth, &self.ids)?;
-            let Some(sum) = most.checked_add(kernel.most(breadth, &self.ids)) else {
+            kernel.reserve(breadth)?;
+            let Some(sum) = most.checked_add(kernel.most(breadth)) else {
                 return Err(NoMemory);
             };
             most = sum;
@@ -246,7 +246,7 @@ impl Hosts {
         requires rests { AllRest given.header self.old (log.old.items ++ given.past) }
         requires room { CanServe self.old log.old.room }
         ensures went { Went given.header given.outside given.command given.past log.old.items self.new log.new.items }
-        ensures few { length log.new.items ≤ length log.old.items + (self.old.ids.marks + sum_of_dues self.old.kernels) }
+        ensures few { length log.new.items ≤ length log.old.items + sum_of_dues self.old.kernels }
     {
         'hosts: for host in 0..self.kernels.len() {
             self.kernels[host].serve(&mut self.ids, log);

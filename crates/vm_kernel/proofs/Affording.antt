@@ -1,5 +1,5 @@
 -- What there is room for suffices for a run of an access, and behind it there is room for what is then still to be told.
-use Rattle.vm_kernel.proofs.Common.{ChainTable, Event, Fit, Header, HostParts, Ids, List, None, On, Option, PageKey, Parts, Reclaim, Some, WaitTable, Waiting, Want, Works, ap, arith, count_again, entry, false, free, is_again, is_frame, length, map, none_again, none_queued, one_again, one_frame, queued, refl, suc, sym, true, zero, ℕ, ◌++◌, ◌+◌, ◌-◌, ◌*◌, ◌<◌, ◌==◌, ◌||◌, ◌∙◌, ◌≡◌, ◌≤◌}
+use Rattle.vm_kernel.proofs.Common.{ChainTable, Event, Fit, HostParts, Ids, List, None, On, Option, PageKey, Parts, Reclaim, Some, WaitTable, Waiting, Want, ap, arith, count_again, entry, false, free, is_again, is_frame, length, map, none_again, none_queued, one_again, one_frame, queued, refl, subst, suc, sym, true, zero, ℕ, ◌+◌, ◌-◌, ◌*◌, ◌<◌, ◌==◌, ◌||◌, ◌∙◌, ◌≡◌, ◌≤◌}
 use Rattle.std.proofs.Common.{Bool, vec_capacity}
 use Rattle.std.proofs.lemmas.List.{length-map}
 use Rattle.std.specs.Prelude.{min}
@@ -10,30 +10,29 @@ use Rattle.vm_fault.specs.Walks.{is_copying}
 use Rattle.vm_fault.specs.declared.step.FaultStep.{FaultStep}
 use Rattle.vm_fault.specs.declared.step.FaultStep.TheVariants as step
 use Rattle.vm_kernel.proofs.Dues.{free_loose}
-use Rattle.vm_kernel.proofs.Leading.{can_fault}
-use Rattle.vm_kernel.proofs.Paying.{PaysRun, cost, cost_of_end, frames_due, runs_due}
+use Rattle.vm_kernel.proofs.Paying.{PaysRun, copies_fewer, cost, cost_of_end, frames_due, runs_due}
 use Rattle.vm_kernel.proofs.States.{state_of, with_state}
-use Rattle.vm_kernel.specs.Rooms.{HasRoom, KeepsSpare, LeavesRoom, ServeRoom, dues, loose_frames, one_if_full, to_run}
+use Rattle.vm_kernel.specs.Rooms.{HasRoom, KeepsSpare, LeavesRoom, ServeRoom, dues, if_copies, loose_frames, one_if_full, to_run}
 use Rattle.vm_kernel.specs.Serving.{runs_now}
 use Rattle.vm_kernel.specs.Slow.{DidNothing, EndsCopyIn, EndsWant}
 use Rattle.vm_pageout.specs.declared.answer.Reclaim.TheVariants as reclaim
-use Rattle.vm_supply.specs.declared.woken.Woken.TheVariants as woken
-use Rattle.vm_waits.specs.Waits.{one}
+use Rattle.vm_waits.proofs.Copies.{copies_less, copies_rewanted, copies_some, copies_turned}
+use Rattle.vm_waits.specs.Waits.{EachOnce, count_copies, one, rewanted, rows_without, turned}
 use Rattle.vm_waits.specs.declared.waiting.Destination.{Destination}
 use Rattle.vm_waits.specs.declared.waiting.On.TheVariants as on
 use Rattle.vm_waits.specs.declared.waiting.Want.TheVariants as want
 
 -- events were told, and no more was taken than was due for them
-pub room_after : {more : ℕ} {k k2 : Parts} {ids ids2 : Ids} {room room2 : ℕ} (before after : ℕ) → HasRoom more k ids room → after + dues (to_run k2.waits.rows) k2.memory ids2.marks ≤ before + dues (to_run k.waits.rows) k.memory ids.marks → room + before ≤ room2 + after
-    → k.memory.resident.spare + before ≤ k2.memory.resident.spare + after → k.chains.spare + ids2.marks ≤ k2.chains.spare + ids.marks → k.memory.objects.rows + ids2.marks ≤ k2.memory.objects.rows + ids.marks → HasRoom more k2 ids2 room2
-room_after {more} {k} {k2} {ids} {ids2} {room} {room2} before after has paid log rows shadows objects =
+pub room_after : {more : ℕ} {k k2 : Parts} {room room2 : ℕ} (before after : ℕ) → HasRoom more k room → after + dues k2 ≤ before + dues k → room + before ≤ room2 + after
+    → k.memory.resident.spare + before ≤ k2.memory.resident.spare + after → k.chains.spare + k2.chains.marked ≤ k2.chains.spare + k.chains.marked → k.memory.objects.rows + k2.chains.marked ≤ k2.memory.objects.rows + k.chains.marked → HasRoom more k2 room2
+room_after {more} {k} {k2} {room} {room2} before after has paid log rows shadows objects =
     let all = has.log in
     let each = has.rows in
     let some = has.shadows in
     let few = has.objects in
     record {
-      log = by (dues (to_run k2.waits.rows) k2.memory ids2.marks) (dues (to_run k.waits.rows) k.memory ids.marks) room room2 more paid log all;
-      rows = by_rows (dues (to_run k2.waits.rows) k2.memory ids2.marks) (dues (to_run k.waits.rows) k.memory ids.marks) k.memory.resident.spare k2.memory.resident.spare paid rows each;
+      log = by (dues k2) (dues k) room room2 more paid log all;
+      rows = by_rows (dues k2) (dues k) k.memory.resident.spare k2.memory.resident.spare paid rows each;
       shadows = omega (arith, shadows, some);
       objects = omega (arith, objects, few);
     }
@@ -67,57 +66,76 @@ some_run rows w is runs = by (count_again rows) (queued rows) refl refl
     by zero (suc q) again frames = omega (arith, frames)
 
 -- what is due, for the frames and for the rest
-dues_are : (n : ℕ) (parts : HostParts) (marks : ℕ) → dues n parts marks ≡ 3 * n + marks + frames_due parts
-dues_are n parts marks = omega arith
+dues_are : (k : Parts) → dues k ≡ 3 * to_run k.waits.rows + k.chains.marked + frames_due (count_copies k.waits.rows) k.memory
+dues_are k = omega arith
+
+-- what is due for the frames where fewer slow copies wait
+due_fewer : (few copies : ℕ) (parts : HostParts) → few ≤ copies → frames_due few parts ≤ frames_due copies parts
+due_fewer few copies parts le = let less = copies_fewer few copies (loose_frames parts) le in omega (arith, less)
 
 -- there is room for its run
-pub room_to_run : {more : ℕ} {k : Parts} {ids : Ids} {room : ℕ} (what : Want) → HasRoom more k ids room → Fit k.memory → 0 < to_run k.waits.rows → run.HasRoom what k.memory k.chains ids room
-room_to_run {more} {k} {ids} {room} what has fit some =
-    let loose = free_loose k.memory fit in
+pub room_to_run : {more : ℕ} {k : Parts} {room : ℕ} (what : Want) → HasRoom more k room → Fit k.memory → 0 < to_run k.waits.rows → (is_copying what ≡ true → 0 < count_copies k.waits.rows) → run.HasRoom what k.memory k.chains room
+room_to_run {more} {k} {room} what has fit some copies =
     let all = has.log in
     let each = has.rows in
+    let left = left_due what copies in
     record {
-      log = by (to_run k.waits.rows) ids.marks (loose_frames k.memory) (free k.memory.frames) (pages_left what) room (one_if_full k.memory.frames) all some loose;
-      rows = by_rows (to_run k.waits.rows) ids.marks (loose_frames k.memory) (free k.memory.frames) (pages_left what) k.memory.resident.spare (one_if_full k.memory.frames) each some loose;
+      log = by (to_run k.waits.rows) k.chains.marked (if_copies (count_copies k.waits.rows) (loose_frames k.memory)) (free k.memory.frames) (pages_left what) room (one_if_full k.memory.frames) all some left;
+      rows = by_rows (to_run k.waits.rows) k.chains.marked (if_copies (count_copies k.waits.rows) (loose_frames k.memory)) (free k.memory.frames) (pages_left what) k.memory.resident.spare (one_if_full k.memory.frames) each some left;
       shadows = has.shadows;
       objects = has.objects;
     }
   where
-    by : (n m l f p r x : ℕ) → 3 * n + m + 2 * l + x + more ≤ r → 0 < n → f ≤ l → 3 + min p f ≤ r
+    by_copies : (n : ℕ) → 0 < n → (a b : ℕ) → a ≤ b → a ≤ if_copies n b
+    by_copies zero less a b le = absurd (omega (arith, less))
+    by_copies (suc n) less a b le = le
+
+    left_due : (w : Want) → (is_copying w ≡ true → 0 < count_copies k.waits.rows) → min (pages_left w) (free k.memory.frames) ≤ if_copies (count_copies k.waits.rows) (loose_frames k.memory)
+    left_due (want.Load address n) some_copy = omega arith
+    left_due (want.Store address n number) some_copy = omega arith
+    left_due (want.CopyTo address pages target next) some_copy =
+        let loose = free_loose k.memory fit in
+        by_copies (count_copies k.waits.rows) (some_copy refl) _ _ (omega (arith, loose))
+
+    by : (n m l f p r x : ℕ) → 3 * n + m + 2 * l + x + more ≤ r → 0 < n → min p f ≤ l → 3 + min p f ≤ r
     by n m l f p r x a b c = omega (arith, a, b, c)
 
-    by_rows : (n m l f p r x : ℕ) → 3 * n + m + 2 * l + x ≤ r → 0 < n → f ≤ l → 1 + min p f ≤ r
+    by_rows : (n m l f p r x : ℕ) → 3 * n + m + 2 * l + x ≤ r → 0 < n → min p f ≤ l → 1 + min p f ≤ r
     by_rows n m l f p r x a b c = omega (arith, a, b, c)
 
 -- what an access that isn't to be run any more has told was due, with those events that its end tells besides
-pub few_left : {ids : Ids} {before : List Event} (k k2 : Parts) (answer : FaultStep) (w : Waiting) (new : FaultState) (extra : ℕ) (after : List Event) → PaysRun (cost answer w.want) (state_of k ids before) new → cost answer w.want + extra ≤ 3 → runs_now w.on ≡ true
-    → count_again k2.waits.rows + one_again w.on ≡ count_again k.waits.rows → queued k2.waits.rows + one_frame w.on ≡ queued k.waits.rows → k2.memory ≡ new.parts → length after ≡ length new.events + extra
-    → length after + dues (to_run k2.waits.rows) k2.memory new.ids.marks ≤ length before + dues (to_run k.waits.rows) k.memory ids.marks
-few_left {ids} {before} k k2 answer w new extra after pays costs runs again frames memory told =
+pub few_left : {ids : Ids} {before : List Event} (k k2 : Parts) (answer : FaultStep) (w : Waiting) (new : FaultState) (extra : ℕ) (after : List Event) → PaysRun (count_copies k.waits.rows) (cost answer w.want) (state_of k ids before) new → cost answer w.want + extra ≤ 3 → runs_now w.on ≡ true
+    → count_again k2.waits.rows + one_again w.on ≡ count_again k.waits.rows → queued k2.waits.rows + one_frame w.on ≡ queued k.waits.rows → count_copies k2.waits.rows ≤ count_copies k.waits.rows → k2.memory ≡ new.parts → k2.chains.marked ≡ new.chains.marked
+    → length after ≡ length new.events + extra → length after + dues k2 ≤ length before + dues k
+few_left {ids} {before} k k2 answer w new extra after pays costs runs again frames copies memory marks told =
     let one = runs_one w runs in
     let paid = pays.pays in
-    let due : frames_due k2.memory ≡ frames_due new.parts = ap frames_due memory in
-    let more_dues = dues_are (to_run k2.waits.rows) k2.memory new.ids.marks in
-    let had_dues = dues_are (to_run k.waits.rows) k.memory ids.marks in
+    let due : frames_due (count_copies k.waits.rows) k2.memory ≡ frames_due (count_copies k.waits.rows) new.parts = ap (frames_due (count_copies k.waits.rows)) memory in
+    let less = due_fewer (count_copies k2.waits.rows) (count_copies k.waits.rows) k2.memory copies in
+    let more_dues = dues_are k2 in
+    let had_dues = dues_are k in
     let sum =
-    by (length after) (length new.events) (length before) extra (count_again k2.waits.rows) (queued k2.waits.rows) (count_again k.waits.rows) (queued k.waits.rows) (one_again w.on) (one_frame w.on) new.ids.marks ids.marks (frames_due k2.memory) (frames_due new.parts) (frames_due k.memory) (cost answer w.want) told again frames one due paid costs in
-    omega (arith, more_dues, had_dues, sum)
+    by (length after) (length new.events) (length before) extra (count_again k2.waits.rows) (queued k2.waits.rows) (count_again k.waits.rows) (queued k.waits.rows) (one_again w.on) (one_frame w.on) new.chains.marked k.chains.marked
+    (frames_due (count_copies k.waits.rows) k2.memory) (frames_due (count_copies k.waits.rows) new.parts) (frames_due (count_copies k.waits.rows) k.memory) (cost answer w.want) told again frames one due paid costs in
+    omega (arith, more_dues, had_dues, sum, less, marks)
   where
     by : (a e b x c2 q2 c q u v m2 m f2 f1 f t : ℕ) → a ≡ e + x → c2 + u ≡ c → q2 + v ≡ q → u + v ≡ 1 → f2 ≡ f1 → e + (m2 + f1) ≤ b + (m + f) + t → t + x ≤ 3 → a + (3 * (c2 + q2) + m2 + f2) ≤ b + (3 * (c + q) + m + f)
     by a e b x c2 q2 c q u v m2 m f2 f1 f t i j k2 l n o p = omega (arith, i, j, k2, l, n, o, p)
 
 -- so much room is left behind it
-pub room_left : {more : ℕ} {k k2 : Parts} {ids : Ids} {room room2 : ℕ} {before : List Event} (answer : FaultStep) (w : Waiting) (new : FaultState) (room1 extra : ℕ) (after : List Event) → HasRoom more k ids room → PaysRun (cost answer w.want) (state_of k ids before) new → TakesRoom (state_of k ids before) new room room1
-    → cost answer w.want + extra ≤ 3 → runs_now w.on ≡ true → count_again k2.waits.rows + one_again w.on ≡ count_again k.waits.rows → queued k2.waits.rows + one_frame w.on ≡ queued k.waits.rows
-    → k2.memory ≡ new.parts → k2.chains.spare ≡ new.chains.spare → length after ≡ length new.events + extra → room1 + length new.events ≤ room2 + length after → HasRoom more k2 new.ids room2
-room_left {more} {k} {k2} {ids} {room} {room2} {before} answer w new room1 extra after has pays takes costs runs again frames memory chains told last =
+pub room_left : {more : ℕ} {k k2 : Parts} {ids : Ids} {room room2 : ℕ} {before : List Event} (answer : FaultStep) (w : Waiting) (new : FaultState) (room1 extra : ℕ) (after : List Event) → HasRoom more k room → PaysRun (count_copies k.waits.rows) (cost answer w.want) (state_of k ids before) new
+    → TakesRoom (state_of k ids before) new room room1 → cost answer w.want + extra ≤ 3 → runs_now w.on ≡ true → count_again k2.waits.rows + one_again w.on ≡ count_again k.waits.rows → queued k2.waits.rows + one_frame w.on ≡ queued k.waits.rows → count_copies k2.waits.rows ≤ count_copies k.waits.rows
+    → k2.memory ≡ new.parts → (k2.chains.spare ≡ new.chains.spare) × (k2.chains.marked ≡ new.chains.marked) → length after ≡ length new.events + extra → room1 + length new.events ≤ room2 + length after → HasRoom more k2 room2
+room_left {more} {k} {k2} {ids} {room} {room2} {before} answer w new room1 extra after has pays takes costs runs again frames copies memory chains told last =
     let log = takes.log in
     let rows = takes.rows in
     let spare : k2.memory.resident.spare ≡ new.parts.resident.spare = ap (λ (z : HostParts). z.resident.spare) memory in
     let shadows = takes.shadows in
     let objects = takes.objects in
+    let under = chains.0 in
+    let marks = chains.1 in
     let few : k2.memory.objects.rows ≡ new.parts.objects.rows = ap (λ (z : HostParts). z.objects.rows) memory in
-    room_after (length before) (length after) has (few_left k k2 answer w new extra after pays costs runs again frames memory told) (omega (arith, log, last)) (omega (arith, rows, spare, told)) (omega (arith, shadows, chains)) (omega (arith, objects, few))
+    room_after (length before) (length after) has (few_left k k2 answer w new extra after pays costs runs again frames copies memory marks told) (omega (arith, log, last)) (omega (arith, rows, spare, told)) (omega (arith, shadows, under, marks)) (omega (arith, objects, few, marks))
 
 -- what the end of an access tells besides: two events where it is a slow copy
 pub record TellsEnd (w : Waiting) (old new : Parts) (before after : List Event) : Type 0 where
@@ -151,14 +169,14 @@ tells_end w old new before after did = by w.want w.destination refl did
         record { extra = 2; told = omega (arith, told); costs = omega (arith, same); memory = maps.memory }
 
 -- there is room for that, behind a run
-pub room_to_end : {more : ℕ} {k : Parts} {ids : Ids} {room : ℕ} {before : List Event} (answer : FaultStep) (w : Waiting) (new : FaultState) (room1 : ℕ) → HasRoom more k ids room → PaysRun (cost answer w.want) (state_of k ids before) new → TakesRoom (state_of k ids before) new room room1
+pub room_to_end : {more : ℕ} {k : Parts} {ids : Ids} {room : ℕ} {before : List Event} (answer : FaultStep) (w : Waiting) (new : FaultState) (room1 : ℕ) → HasRoom more k room → PaysRun (count_copies k.waits.rows) (cost answer w.want) (state_of k ids before) new → TakesRoom (state_of k ids before) new room room1
     → 0 < to_run k.waits.rows → cost answer w.want ≡ cost_of_end w.want → is_copying w.want ≡ true → 2 ≤ room1
 room_to_end {more} {k} {ids} {room} {before} answer w new room1 has pays takes some same copying =
     let none : cost_of_end w.want ≡ 0 = copy_free w.want copying in
     let paid = pays.pays in
     let log = takes.log in
     let all = has.log in
-    let had_dues = dues_are (to_run k.waits.rows) k.memory ids.marks in
+    let had_dues = dues_are k in
     omega (arith, none, same, paid, log, all, some, had_dues)
   where
     copy_free : (what : Want) → is_copying what ≡ true → cost_of_end what ≡ 0
@@ -167,27 +185,30 @@ room_to_end {more} {k} {ids} {room} {before} answer w new room1 has pays takes s
     copy_free (want.CopyTo address pages target next) is = refl
 
 -- an access that wants a frame is among those that are to be run still: all that it has told was due
-pub few_wanting : {ids : Ids} {before : List Event} (k k2 : Parts) (source : Option PageKey) (w : Waiting) (new : FaultState) → PaysRun (cost (step.NeedFrame source) w.want) (state_of k ids before) new → to_run k2.waits.rows ≡ to_run k.waits.rows → k2.memory ≡ new.parts
-    → length new.events + dues (to_run k2.waits.rows) k2.memory new.ids.marks ≤ length before + dues (to_run k.waits.rows) k.memory ids.marks
-few_wanting {ids} {before} k k2 source w new pays same memory =
+pub few_wanting : {ids : Ids} {before : List Event} (k k2 : Parts) (source : Option PageKey) (w : Waiting) (new : FaultState) → PaysRun (count_copies k.waits.rows) (cost (step.NeedFrame source) w.want) (state_of k ids before) new → to_run k2.waits.rows ≡ to_run k.waits.rows
+    → count_copies k2.waits.rows ≤ count_copies k.waits.rows → k2.memory ≡ new.parts → k2.chains ≡ new.chains → length new.events + dues k2 ≤ length before + dues k
+few_wanting {ids} {before} k k2 source w new pays same copies memory chains =
     let paid = pays.pays in
-    let due : frames_due k2.memory ≡ frames_due new.parts = ap frames_due memory in
-    let more_dues = dues_are (to_run k2.waits.rows) k2.memory new.ids.marks in
-    let had_dues = dues_are (to_run k.waits.rows) k.memory ids.marks in
-    omega (arith, more_dues, had_dues, paid, due, same)
+    let due : frames_due (count_copies k.waits.rows) k2.memory ≡ frames_due (count_copies k.waits.rows) new.parts = ap (frames_due (count_copies k.waits.rows)) memory in
+    let less = due_fewer (count_copies k2.waits.rows) (count_copies k.waits.rows) k2.memory copies in
+    let marks : k2.chains.marked ≡ new.chains.marked = ap (λ (z : ChainTable). z.marked) chains in
+    let more_dues = dues_are k2 in
+    let had_dues = dues_are k in
+    omega (arith, more_dues, had_dues, paid, due, less, same, marks)
 
 -- so much room is left behind it
-pub room_wanting : {more : ℕ} {k k2 : Parts} {ids : Ids} {room : ℕ} {before : List Event} (source : Option PageKey) (w : Waiting) (new : FaultState) (room2 : ℕ) → HasRoom more k ids room → PaysRun (cost (step.NeedFrame source) w.want) (state_of k ids before) new → TakesRoom (state_of k ids before) new room room2
-    → to_run k2.waits.rows ≡ to_run k.waits.rows → k2.memory ≡ new.parts → k2.chains ≡ new.chains → HasRoom more k2 new.ids room2
-room_wanting {more} {k} {k2} {ids} {room} {before} source w new room2 has pays takes same memory chains =
+pub room_wanting : {more : ℕ} {k k2 : Parts} {ids : Ids} {room : ℕ} {before : List Event} (source : Option PageKey) (w : Waiting) (new : FaultState) (room2 : ℕ) → HasRoom more k room → PaysRun (count_copies k.waits.rows) (cost (step.NeedFrame source) w.want) (state_of k ids before) new
+    → TakesRoom (state_of k ids before) new room room2 → to_run k2.waits.rows ≡ to_run k.waits.rows → count_copies k2.waits.rows ≤ count_copies k.waits.rows → k2.memory ≡ new.parts → k2.chains ≡ new.chains → HasRoom more k2 room2
+room_wanting {more} {k} {k2} {ids} {room} {before} source w new room2 has pays takes same copies memory chains =
     let log = takes.log in
     let rows = takes.rows in
     let spare : k2.memory.resident.spare ≡ new.parts.resident.spare = ap (λ (z : HostParts). z.resident.spare) memory in
     let shadows = takes.shadows in
     let under : k2.chains.spare ≡ new.chains.spare = ap (λ (z : ChainTable). z.spare) chains in
+    let marks : k2.chains.marked ≡ new.chains.marked = ap (λ (z : ChainTable). z.marked) chains in
     let objects = takes.objects in
     let few : k2.memory.objects.rows ≡ new.parts.objects.rows = ap (λ (z : HostParts). z.objects.rows) memory in
-    room_after (length before) (length new.events) has (few_wanting k k2 source w new pays same memory) (omega (arith, log)) (omega (arith, rows, spare)) (omega (arith, shadows, under)) (omega (arith, objects, few))
+    room_after (length before) (length new.events) has (few_wanting k k2 source w new pays same copies memory chains) (omega (arith, log)) (omega (arith, rows, spare)) (omega (arith, shadows, under, marks)) (omega (arith, objects, few, marks))
 
 -- the buffers, and the list of frames that a reclaim passes over
 
@@ -200,11 +221,11 @@ keeps_both one two =
 pub keeps_none : (k : Parts) → KeepsSpare k k
 keeps_none k = record { buffers = refl; skip = refl; fewer = omega arith }
 
-pub run_spare : {most : ℕ} {ids : Ids} {before : List Event} (k : Parts) (new : FaultState) (waits2 : WaitTable) → PaysRun most (state_of k ids before) new → length waits2.rows ≤ length k.waits.rows → KeepsSpare k (record (with_state k new) { waits = waits2 })
+pub run_spare : {copies most : ℕ} {ids : Ids} {before : List Event} (k : Parts) (new : FaultState) (waits2 : WaitTable) → PaysRun copies most (state_of k ids before) new → length waits2.rows ≤ length k.waits.rows → KeepsSpare k (record (with_state k new) { waits = waits2 })
 run_spare k new waits2 pays fewer = record { buffers = pays.buffers; skip = refl; fewer = fewer }
 
 -- the queue is served with what was kept
-pub serve_spare : {more : ℕ} {k k2 : Parts} {ids ids2 : Ids} {room room2 : ℕ} → ServeRoom more k ids room → KeepsSpare k k2 → HasRoom (more + 2) k2 ids2 room2 → ServeRoom more k2 ids2 room2
+pub serve_spare : {more : ℕ} {k k2 : Parts} {room room2 : ℕ} → ServeRoom more k room → KeepsSpare k k2 → HasRoom (more + 2) k2 room2 → ServeRoom more k2 room2
 serve_spare {k = k} {k2 = k2} had keeps has =
     let some = had.buffers in
     let long = had.skip in
@@ -214,19 +235,19 @@ serve_spare {k = k} {k2 = k2} had keeps has =
     record { has = has; buffers = omega (arith, some, same); skip = omega (arith, long, list, few) }
 
 -- a page was reclaimed for the front: its event is paid by the frame that has come free where none was
-pub freed_few : {k k2 : Parts} {room room2 : ℕ} (ids : Ids) (before after : ℕ) → free k.memory.frames ≡ 0 → LeavesRoom reclaim.Freed k k2 room room2 → k2.waits ≡ k.waits → after ≤ before + 1
-    → after + dues (to_run k2.waits.rows) k2.memory ids.marks ≤ before + dues (to_run k.waits.rows) k.memory ids.marks
-freed_few {k} {k2} {room} {room2} ids before after none leaves waits told =
+pub freed_few : {k k2 : Parts} {room room2 : ℕ} (before after : ℕ) → free k.memory.frames ≡ 0 → LeavesRoom reclaim.Freed k k2 room room2 → k2.waits ≡ k.waits → after ≤ before + 1 → after + dues k2 ≤ before + dues k
+freed_few {k} {k2} {room} {room2} before after none leaves waits told =
     let freed = leaves.freed refl in
     let same : to_run k2.waits.rows ≡ to_run k.waits.rows = ap (λ (z : WaitTable). to_run z.rows) waits in
-    let loose = freed.loose in
+    let loose : if_copies (count_copies k2.waits.rows) (loose_frames k2.memory) ≡ if_copies (count_copies k.waits.rows) (loose_frames k.memory) = ap (λ (z : WaitTable). if_copies (count_copies z.rows) (loose_frames k2.memory)) waits ∙ ap (if_copies (count_copies k.waits.rows)) freed.loose in
     let full : one_if_full k.memory.frames ≡ 1 = ap (λ n. one (n == 0)) none in
     let some_free : one_if_full k2.memory.frames ≡ 0 = ap (λ n. one (n == 0)) (freed.free ∙ ap (λ n. n + 1) none) in
-    omega (arith, same, loose, full, some_free, told)
+    let marks : k2.chains.marked ≡ k.chains.marked = ap (λ (z : ChainTable). z.marked) leaves.chains in
+    omega (arith, same, loose, full, some_free, told, marks)
 
 -- so there is room to serve on
-pub freed_room : {more : ℕ} {k k2 : Parts} {ids : Ids} {room room2 : ℕ} → ServeRoom more k ids room → free k.memory.frames ≡ 0 → LeavesRoom reclaim.Freed k k2 room room2 → k2.waits ≡ k.waits → ServeRoom more k2 ids room2
-freed_room {more} {k} {k2} {ids} {room} {room2} had none leaves waits =
+pub freed_room : {more : ℕ} {k k2 : Parts} {room room2 : ℕ} → ServeRoom more k room → free k.memory.frames ≡ 0 → LeavesRoom reclaim.Freed k k2 room room2 → k2.waits ≡ k.waits → ServeRoom more k2 room2
+freed_room {more} {k} {k2} {room} {room2} had none leaves waits =
     let freed = leaves.freed refl in
     let some = had.buffers in
     let long = had.skip in
@@ -237,14 +258,15 @@ freed_room {more} {k} {k2} {ids} {room} {room2} had none leaves waits =
     let rows = leaves.rows in
     let objects = leaves.objects in
     let chains : k2.chains.spare ≡ k.chains.spare = ap (λ (z : ChainTable). z.spare) leaves.chains in
+    let marks : k2.chains.marked ≡ k.chains.marked = ap (λ (z : ChainTable). z.marked) leaves.chains in
     record {
-      has = room_after 0 1 had.has (freed_few ids 0 1 none leaves waits (omega arith)) (omega (arith, log)) (omega (arith, rows)) (omega (arith, chains)) (omega (arith, objects));
+      has = room_after 0 1 had.has (freed_few 0 1 none leaves waits (omega arith)) (omega (arith, log)) (omega (arith, rows)) (omega (arith, chains, marks)) (omega (arith, objects, marks));
       buffers = omega (arith, some, kept);
       skip = omega (arith, long, few, capacity);
     }
 
 -- or it has to wait
-pub waits_room : {more : ℕ} {k k2 : Parts} {ids : Ids} {room room2 : ℕ} (answer : Reclaim) → ServeRoom more k ids room → LeavesRoom answer k k2 room room2 → ids.marks + more ≤ room2
+pub waits_room : {more : ℕ} {k k2 : Parts} {room room2 : ℕ} (answer : Reclaim) → ServeRoom more k room → LeavesRoom answer k k2 room room2 → more ≤ room2
 waits_room answer had leaves =
     let all = had.has.log in
     let log = leaves.log in
@@ -255,17 +277,37 @@ pub few_both : (a b c d e f : ℕ) → b + e ≤ a + d → c + f ≤ b + e → c
 few_both a b c d e f one two = omega (arith, one, two)
 
 -- as much is left where it is served to its end, or nothing happens
-pub marks_room : {more : ℕ} {k : Parts} {ids : Ids} {room : ℕ} → ServeRoom more k ids room → ids.marks + more ≤ room
-marks_room had = let all = had.has.log in omega (arith, all)
+pub served_room : {more : ℕ} {k : Parts} {room : ℕ} → ServeRoom more k room → more ≤ room
+served_room had = let all = had.has.log in omega (arith, all)
 
 -- nobody is served where nobody queues
 pub front_runs : (rows : List Waiting) (w : Waiting) → queued rows ≡ 0 → entry rows w.task.0 ≡ Some w → is_frame w.on ≡ true → ⊥
 front_runs rows w none is runs = let bad : false ≡ true = sym (none_queued rows w.task.0 w none is) ∙ runs in cc
 
 -- what a run has paid
-pub pays_run : {may : Bool} {last : Want} {new : FaultState} (header : Header) (h : ℕ) (past : List Event) (k : Parts) (ids : Ids) (w : Waiting) (events : List Event) (answer : FaultStep) → Works header h k ids woken.Nobody (events ++ past) → entry k.waits.rows w.task.0 ≡ Some w
-    → Runs k.maps k.host w.task may answer w.want last (state_of k ids events) new → PaysRun (cost answer w.want) (state_of k ids events) new
-pays_run header h past k ids w events answer works is runs = runs_due runs (can_fault header h (events ++ past) k ids woken.Nobody w events works is)
+pub pays_run : {may : Bool} {last : Want} {new : FaultState} (k : Parts) (ids : Ids) (w : Waiting) (events : List Event) (answer : FaultStep) → entry k.waits.rows w.task.0 ≡ Some w → Runs k.maps k.host w.task may answer w.want last (state_of k ids events) new
+    → PaysRun (count_copies k.waits.rows) (cost answer w.want) (state_of k ids events) new
+pays_run k ids w events answer is runs = runs_due (count_copies k.waits.rows) (copies_some k.waits.rows w.task.0 w is) runs
+
+-- as many slow copies wait behind it, or one fewer
+pub copies_turn : (t : ℕ) (what : Want) (reason : On) (old mid new : List Waiting) (was : Waiting) → EachOnce old → entry old t ≡ Some was → mid ≡ map (rewanted t what) old → new ≡ map (turned t reason) mid → is_copying what ≡ is_copying was.want → count_copies new ≤ count_copies old
+copies_turn t what reason old mid new was once is rows turns kind =
+    let first : count_copies mid + one (is_copying was.want) ≡ count_copies old + one (is_copying what) = ap (λ z. count_copies z + one (is_copying was.want)) rows ∙ copies_rewanted t what old was once is in
+    let same : one (is_copying what) ≡ one (is_copying was.want) = ap one kind in
+    let last : count_copies new ≡ count_copies mid = ap count_copies turns ∙ copies_turned t reason mid in
+    omega (arith, first, same, last)
+
+pub copies_on : (t : ℕ) (what : Want) (old new : List Waiting) (was : Waiting) → EachOnce old → entry old t ≡ Some was → new ≡ map (rewanted t what) old → is_copying what ≡ is_copying was.want → count_copies new ≤ count_copies old
+copies_on t what old new was once is rows kind =
+    let first : count_copies new + one (is_copying was.want) ≡ count_copies old + one (is_copying what) = ap (λ z. count_copies z + one (is_copying was.want)) rows ∙ copies_rewanted t what old was once is in
+    let same : one (is_copying what) ≡ one (is_copying was.want) = ap one kind in
+    omega (arith, first, same)
+
+pub copies_gone : (t : ℕ) (what : Want) (old mid new : List Waiting) (was : Waiting) → EachOnce old → entry old t ≡ Some was → mid ≡ map (rewanted t what) old → new ≡ rows_without t mid → is_copying what ≡ is_copying was.want → count_copies new ≤ count_copies old
+copies_gone t what old mid new was once is rows goes kind =
+    let first = copies_on t what old mid was once is rows kind in
+    let last : count_copies new ≤ count_copies mid = subst (λ (z : List Waiting). count_copies z ≤ count_copies mid) (sym goes) (copies_less t mid) in
+    omega (arith, first, last)
 
 pub cost_most : (answer : FaultStep) (what : Want) → cost answer what + 0 ≤ 3
 cost_most (step.Done value) (want.Load address n) = omega arith

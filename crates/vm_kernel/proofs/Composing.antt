@@ -5,7 +5,8 @@ use Rattle.vm_base.specs.Listing.{Listed}
 use Rattle.vm_kernel.proofs.Departing.{roomy_fewer}
 use Rattle.vm_kernel.proofs.Holding.{room_once}
 use Rattle.vm_kernel.proofs.LiveControls.{live_known}
-use Rattle.vm_kernel.specs.Rooms.{Dies, HasBuffers, HasMore, HasRoom, IsSkipRoom, KeepsSkip, KeepsSpare, Spends, breadth_of, dues, front, full_dues, heeding, leaving, loose_frames, making, one_if_full, to_run, waking, word_breadth}
+use Rattle.vm_kernel.proofs.Paying.{copies_more}
+use Rattle.vm_kernel.specs.Rooms.{Dies, HasBuffers, HasMore, HasRoom, IsSkipRoom, KeepsSkip, KeepsSpare, Spends, breadth_of, dues, front, full_dues, heeding, if_copies, leaving, loose_frames, making, one_if_full, to_run, waking, word_breadth}
 use Rattle.vm_kernel.specs.declared.breadth.Breadth.{Breadth}
 use Rattle.vm_kernel.specs.declared.breadth.Breadth.TheVariants as wide
 use Rattle.vm_model.specs.declared.message.Message.{Message}
@@ -15,7 +16,9 @@ use Rattle.vm_queues.specs.Queues.{EachOnce}
 use Rattle.vm_supply.specs.declared.woken.Woken.{Woken}
 use Rattle.vm_supply.specs.declared.woken.Woken.TheVariants as who
 use Rattle.vm_terminate.specs.Counts.{live_below}
-use Rattle.vm_waits.specs.Waits.{one}
+use Rattle.vm_waits.proofs.Copies.{copies_begun}
+use Rattle.vm_waits.specs.Waits.{count_copies, one}
+use Rattle.vm_waits.specs.Wants.{is_copying}
 use Rattle.vm_waits.specs.declared.waiting.On.TheVariants as on
 
 -- the list of frames, kept
@@ -60,10 +63,10 @@ one_few : (b : Bool) → one b ≤ 1
 one_few true = omega arith
 one_few false = omega arith
 
-pub dues_full : (k : Parts) (ids : Ids) → dues (to_run k.waits.rows) k.memory ids.marks ≤ full_dues k ids
-dues_full k ids = by (to_run k.waits.rows) (length k.waits.rows) (loose_frames k.memory) (frame_count k.memory.frames) (one_if_full k.memory.frames) (run_few k.waits.rows) (omega arith) (one_few _)
+pub dues_full : (k : Parts) → dues k ≤ full_dues k
+dues_full k = by (to_run k.waits.rows) (length k.waits.rows) (if_copies (count_copies k.waits.rows) (loose_frames k.memory)) (if_copies (count_copies k.waits.rows) (frame_count k.memory.frames)) (one_if_full k.memory.frames) (run_few k.waits.rows) (copies_more (count_copies k.waits.rows) _ _ (omega arith)) (one_few _)
   where
-    by : (run rows loose frames full : ℕ) → run ≤ rows → loose ≤ frames → full ≤ 1 → 3 * run + ids.marks + 2 * loose + full ≤ 3 * rows + ids.marks + 2 * frames + 1
+    by : (run rows loose frames full : ℕ) → run ≤ rows → loose ≤ frames → full ≤ 1 → 3 * run + k.chains.marked + 2 * loose + full ≤ 3 * rows + k.chains.marked + 2 * frames + 1
     by run rows loose frames full few most once = omega (arith, few, most, once)
 
 -- each page that is here has its own frame
@@ -84,68 +87,78 @@ leaving_few {header} {h} {k} {ids} {past} m once =
     by listed live frames known few fewer = omega (arith, few, fewer)
 
 -- room for some is room for fewer
-pub more_fewer : (a i n j more : ℕ) (k : Parts) (ids : Ids) (room : ℕ) → HasMore a i more k ids room → n ≤ a → j ≤ i → HasMore n j more k ids room
-more_fewer a i n j more k ids room had fewer less = record {
-  tables = roomy_fewer a i n j k ids room had.tables fewer less;
+pub more_fewer : (a i n j more : ℕ) (k : Parts) (room : ℕ) → HasMore a i more k room → n ≤ a → j ≤ i → HasMore n j more k room
+more_fewer a i n j more k room had fewer less = record {
+  tables = roomy_fewer a i n j k room had.tables fewer less;
   log = omega (arith, had.log, fewer);
 }
 
-module _ (old new : Parts) (was now : Ids) (before after : Listed Event) where
+module _ (old new : Parts) (before after : Listed Event) where
   -- enough is left for the accesses
-  pub room_behind : (cost makes more : ℕ) → Spends cost makes 0 old was before new now after → HasMore cost makes more old was before.room → HasRoom more new now after.room
+  pub room_behind : (cost makes more : ℕ) → Spends cost makes 0 old before new after → HasMore cost makes more old before.room → HasRoom more new after.room
   room_behind cost makes more is had = record {
-    log = omega (arith, dues_full new now, is.room, had.log);
-    rows = omega (arith, dues_full new now, is.rows, had.tables.rows);
+    log = omega (arith, dues_full new, is.room, had.log);
+    rows = omega (arith, dues_full new, is.rows, had.tables.rows);
     shadows = omega (arith, is.shadows, had.tables.shadows);
     objects = omega (arith, is.objects, had.tables.objects);
   }
 
   -- and no more was told than that
-  pub told_behind : (cost makes most : ℕ) → cost ≤ most → Spends cost makes 0 old was before new now after → length after.items + dues (to_run new.waits.rows) new.memory now.marks ≤ length before.items + (full_dues old was + most)
-  told_behind cost makes most few is = by (dues (to_run new.waits.rows) new.memory now.marks) (full_dues new now) (full_dues old was) (dues_full new now) is.told
+  pub told_behind : (cost makes most : ℕ) → cost ≤ most → Spends cost makes 0 old before new after → length after.items + dues new ≤ length before.items + (full_dues old + most)
+  told_behind cost makes most few is = by (dues new) (full_dues new) (full_dues old) (dues_full new) is.told
     where
       by : (due full first : ℕ) → due ≤ full → length after.items + (full + 0) ≤ length before.items + (first + cost) → length after.items + due ≤ length before.items + (first + most)
       by due full first fewer told = omega (arith, few, fewer, told)
 
 -- what a command leaves
-abbrev pub Leaves : ℕ → Parts → Ids → ℕ → Type 0
-Leaves more k ids room = HasRoom more k ids room × ((0 < k.memory.buffers.count) × IsSkipRoom k)
+abbrev pub Leaves : ℕ → Parts → ℕ → Type 0
+Leaves more k room = HasRoom more k room × ((0 < k.memory.buffers.count) × IsSkipRoom k)
 
-module _ {A B : Type 0} (r : Result A B) (old new : Parts) (was now : Ids) (before after : Listed Event) where
-  pub few_ok : (cost makes most : ℕ) → cost ≤ most → OnOk r (Spends cost makes 0 old was before new now after) → OnOk r (length after.items + dues (to_run new.waits.rows) new.memory now.marks ≤ length before.items + (full_dues old was + most))
+module _ {A B : Type 0} (r : Result A B) (old new : Parts) (before after : Listed Event) where
+  pub few_ok : (cost makes most : ℕ) → cost ≤ most → OnOk r (Spends cost makes 0 old before new after) → OnOk r (length after.items + dues new ≤ length before.items + (full_dues old + most))
   few_ok cost makes most few spends = by r spends
     where
-      by : (r : Result A B) → OnOk r (Spends cost makes 0 old was before new now after) → OnOk r (length after.items + dues (to_run new.waits.rows) new.memory now.marks ≤ length before.items + (full_dues old was + most))
-      by (Ok x) is = told_behind old new was now before after cost makes most few is
+      by : (r : Result A B) → OnOk r (Spends cost makes 0 old before new after) → OnOk r (length after.items + dues new ≤ length before.items + (full_dues old + most))
+      by (Ok x) is = told_behind old new before after cost makes most few is
       by (Err e) is = tt
 
   -- a command that keeps its buffers
-  pub kept_ok : (cost makes most all more : ℕ) → cost ≤ most → makes ≤ all → OnOk r (Spends cost makes 0 old was before new now after) → OnOk r (KeepsSpare old new) → HasMore most all more old was before.room → HasBuffers old → IsSkipRoom old → OnOk r (Leaves more new now after.room)
+  pub kept_ok : (cost makes most all more : ℕ) → cost ≤ most → makes ≤ all → OnOk r (Spends cost makes 0 old before new after) → OnOk r (KeepsSpare old new) → HasMore most all more old before.room → HasBuffers old → IsSkipRoom old → OnOk r (Leaves more new after.room)
   kept_ok cost makes most all more few less spends kept had has skip = by r spends kept
     where
-      by : (r : Result A B) → OnOk r (Spends cost makes 0 old was before new now after) → OnOk r (KeepsSpare old new) → OnOk r (Leaves more new now after.room)
+      by : (r : Result A B) → OnOk r (Spends cost makes 0 old before new after) → OnOk r (KeepsSpare old new) → OnOk r (Leaves more new after.room)
       by (Ok x) is keeps =
           let buffers = ap (λ z. z.count) keeps.buffers in
           let list = ap vec_capacity keeps.skip in
-          (room_behind old new was now before after cost makes more is (more_fewer most all cost makes more old was before.room had few less), (omega (arith, buffers, has), omega (arith, list, keeps.fewer, skip)))
+          (room_behind old new before after cost makes more is (more_fewer most all cost makes more old before.room had few less), (omega (arith, buffers, has), omega (arith, list, keeps.fewer, skip)))
       by (Err e) is keeps = tt
 
   -- one that ends what it can
-  pub ended_ok : (cost most all more : ℕ) → cost ≤ most → OnOk r (Spends cost 0 0 old was before new now after) → OnOk r (HasBuffers old → HasBuffers new) → OnOk r (KeepsSkip old new) → HasMore most all more old was before.room → HasBuffers old → IsSkipRoom old → OnOk r (Leaves more new now after.room)
+  pub ended_ok : (cost most all more : ℕ) → cost ≤ most → OnOk r (Spends cost 0 0 old before new after) → OnOk r (HasBuffers old → HasBuffers new) → OnOk r (KeepsSkip old new) → HasMore most all more old before.room → HasBuffers old → IsSkipRoom old → OnOk r (Leaves more new after.room)
   ended_ok cost most all more few spends buffers kept had has skip = by r spends buffers kept
     where
-      by : (r : Result A B) → OnOk r (Spends cost 0 0 old was before new now after) → OnOk r (HasBuffers old → HasBuffers new) → OnOk r (KeepsSkip old new) → OnOk r (Leaves more new now after.room)
+      by : (r : Result A B) → OnOk r (Spends cost 0 0 old before new after) → OnOk r (HasBuffers old → HasBuffers new) → OnOk r (KeepsSkip old new) → OnOk r (Leaves more new after.room)
       by (Ok x) is leaves keeps =
           let list = ap vec_capacity keeps.skip in
           let left = leaves has in
-          (room_behind old new was now before after cost 0 more is (more_fewer most all cost 0 more old was before.room had few (omega arith)), (omega (arith, left), omega (arith, list, keeps.fewer, skip)))
+          (room_behind old new before after cost 0 more is (more_fewer most all cost 0 more old before.room had few (omega arith)), (omega (arith, left), omega (arith, list, keeps.fewer, skip)))
       by (Err e) is leaves keeps = tt
 
+-- a load or a store is no slow copy
+pub begun_copies : (old mid new : List Waiting) (w : Waiting) → new ≡ mid ++ w ∷ [] → mid ≡ old → is_copying w.want ≡ false → count_copies new ≡ count_copies old
+begun_copies old mid new w is same none =
+    let more = copies_begun mid w in
+    let whole : count_copies new ≡ count_copies (mid ++ w ∷ []) = ap count_copies is in
+    let were : count_copies mid ≡ count_copies old = ap count_copies same in
+    let zero : one (is_copying w.want) ≡ 0 = ap one none in
+    omega (arith, more, whole, were, zero)
+
 -- an access that begins tells one event, and runs once
-pub begun_spends : (k : Parts) (ids : Ids) (waits : WaitTable) (before after : Listed Event) (e : Event) → length waits.rows ≡ length k.waits.rows + 1 → after.items ≡ e ∷ before.items → before.room ≤ after.room + 1 → Spends 4 4 0 k ids before (record k { waits = waits }) ids after
-begun_spends k ids waits before after e more told room =
+pub begun_spends : (k : Parts) (waits : WaitTable) (before after : Listed Event) (e : Event) → length waits.rows ≡ length k.waits.rows + 1 → count_copies waits.rows ≡ count_copies k.waits.rows → after.items ≡ e ∷ before.items → before.room ≤ after.room + 1 → Spends 4 4 0 k before (record k { waits = waits }) after
+begun_spends k waits before after e more copies told room =
     let one : length after.items ≡ length before.items + 1 = rw told (omega arith) in
-    record { told = omega (arith, one, more); room = omega (arith, room, more); rows = omega (arith, more); shadows = omega arith; objects = omega arith; marks = omega arith }
+    let framed = ap (λ n. if_copies n (frame_count k.memory.frames)) copies in
+    record { told = omega (arith, one, more, framed); room = omega (arith, room, more, framed); rows = omega (arith, more, framed); shadows = omega arith; objects = omega arith }
 
 pub few_behind : {a b c : ℕ} → a ≤ b → b ≤ c → a ≤ c
 few_behind {a} {b} {c} first next = omega (arith, first, next)
@@ -159,15 +172,15 @@ spare_behind k waits new one keeps =
     (omega (arith, buffers), (omega (arith, list), omega (arith, one, keeps.fewer)))
 
 -- what any command tells is below that in front
-pub up_to_front : (k : Parts) (ids : Ids) (told n most : ℕ) → n ≤ most → told + (full_dues k ids + n) ≤ told + (full_dues k ids + most)
-up_to_front k ids told n most few = omega (arith, few)
+pub up_to_front : (k : Parts) (told n most : ℕ) → n ≤ most → told + (full_dues k + n) ≤ told + (full_dues k + most)
+up_to_front k told n most few = omega (arith, few)
 
 -- what a command does in front goes by what it is
 pub few_in : (command doing : Command) (k : Parts) (n : ℕ) → command ≡ doing → n ≤ front (breadth_of doing) k → n ≤ front (breadth_of command) k
 few_in command doing k n is few = subst (λ (z : Command). n ≤ front (breadth_of z) k) (sym is) few
 
-pub marks_in : (command doing : Command) (n : ℕ) → command ≡ doing → n ≤ making (breadth_of doing) → n ≤ making (breadth_of command)
-marks_in command doing n is few = subst (λ (z : Command). n ≤ making (breadth_of z)) (sym is) few
+pub made_in : (command doing : Command) (k : Parts) (n : ℕ) → command ≡ doing → n ≤ making (breadth_of doing) k → n ≤ making (breadth_of command) k
+made_in command doing k n is few = subst (λ (z : Command). n ≤ making (breadth_of z) k) (sym is) few
 
 pub on_err : {A B : Type 0} (r : Result A B) (P Q : Type 0) → (P → Q) → OnErr r P → OnErr r Q
 on_err (Ok x) P Q f p = tt
@@ -178,11 +191,11 @@ ok_has (Ok x) P ok p = p
 ok_has (Err e) P ok p = absurd (let bad : false ≡ true = ok in cc)
 
 -- an access that began leaves what was there
-pub begun_leaves : {A B : Type 0} (r : Result A B) (more : ℕ) (old new : Parts) (now : Ids) (room : ℕ) → OnOk r (HasRoom more new now room)
+pub begun_leaves : {A B : Type 0} (r : Result A B) (more : ℕ) (old new : Parts) (room : ℕ) → OnOk r (HasRoom more new room)
     → OnOk r ((old.memory.buffers.count ≤ new.memory.buffers.count) × ((vec_capacity old.skip ≤ vec_capacity new.skip) × (length new.waits.rows ≤ length old.waits.rows + 1))) → HasBuffers old → length old.waits.rows + 1 < vec_capacity old.skip
-    → OnOk r (Leaves more new now room)
-begun_leaves (Ok x) more old new now room left keeps has skip = (left, (omega (arith, keeps.0, has), omega (arith, keeps.1.0, keeps.1.1, skip)))
-begun_leaves (Err e) more old new now room left keeps has skip = tt
+    → OnOk r (Leaves more new room)
+begun_leaves (Ok x) more old new room left keeps has skip = (left, (omega (arith, keeps.0, has), omega (arith, keeps.1.0, keeps.1.1, skip)))
+begun_leaves (Err e) more old new room left keeps has skip = tt
 
 -- a list with room for one access more has room
 pub skip_fewer : (k : Parts) → length k.waits.rows + 1 < vec_capacity k.skip → IsSkipRoom k

@@ -1,9 +1,12 @@
 -- What the end of a region or an object spends, and that there are buffers for it.
-use Rattle.vm_kernel.proofs.Common.{Bool, ChainTable, EndsObject, Entry, Err, Event, Header, HostParts, Ids, IsBrought, IsWhole, LaundryList, List, Mapped, Matches, None, ObjectId, ObjectRow, ObjectTable, Ok, OnOk, Parts, Result, Some, Temp, Woken, [], ap, arith, false, frame_count, inl, inr, length, named, nat_lt, nat_tests, object_at, refl, sym, true, ℕ, ◌++◌, ◌+◌, ◌<◌, ◌∙◌, ◌∷◌, ◌≡◌, ◌≤◌}
+use Rattle.vm_kernel.proofs.Common.{Bool, ChainTable, EndsObject, Entry, Err, Event, Header, HostParts, Ids, IsBrought, IsWhole, LaundryList, List, Mapped, Matches, None, ObjectId, ObjectRow, ObjectTable, Ok, OnOk, Parts, Result, Some, Temp, Woken, [], ap, arith, false, frame_count, inl, inr, length, named, nat_lt, nat_tests, object_at, refl, region_at, subst, sym, true, ℕ, ◌++◌, ◌+◌, ◌<◌, ◌∙◌, ◌∷◌, ◌≡◌, ◌≤◌}
 use Rattle.std.proofs.lemmas.Bool.Decides.{eqb_tells}
 use Rattle.vm_base.specs.Listing.{Listed}
-use Rattle.vm_kernel.specs.Rooms.{HasBuffers, IsRoomy, Spends, leaving}
-use Rattle.vm_kernel.proofs.Strands.{LosesRegion}
+use Rattle.std.proofs.lemmas.List.{length-map}
+use Rattle.std.specs.Prelude.{IfSome, if◌then◌else◌, map}
+use Rattle.vm_kernel.proofs.Paying.{copies_fewer}
+use Rattle.vm_kernel.specs.Rooms.{HasBuffers, IsRoomy, Spends, if_copies, leaving}
+use Rattle.vm_kernel.proofs.Strands.{LosesRegion, if_some}
 use Rattle.vm_locks.specs.Rooms.{LeavesRoom}
 use Rattle.vm_model.specs.declared.event.Event.TheVariants as event
 use Rattle.vm_objects.specs.Objects.{SameRooms}
@@ -11,15 +14,18 @@ use Rattle.vm_parts.specs.Listed.{listed_pages}
 use Rattle.vm_terminate.proofs.Living.{same_put}
 use Rattle.vm_terminate.specs.Counts.{HasBuffers as EnoughBuffers, UsesRoom, live_below}
 use Rattle.vm_terminate.specs.Finishes.{EndsWith}
-use Rattle.vm_waits.specs.Waits.{WaitTable}
+use Rattle.vm_waits.proofs.Copies.{copies_less, copies_woken}
+use Rattle.vm_waits.specs.Waits.{WaitTable, count_copies, rows_without, woken}
+use Rattle.vm_waits.specs.declared.waiting.On.{On}
+use Rattle.vm_waits.specs.declared.waiting.Waiting.{Waiting}
 
-module _ (old new : Parts) (was now : Ids) (before after : Listed Event) where
+module _ (old new : Parts) (before after : Listed Event) where
   -- what is left is less
-  pub spends_less : (a b n : ℕ) → Spends a 0 b old was before new now after → n ≤ b → Spends a 0 n old was before new now after
-  spends_less a b n is less = record { told = omega (arith, is.told, less); room = omega (arith, is.room, less); rows = is.rows; shadows = is.shadows; objects = is.objects; marks = is.marks }
+  pub spends_less : (a b n : ℕ) → Spends a 0 b old before new after → n ≤ b → Spends a 0 n old before new after
+  spends_less a b n is less = record { told = omega (arith, is.told, less); room = omega (arith, is.room, less); rows = is.rows; shadows = is.shadows; objects = is.objects }
 
   -- there is room behind a call for what is left
-  pub roomy_on : (a b : ℕ) → Spends a 0 b old was before new now after → IsRoomy a 0 old was before.room → IsRoomy b 0 new now after.room
+  pub roomy_on : (a b : ℕ) → Spends a 0 b old before new after → IsRoomy a 0 old before.room → IsRoomy b 0 new after.room
   roomy_on a b is had = record {
     log = omega (arith, is.room, had.log);
     rows = omega (arith, is.rows, had.rows);
@@ -28,12 +34,12 @@ module _ (old new : Parts) (was now : Ids) (before after : Listed Event) where
   }
 
   -- or with more in hand
-  pub spends_hand : (a b n : ℕ) → Spends a 0 b old was before new now after → a ≤ n → Spends n 0 b old was before new now after
-  spends_hand a b n is more = record { told = omega (arith, is.told, more); room = omega (arith, is.room, more); rows = is.rows; shadows = is.shadows; objects = is.objects; marks = is.marks }
+  pub spends_hand : (a b n : ℕ) → Spends a 0 b old before new after → a ≤ n → Spends n 0 b old before new after
+  spends_hand a b n is more = record { told = omega (arith, is.told, more); room = omega (arith, is.room, more); rows = is.rows; shadows = is.shadows; objects = is.objects }
 
 -- room for some is room for fewer
-pub roomy_fewer : (a i n j : ℕ) (k : Parts) (ids : Ids) (room : ℕ) → IsRoomy a i k ids room → n ≤ a → j ≤ i → IsRoomy n j k ids room
-roomy_fewer a i n j k ids room had fewer less =
+pub roomy_fewer : (a i n j : ℕ) (k : Parts) (room : ℕ) → IsRoomy a i k room → n ≤ a → j ≤ i → IsRoomy n j k room
+roomy_fewer a i n j k room had fewer less =
     record { log = omega (arith, had.log, fewer); rows = omega (arith, had.rows, less); shadows = omega (arith, had.shadows, less); objects = omega (arith, had.objects, less) }
 
 -- each object that ends is one of those made
@@ -52,6 +58,10 @@ pub frames_kept : (header : Header) (h : ℕ) (k l : Parts) (ids ids2 : Ids) (go
 frames_kept header h k l ids ids2 gone gone2 past past2 m n =
     let both : Some (frame_count l.memory.frames) ≡ Some (frame_count k.memory.frames) = sym n.frames.total ∙ m.frames.total in
     cc
+
+-- so they count for as much
+pub framed : (k : Parts) {n m : ℕ} → n ≡ m → if_copies (count_copies k.waits.rows) n ≡ if_copies (count_copies k.waits.rows) m
+framed k same = ap (if_copies (count_copies k.waits.rows)) same
 
 -- where nothing is declared each object is temporary
 pub all_temporary : (header : Header) (h : ℕ) (k : Parts) (ids : Ids) (gone : List Entry) (past : List Event) → Matches header h k ids gone past → length k.declared.items ≡ 0 → (o : ℕ) (row : ObjectRow) → object_at k.memory.objects o ≡ Some row → row.kind ≡ Temp
@@ -83,16 +93,15 @@ buffers_left header h k ids gone past object n memory chains laundry before afte
 pub ended_spends : (header : Header) (h : ℕ) (past : List Event) (who : Woken) (k : Parts) (ids : Ids) (rest : List Entry) (memory : HostParts) (chains : ChainTable) (laundry : LaundryList) (before after : Listed Event)
     → Matches header h k ids rest (before.items ++ past) → IsWhole header h who (record k { memory = memory; chains = chains; laundry = laundry }) ids rest (after.items ++ past) → UsesRoom ids.next_object k.memory memory k.chains chains before.room after.room
     → length after.items + (listed_pages memory.queues + live_below memory.objects ids.next_object) ≤ length before.items + (listed_pages k.memory.queues + live_below k.memory.objects ids.next_object)
-    → Spends (leaving k ids) 0 (leaving (record k { memory = memory; chains = chains; laundry = laundry }) ids) k ids before (record k { memory = memory; chains = chains; laundry = laundry }) ids after
+    → Spends (leaving k ids) 0 (leaving (record k { memory = memory; chains = chains; laundry = laundry }) ids) k before (record k { memory = memory; chains = chains; laundry = laundry }) after
 ended_spends header h past who k ids rest memory chains laundry before after m whole uses told =
-    let frames = frames_kept header h k (record k { memory = memory; chains = chains; laundry = laundry }) ids ids rest rest (before.items ++ past) (after.items ++ past) m whole.runs.matches in
+    let frames = framed k (frames_kept header h k (record k { memory = memory; chains = chains; laundry = laundry }) ids ids rest rest (before.items ++ past) (after.items ++ past) m whole.runs.matches) in
     record {
-      told = omega (arith, frames, told);
-      room = omega (arith, frames, uses.log);
-      rows = omega (arith, frames, uses.rows, uses.fewer, uses.live);
-      shadows = omega (arith, uses.shadows, uses.fewer, uses.live);
-      objects = omega (arith, uses.objects, uses.fewer, uses.live);
-      marks = omega (arith, uses.shadows, uses.fewer, uses.live);
+      told = omega (arith, frames, told, uses.marked);
+      room = omega (arith, frames, uses.log, uses.marked);
+      rows = omega (arith, frames, uses.rows, uses.fewer, uses.live, uses.marked);
+      shadows = omega (arith, uses.shadows, uses.fewer, uses.live, uses.marked);
+      objects = omega (arith, uses.objects, uses.fewer, uses.live, uses.marked);
     }
 
 -- what follows from one fact, and from another that has a premise
@@ -101,54 +110,71 @@ premised_ok (Ok x) P E Q T f p q = f p q
 premised_ok (Err e) P E Q T f p q = tt
 
 -- a region goes, and its top has a reference less: nothing is spent
-pub region_spends : (k : Parts) (ids : Ids) (r left : ℕ) (object : ObjectId) (chains : ChainTable) (objects : ObjectTable) (log : Listed Event) → LosesRegion k r left object chains objects → k.chains.spare ≤ chains.spare → SameRooms k.memory.objects objects
-    → Spends (leaving k ids) 0 (leaving (record k { memory = record k.memory { objects = objects }; chains = chains }) ids) k ids log (record k { memory = record k.memory { objects = objects }; chains = chains }) ids log
-region_spends k ids r left object chains objects log loses spare rooms =
+pub region_spends : (k : Parts) (ids : Ids) (r left : ℕ) (object : ObjectId) (chains : ChainTable) (objects : ObjectTable) (log : Listed Event) → LosesRegion k r left object chains objects → k.chains.spare ≤ chains.spare → IfSome (region_at k.chains r) (λ row. chains.marked + (if row.marked then 1 else 0) ≡ k.chains.marked) → SameRooms k.memory.objects objects
+    → Spends (leaving k ids) 0 (leaving (record k { memory = record k.memory { objects = objects }; chains = chains }) ids) k log (record k { memory = record k.memory { objects = objects }; chains = chains }) log
+region_spends k ids r left object chains objects log loses spare marks rooms =
     let live = same_put k.memory.objects objects loses.row.top.0 loses.was (record (loses.was) { references = left }) loses.known loses.put refl ids.next_object in
     let rows = rooms.rows in
+    let fewer : chains.marked ≤ k.chains.marked = let less = if_some (region_at k.chains r) _ loses.row loses.found marks in omega (arith, less) in
     record {
-      told = omega (arith, live);
-      room = omega (arith, live);
-      rows = omega (arith, live);
-      shadows = omega (arith, live, spare);
-      objects = omega (arith, live, rows);
-      marks = omega (arith, live, spare);
+      told = omega (arith, live, fewer);
+      room = omega (arith, live, fewer);
+      rows = omega (arith, live, fewer);
+      shadows = omega (arith, live, spare, fewer);
+      objects = omega (arith, live, rows, fewer);
     }
 
 -- a region's count of entries costs nothing
-pub count_spends : (k : Parts) (ids : Ids) (chains : ChainTable) (log : Listed Event) → chains.spare ≡ k.chains.spare → Spends (leaving k ids) 0 (leaving k ids) k ids log (record k { chains = chains }) ids log
-count_spends k ids chains log spare = record { told = omega arith; room = omega arith; rows = omega arith; shadows = omega (arith, spare); objects = omega arith; marks = omega (arith, spare) }
+pub count_spends : (k : Parts) (ids : Ids) (chains : ChainTable) (log : Listed Event) → (chains.spare ≡ k.chains.spare) × (chains.marked ≡ k.chains.marked) → Spends (leaving k ids) 0 (leaving k ids) k log (record k { chains = chains }) log
+count_spends k ids chains log same =
+    let spare = same.0 in
+    let marked = same.1 in
+    record { told = omega (arith, marked); room = omega (arith, marked); rows = omega (arith, marked); shadows = omega (arith, spare, marked); objects = omega (arith, marked) }
 
 -- the end of a task takes its event
-pub exit_spends : (k : Parts) (ids : Ids) (maps : Mapped) (before after : Listed Event) (e : Event) → after.items ≡ e ∷ before.items → before.room ≤ after.room + 1 → Spends (1 + leaving k ids) 0 (leaving k ids) k ids before (record k { maps = maps }) ids after
+pub exit_spends : (k : Parts) (ids : Ids) (maps : Mapped) (before after : Listed Event) (e : Event) → after.items ≡ e ∷ before.items → before.room ≤ after.room + 1 → Spends (1 + leaving k ids) 0 (leaving k ids) k before (record k { maps = maps }) after
 exit_spends k ids maps before after e told room =
     let one : length after.items ≡ length before.items + 1 = rw told (omega arith) in
-    record { told = omega (arith, one); room = omega (arith, room); rows = omega arith; shadows = omega arith; objects = omega arith; marks = omega arith }
+    record { told = omega (arith, one); room = omega (arith, room); rows = omega arith; shadows = omega arith; objects = omega arith }
+
+-- with a row no slow copy comes
+pub copies_dropped : (t : ℕ) (old new : List Waiting) → new ≡ rows_without t old → count_copies new ≤ count_copies old
+copies_dropped t old new rows = subst (λ (z : List Waiting). count_copies z ≤ count_copies old) (sym rows) (copies_less t old)
 
 -- an access that fails takes its event, and leaves its row
-pub failed_spends : (k : Parts) (ids : Ids) (waits : WaitTable) (before after : Listed Event) (e : Event) → length waits.rows + 1 ≡ length k.waits.rows → after.items ≡ e ∷ before.items → before.room ≤ after.room + 1
-    → Spends (leaving k ids) 0 (leaving k ids) k ids before (record k { waits = waits }) ids after
-failed_spends k ids waits before after e less told room =
+pub failed_spends : (k : Parts) (ids : Ids) (waits : WaitTable) (before after : Listed Event) (e : Event) → length waits.rows + 1 ≡ length k.waits.rows → count_copies waits.rows ≤ count_copies k.waits.rows → after.items ≡ e ∷ before.items → before.room ≤ after.room + 1
+    → Spends (leaving k ids) 0 (leaving k ids) k before (record k { waits = waits }) after
+failed_spends k ids waits before after e less copies told room =
     let one : length after.items ≡ length before.items + 1 = rw told (omega arith) in
-    record { told = omega (arith, one, less); room = omega (arith, room, less); rows = omega (arith, less); shadows = omega arith; objects = omega arith; marks = omega arith }
+    let fewer = copies_fewer (count_copies waits.rows) (count_copies k.waits.rows) (frame_count k.memory.frames) copies in
+    record { told = omega (arith, one, less, fewer); room = omega (arith, room, less, fewer); rows = omega (arith, less, fewer); shadows = omega arith; objects = omega arith }
 
--- those that are woken wait in as many rows
-pub woken_spends : (n : ℕ) (k : Parts) (ids : Ids) (waits : WaitTable) (log : Listed Event) → length waits.rows ≡ length k.waits.rows → Spends n 0 0 k ids log (record k { waits = waits }) ids log
-woken_spends n k ids waits log same = record { told = omega (arith, same); room = omega (arith, same); rows = omega (arith, same); shadows = omega arith; objects = omega arith; marks = omega arith }
+-- those that are woken wait in as many rows, and are as many slow copies
+woken_rows : (test : On → Bool) (old new : List Waiting) → new ≡ map (woken test) old → length new ≡ length old
+woken_rows test old new rows = ap length rows ∙ length-map old (woken test)
+
+woken_copies : (test : On → Bool) (old new : List Waiting) → new ≡ map (woken test) old → count_copies new ≡ count_copies old
+woken_copies test old new rows = ap count_copies rows ∙ copies_woken test old
+
+pub woken_spends : (n : ℕ) (k : Parts) (waits : WaitTable) (log : Listed Event) (test : On → Bool) → waits.rows ≡ map (woken test) k.waits.rows → Spends n 0 0 k log (record k { waits = waits }) log
+woken_spends n k waits log test rows =
+    let same = woken_rows test k.waits.rows waits.rows rows in
+    let copies = ap (λ c. if_copies c (frame_count k.memory.frames)) (woken_copies test k.waits.rows waits.rows rows) in
+    record { told = omega (arith, same, copies); room = omega (arith, same, copies); rows = omega (arith, same, copies); shadows = omega arith; objects = omega arith }
 
 -- a lock request that is obeyed takes an event for each page that is here, and one for the reply
 pub obeyed_spends : (header : Header) (h : ℕ) (past past2 : List Event) (k : Parts) (ids : Ids) (memory : HostParts) (laundry : LaundryList) (waits : WaitTable) (before after : Listed Event) → Matches header h k ids [] past
-    → Matches header h (record k { memory = memory; laundry = laundry; waits = waits }) ids [] past2 → LeavesRoom k.memory memory before.room after.room → length after.items ≤ length before.items + listed_pages k.memory.queues + 1 → length waits.rows ≡ length k.waits.rows
-    → Spends (listed_pages k.memory.queues + 1) 0 0 k ids before (record k { memory = memory; laundry = laundry; waits = waits }) ids after
-obeyed_spends header h past past2 k ids memory laundry waits before after m n leaves told same =
-    let frames = frames_kept header h k (record k { memory = memory; laundry = laundry; waits = waits }) ids ids [] [] past past2 m n in
+    → Matches header h (record k { memory = memory; laundry = laundry; waits = waits }) ids [] past2 → LeavesRoom k.memory memory before.room after.room → length after.items ≤ length before.items + listed_pages k.memory.queues + 1 → (test : On → Bool) → waits.rows ≡ map (woken test) k.waits.rows
+    → Spends (listed_pages k.memory.queues + 1) 0 0 k before (record k { memory = memory; laundry = laundry; waits = waits }) after
+obeyed_spends header h past past2 k ids memory laundry waits before after m n leaves told test rows =
+    let same = woken_rows test k.waits.rows waits.rows rows in
+    let frames = ap (λ c. if_copies c (frame_count memory.frames)) (woken_copies test k.waits.rows waits.rows rows) ∙ framed k (frames_kept header h k (record k { memory = memory; laundry = laundry; waits = waits }) ids ids [] [] past past2 m n) in
     record {
       told = omega (arith, frames, told, same);
       room = omega (arith, frames, leaves.log, same);
       rows = omega (arith, frames, leaves.rows, same);
       shadows = omega arith;
       objects = omega (arith, leaves.objects);
-      marks = omega arith;
     }
 
 -- an answer brings one event at most
@@ -162,9 +188,9 @@ brought_few (e ∷ other ∷ more) brought = absurd (two e brought)
     two another brought = brought
 
 pub heard_spends : (header : Header) (h : ℕ) (past past2 : List Event) (k : Parts) (ids : Ids) (memory : HostParts) (before after : Listed Event) → Matches header h k ids [] past → Matches header h (record k { memory = memory }) ids [] past2 → IsBrought after.items → before.room ≤ after.room + 1
-    → k.memory.resident.spare ≤ memory.resident.spare → k.memory.objects.rows ≤ memory.objects.rows → Spends 1 0 0 k ids before (record k { memory = memory }) ids after
+    → k.memory.resident.spare ≤ memory.resident.spare → k.memory.objects.rows ≤ memory.objects.rows → Spends 1 0 0 k before (record k { memory = memory }) after
 heard_spends header h past past2 k ids memory before after m n brought room rows objects =
-    let frames = frames_kept header h k (record k { memory = memory }) ids ids [] [] past past2 m n in
+    let frames = framed k (frames_kept header h k (record k { memory = memory }) ids ids [] [] past past2 m n) in
     let few = brought_few after.items brought in
     record {
       told = omega (arith, frames, few);
@@ -172,5 +198,4 @@ heard_spends header h past past2 k ids memory before after m n brought room rows
       rows = omega (arith, frames, rows);
       shadows = omega arith;
       objects = omega (arith, objects);
-      marks = omega arith;
     }

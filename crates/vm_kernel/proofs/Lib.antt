@@ -1,5 +1,4 @@
 mod Common
-mod Composing
 mod Failings
 pub mod Abroad
 pub mod Accessing
@@ -15,6 +14,7 @@ pub mod Built
 pub mod Bypassed
 pub mod Changing
 pub mod Claiming
+pub mod Composing
 pub mod Copied
 pub mod Copies
 pub mod CopyBegins

@@ -2,14 +2,14 @@
 use Rattle.vm_kernel.proofs.Common.{Bool, ChainTable, Event, FrameNo, Header, HostId, HostParts, Ids, LaundryList, List, None, ObjectRow, Page, PageKey, PageRow, PagerState, Parts, Queues, Reclaim, ReclaimEffects, Rests, Some, WaitTable, [], ap, arith, controlled, false, frame_count, free, has_page, inl, inr, is_queued, is_skipped, length, refl, sends, some_is, subst, sym, told_from, true, ℕ, ◌&&◌, ◌++◌, ◌*◌, ◌+◌, ◌<◌, ◌==◌, ◌||◌, ◌∙◌, ◌∷◌, ◌≡◌, ◌≤◌, ◌⊎◌}
 use Rattle.std.proofs.Common.{vec_capacity}
 use Rattle.vm_kernel.proofs.Paying.{loose_moves}
-use Rattle.vm_kernel.specs.Rooms.{IsRoomy, IsSkipRoom, LeavesRoom, Spends, is_kept, loose_frames}
+use Rattle.vm_kernel.specs.Rooms.{IsRoomy, IsSkipRoom, LeavesRoom, Spends, if_copies, is_kept, loose_frames}
 use Rattle.vm_kernel.specs.Serving.{FreesBut}
 use Rattle.vm_base.specs.Listing.{Listed}
 use Rattle.std.specs.Prelude.{min}
 use Rattle.vm_pageout.specs.Reclaims.{IsFreed, creation_events}
 use Rattle.vm_pageout.specs.declared.answer.Reclaim.TheVariants as reclaim
 use Rattle.vm_parts.specs.Listed.{listed_pages}
-use Rattle.vm_waits.specs.Waits.{one}
+use Rattle.vm_waits.specs.Waits.{count_copies, one}
 use Rattle.std.proofs.lemmas.List.{length-append}
 use Rattle.vm_model.specs.declared.message.Message.TheVariants as message
 use Rattle.vm_objects.specs.declared.row.PagerState.TheVariants as state
@@ -203,12 +203,13 @@ leaves_looked answer k k2 queues before after same r =
 -- what reclaims have taken since a pageout began: two events and a buffer at most for each page that they took off the lists
 pub record Reclaimed (done : ℕ) (old new : Parts) (before after : Listed Event) : Type 0 where
   pub accesses : length new.waits.rows ≡ length old.waits.rows
-  pub frames : frame_count new.memory.frames ≡ frame_count old.memory.frames
+  pub frames : if_copies (count_copies new.waits.rows) (frame_count new.memory.frames) ≡ if_copies (count_copies old.waits.rows) (frame_count old.memory.frames)
   pub told : length after.items + 2 * listed_pages new.memory.queues ≤ length before.items + 2 * listed_pages old.memory.queues
   pub room : before.room + 2 * listed_pages new.memory.queues ≤ after.room + 2 * listed_pages old.memory.queues
   pub rows : old.memory.resident.spare ≤ new.memory.resident.spare
   pub objects : old.memory.objects.rows ≤ new.memory.objects.rows
   pub shadows : new.chains.spare ≡ old.chains.spare
+  pub marked : new.chains.marked ≡ old.chains.marked
   pub skip : vec_capacity old.skip ≤ vec_capacity new.skip
   pub each : old.memory.buffers.count ≤ new.memory.buffers.count + done
   pub listed : old.memory.buffers.count + listed_pages new.memory.queues ≤ new.memory.buffers.count + listed_pages old.memory.queues
@@ -223,6 +224,7 @@ none_reclaimed k log =
       rows = omega arith;
       objects = omega arith;
       shadows = refl;
+      marked = refl;
       skip = omega arith;
       each = omega arith;
       listed = omega arith;
@@ -254,12 +256,13 @@ one_reclaimed answer done first k k2 begun log log2 was leaves some waits frames
     let skip0 = was.skip in
     record {
       accesses = accesses ∙ was.accesses;
-      frames = frames ∙ was.frames;
+      frames = (ap (λ (z : WaitTable). if_copies (count_copies z.rows) (frame_count k2.memory.frames)) waits ∙ ap (if_copies (count_copies k.waits.rows)) frames) ∙ was.frames;
       told = omega (arith, fewer, few, told);
       room = omega (arith, fewer, left, room);
       rows = omega (arith, rows, rows0);
       objects = omega (arith, objects, objects0);
       shadows = chains ∙ was.shadows;
+      marked = ap (λ (z : ChainTable). z.marked) leaves.chains ∙ was.marked;
       skip = omega (arith, skip, skip0);
       each = omega (arith, each, buffers);
       listed = omega (arith, listed, buffers, fewer);
@@ -287,20 +290,21 @@ all_reclaimed answer done first k k2 begun log log2 was leaves nothing waits fra
     let skip0 = was.skip in
     record {
       accesses = accesses ∙ was.accesses;
-      frames = frames ∙ was.frames;
+      frames = (ap (λ (z : WaitTable). if_copies (count_copies z.rows) (frame_count k2.memory.frames)) waits ∙ ap (if_copies (count_copies k.waits.rows)) frames) ∙ was.frames;
       told = omega (arith, none, items, told);
       room = omega (arith, none, place, room);
       rows = omega (arith, rows, rows0);
       objects = omega (arith, objects, objects0);
       shadows = chains ∙ was.shadows;
+      marked = ap (λ (z : ChainTable). z.marked) leaves.chains ∙ was.marked;
       skip = omega (arith, skip, skip0);
       each = omega (arith, each, count);
       listed = omega (arith, listed, count, none);
     }
 
 -- so that is what a pageout spends
-pub reclaimed_spends : (done : ℕ) (k k2 : Parts) (ids : Ids) (before after : Listed Event) → Reclaimed done k k2 before after → Spends (2 * listed_pages k.memory.queues) 0 0 k ids before k2 ids after
-reclaimed_spends done k k2 ids before after was =
+pub reclaimed_spends : (done : ℕ) (k k2 : Parts) (before after : Listed Event) → Reclaimed done k k2 before after → Spends (2 * listed_pages k.memory.queues) 0 0 k before k2 after
+reclaimed_spends done k k2 before after was =
     let accesses = was.accesses in
     let frames = was.frames in
     let told = was.told in
@@ -308,13 +312,13 @@ reclaimed_spends done k k2 ids before after was =
     let rows = was.rows in
     let objects = was.objects in
     let shadows = was.shadows in
+    let marked = was.marked in
     record {
-      told = omega (arith, accesses, frames, told);
-      room = omega (arith, accesses, frames, room);
-      rows = omega (arith, accesses, frames, rows);
-      shadows = omega (arith, shadows);
-      objects = omega (arith, objects);
-      marks = omega arith;
+      told = omega (arith, accesses, frames, told, marked);
+      room = omega (arith, accesses, frames, room, marked);
+      rows = omega (arith, accesses, frames, rows, marked);
+      shadows = omega (arith, shadows, marked);
+      objects = omega (arith, objects, marked);
     }
 
 -- a buffer is left for the frame queue
@@ -325,7 +329,7 @@ reclaimed_spare done count k k2 before after was most enough =
     omega (arith, each, listed, most, enough)
 
 -- and there is room to reclaim one more, if there is one
-pub reclaimed_room : (done : ℕ) (k k2 : Parts) (ids : Ids) (before after : Listed Event) → Reclaimed done k k2 before after → IsRoomy (2 * listed_pages k.memory.queues) 0 k ids before.room → 0 < listed_pages k2.memory.queues → 2 ≤ after.room
+pub reclaimed_room : (done : ℕ) (k k2 : Parts) (ids : Ids) (before after : Listed Event) → Reclaimed done k k2 before after → IsRoomy (2 * listed_pages k.memory.queues) 0 k before.room → 0 < listed_pages k2.memory.queues → 2 ≤ after.room
 reclaimed_room done k k2 ids before after was roomy some =
     let room = was.room in
     let log = roomy.log in

@@ -130,7 +130,7 @@ pub record LosesRegion (k : Parts) (r left : ℕ) (object : ObjectId) (chains : 
   pub put : PutsObject row.top.0 (Some (record was { references = left })) k.memory.objects objects
   pub marks : SameMarks k.memory.objects objects
 
-if_some : {A : Type 0} (x : Option A) (P : A → Type 0) (v : A) → x ≡ Some v → IfSome x P → P v
+pub if_some : {A : Type 0} (x : Option A) (P : A → Type 0) (v : A) → x ≡ Some v → IfSome x P → P v
 if_some x P v is holds = subst (λ z. IfSome z P) is holds
 
 -- the top of a region is known, and is referred to

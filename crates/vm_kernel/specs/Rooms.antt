@@ -18,7 +18,7 @@ use Rattle.vm_shadow.specs.declared.ids.Ids.{Ids}
 use Rattle.vm_supply.specs.declared.woken.Woken.{Woken}
 use Rattle.vm_supply.specs.declared.woken.Woken.TheVariants as woken
 use Rattle.vm_terminate.specs.Counts.{live_below}
-use Rattle.vm_waits.specs.Waits.{count_again, one, queued}
+use Rattle.vm_waits.specs.Waits.{count_again, count_copies, one, queued}
 use Rattle.vm_waits.specs.declared.waiting.Waiting.{Waiting}
 use Rattle.vm_kernel.specs.declared.breadth.Breadth.{Breadth}
 use Rattle.vm_kernel.specs.declared.breadth.Breadth.TheVariants as breadth
@@ -47,46 +47,46 @@ loose_frames parts = frame_count parts.frames - kept_below parts.resident (frame
 abbrev pub one_if_full : FrameTable → ℕ
 one_if_full frames = one (free frames == 0)
 
--- What is still to be told, at most, where so many accesses are to be run: three events each, the shadow of each region that is marked, and for each frame that may
--- get another page the end of the page that it has and the page that a slow copy puts there.
-abbrev pub dues : ℕ → HostParts → ℕ → ℕ
-dues accesses parts marks = 3 * accesses + marks + 2 * loose_frames parts + one_if_full parts.frames
-
 -- the accesses that are to be run: those to be run again, and those that wait for a frame
 abbrev pub to_run : List Waiting → ℕ
 to_run rows = count_again rows + queued rows
 
--- what is still to be told, at most
-abbrev pub dues_of : Parts → Ids → ℕ
-dues_of k ids = dues (to_run k.waits.rows) k.memory ids.marks
+-- as many, where some slow copies wait
+abbrev pub if_copies : ℕ → ℕ → ℕ
+if_copies zero n = 0
+if_copies (suc copies) n = n
+
+-- What is still to be told, at most: three events for each access that is to be run, and the shadow of each region that is marked; and where slow copies wait, for each
+-- frame that may get another page the end of the page that it has and the page that a slow copy puts there.
+abbrev pub dues : Parts → ℕ
+dues k = 3 * to_run k.waits.rows + k.chains.marked + 2 * if_copies (count_copies k.waits.rows) (loose_frames k.memory) + one_if_full k.memory.frames
 
 -- There is room for what is still to be told, and for so many events more; each event comes with one row of a page at most, and a shadow with one object.
-pub record HasRoom (more : ℕ) (k : Parts) (ids : Ids) (room : ℕ) : Type 0 where
-  pub log : dues (to_run k.waits.rows) k.memory ids.marks + more ≤ room
-  pub rows : dues (to_run k.waits.rows) k.memory ids.marks ≤ k.memory.resident.spare
-  pub shadows : ids.marks ≤ k.chains.spare
-  pub objects : ids.marks ≤ k.memory.objects.rows
+pub record HasRoom (more : ℕ) (k : Parts) (room : ℕ) : Type 0 where
+  pub log : dues k + more ≤ room
+  pub rows : dues k ≤ k.memory.resident.spare
+  pub shadows : k.chains.marked ≤ k.chains.spare
+  pub objects : k.chains.marked ≤ k.memory.objects.rows
 
 -- the same for as many accesses as wait, and whatever the frames have: what is enough behind anything that a command or a message does first
-abbrev pub full_dues : Parts → Ids → ℕ
-full_dues k ids = 3 * length k.waits.rows + ids.marks + 2 * frame_count k.memory.frames + 1
+abbrev pub full_dues : Parts → ℕ
+full_dues k = 3 * length k.waits.rows + k.chains.marked + 2 * if_copies (count_copies k.waits.rows) (frame_count k.memory.frames) + 1
 
 -- there is room for that, for so many events more, and in each table for so many rows more
-pub record IsRoomy (more rows_more : ℕ) (k : Parts) (ids : Ids) (room : ℕ) : Type 0 where
-  pub log : full_dues k ids + more ≤ room
-  pub rows : full_dues k ids + rows_more ≤ k.memory.resident.spare
-  pub shadows : ids.marks + rows_more ≤ k.chains.spare
-  pub objects : ids.marks + rows_more ≤ k.memory.objects.rows
+pub record IsRoomy (more rows_more : ℕ) (k : Parts) (room : ℕ) : Type 0 where
+  pub log : full_dues k + more ≤ room
+  pub rows : full_dues k + rows_more ≤ k.memory.resident.spare
+  pub shadows : k.chains.marked + rows_more ≤ k.chains.spare
+  pub objects : k.chains.marked + rows_more ≤ k.memory.objects.rows
 
 -- What a call in front of the accesses that are run has told and taken, where it had so much in hand and has so much left: no more events than it had in hand; and no
--- more rows, shadows, objects and marks than it makes.
-pub record Spends (hand makes left : ℕ) (old : Parts) (was : Ids) (before : Listed Event) (new : Parts) (now : Ids) (after : Listed Event) : Type 0 where
-  pub told : length after.items + (full_dues new now + left) ≤ length before.items + (full_dues old was + hand)
-  pub room : before.room + (full_dues new now + left) ≤ after.room + (full_dues old was + hand)
-  pub rows : old.memory.resident.spare + full_dues new now ≤ new.memory.resident.spare + (full_dues old was + makes)
-  pub shadows : old.chains.spare + now.marks ≤ new.chains.spare + (was.marks + makes)
-  pub objects : old.memory.objects.rows + now.marks ≤ new.memory.objects.rows + (was.marks + makes)
-  pub marks : now.marks ≤ was.marks + makes
+-- more rows, shadows and objects than it makes.
+pub record Spends (hand makes left : ℕ) (old : Parts) (before : Listed Event) (new : Parts) (after : Listed Event) : Type 0 where
+  pub told : length after.items + (full_dues new + left) ≤ length before.items + (full_dues old + hand)
+  pub room : before.room + (full_dues new + left) ≤ after.room + (full_dues old + hand)
+  pub rows : old.memory.resident.spare + full_dues new ≤ new.memory.resident.spare + (full_dues old + makes)
+  pub shadows : old.chains.spare + new.chains.marked ≤ new.chains.spare + (old.chains.marked + makes)
+  pub objects : old.memory.objects.rows + new.chains.marked ≤ new.memory.objects.rows + (old.chains.marked + makes)
 
 -- what the end of all regions would tell: each page that is here leaves, and each control that lives ends
 abbrev pub leaving : Parts → Ids → ℕ
@@ -106,6 +106,7 @@ breadth_of (command.Fork task child) = breadth.Entries
 breadth_of (command.Exit task) = breadth.Pages
 breadth_of (command.Deallocate task address bytes) = breadth.Pages
 breadth_of (command.Pageout host count) = breadth.Pages
+breadth_of (command.Copy task address bytes target to) = breadth.Frames
 breadth_of other = breadth.Few
 
 -- how much the word of a pager may tell
@@ -114,11 +115,13 @@ word_breadth (message.Lock page count returns flush lock reply) = breadth.Pages
 word_breadth (message.Error page reason) = breadth.Pages
 word_breadth other = breadth.Few
 
--- What is told at most in front of the accesses that are run: some events; a fork makes a task and copies 256 entries; an end takes each page and each control, a pageout
--- reclaims each page, of which a new pager may be told, a lock request may have each page given back, and an error may end slow copies.
+-- What is told at most in front of the accesses that are run: some events; a fork makes a task and copies 256 entries; a copy may wait for its pages, and then each frame
+-- counts twice; an end takes each page and each control, a pageout reclaims each page, of which a new pager may be told, a lock request may have each page given back,
+-- and an error may end slow copies.
 abbrev pub front : Breadth → Parts → ℕ
 front breadth.Few k = 5
 front breadth.Entries k = 1025
+front breadth.Frames k = 2 * frame_count k.memory.frames + 5
 front breadth.Pages k = 2 * frame_count k.memory.frames + length k.memory.objects.entries + 1
 
 -- what the word itself tells at most: a lock request has each page given back, and has its reply
@@ -137,30 +140,31 @@ pub record Dies (m : Message) (old new : Parts) : Type 0 where
   pub queues : new.memory.queues ≡ old.memory.queues
   pub objects : new.memory.objects ≡ old.memory.objects
 
--- how many marks a command may make, and how many rows of each table
-abbrev pub making : Breadth → ℕ
-making breadth.Few = 5
-making breadth.Entries = 1025
-making other = 0
+-- how many rows of each table that takes, at most
+abbrev pub making : Breadth → Parts → ℕ
+making breadth.Few k = 5
+making breadth.Entries k = 1025
+making breadth.Frames k = 2 * frame_count k.memory.frames + 5
+making breadth.Pages k = 0
 
 -- how many events a step adds on the host at most
-abbrev pub most : Breadth → Parts → Ids → ℕ
-most breadth k ids = full_dues k ids + front breadth k + 2
+abbrev pub most : Breadth → Parts → ℕ
+most breadth k = full_dues k + front breadth k + 2
 
 -- there is room for a step in the tables of a host
-pub record IsReady (breadth : Breadth) (k : Parts) (ids : Ids) : Type 0 where
-  pub rows : full_dues k ids + making breadth ≤ k.memory.resident.spare
-  pub shadows : ids.marks + making breadth ≤ k.chains.spare
-  pub objects : ids.marks + making breadth ≤ k.memory.objects.rows
+pub record IsReady (breadth : Breadth) (k : Parts) : Type 0 where
+  pub rows : full_dues k + making breadth k ≤ k.memory.resident.spare
+  pub shadows : k.chains.marked + making breadth k ≤ k.chains.spare
+  pub objects : k.chains.marked + making breadth k ≤ k.memory.objects.rows
   pub mark : 0 < k.memory.objects.marks
   pub access : 0 < k.waits.room
   pub buffers : HasBuffers k
   pub skip : length k.waits.rows + 1 < vec_capacity k.skip
 
 -- there is room for so many events and rows in front of the accesses that are run, and behind those in the log for so many events more
-pub record HasMore (first makes more : ℕ) (k : Parts) (ids : Ids) (room : ℕ) : Type 0 where
-  pub tables : IsRoomy first makes k ids room
-  pub log : full_dues k ids + (first + more) ≤ room
+pub record HasMore (first makes more : ℕ) (k : Parts) (room : ℕ) : Type 0 where
+  pub tables : IsRoomy first makes k room
+  pub log : full_dues k + (first + more) ≤ room
 
 -- the room of each table of a host
 pub record Rooms : Type 0 where
@@ -223,15 +227,15 @@ pub record KeepsSkip (old new : Parts) : Type 0 where
   pub fewer : length new.waits.rows ≤ length old.waits.rows
 
 -- there is room to serve the queue: for what is still to be told, for a page that is returned, and for so many events more
-pub record ServeRoom (more : ℕ) (k : Parts) (ids : Ids) (room : ℕ) : Type 0 where
-  pub has : HasRoom (more + 2) k ids room
+pub record ServeRoom (more : ℕ) (k : Parts) (room : ℕ) : Type 0 where
+  pub has : HasRoom (more + 2) k room
   pub buffers : 0 < k.memory.buffers.count
   pub skip : IsSkipRoom k
 
--- the front wanted a frame: there is room to serve on, or it has to wait, and then there is room for the marks and for so many events more
-pub record StopsRoom (stops : Bool) (more : ℕ) (k : Parts) (ids : Ids) (room : ℕ) : Type 0 where
-  pub on : stops ≡ false → ServeRoom more k ids room
-  pub off : stops ≡ true → ids.marks + more ≤ room
+-- the front wanted a frame: there is room to serve on, or it has to wait, and then there is room for so many events more
+pub record StopsRoom (stops : Bool) (more : ℕ) (k : Parts) (room : ℕ) : Type 0 where
+  pub on : stops ≡ false → ServeRoom more k room
+  pub off : stops ≡ true → more ≤ room
 
 abbrev pub rooms_of : Parts → Rooms
 rooms_of k = record {

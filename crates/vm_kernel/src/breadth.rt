@@ -12,6 +12,8 @@ pub enum Breadth {
     Few,
     /// The entries of a task, which a fork copies.
     Entries,
+    /// Each frame of a host twice: a copy may wait for its pages.
+    Frames,
     /// The pages and the controls of a host, which go with a task, a range or a slow copy, or are paged
     /// out or given back.
     Pages,
@@ -24,6 +26,7 @@ impl Breadth {
     {
         match command {
             Command::Fork { .. } => Breadth::Entries,
+            Command::Copy { .. } => Breadth::Frames,
             Command::Exit { .. } | Command::Deallocate { .. } | Command::Pageout { .. } => {
                 Breadth::Pages
             }

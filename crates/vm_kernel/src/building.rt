@@ -71,8 +71,8 @@ impl Parts {
         ensures ran { OnOk result (Ran given.header given.host given.outside (command.Task task (host_id given.host)) given.past self.new ids.now log.new.items) }
         ensures plays { OnOk result (Plays given.header given.past log.old.items (paging self.old) log.new.items (paging self.new)) }
         ensures quiet { OnOk result (QueueIsStill self.old.waits.queue self.new.waits.queue log.old.items log.new.items) }
-        ensures spends { OnOk result (Spends 1 1 0 self.old ids.now log.old self.new ids.now log.new) }
-        ensures err { IsRoomy 1 1 self.old ids.now log.old.room → OnErr result ((self.new ≡ self.old) × (log.new.items ≡ log.old.items)) }
+        ensures spends { OnOk result (Spends 1 1 0 self.old log.old self.new log.new) }
+        ensures err { IsRoomy 1 1 self.old log.old.room → OnErr result ((self.new ≡ self.old) × (log.new.items ≡ log.old.items)) }
         ensures spare { OnOk result (KeepsSpare self.old self.new) }
     {
         self.maps.add_task(task)?;
@@ -95,8 +95,8 @@ impl Parts {
         ensures ran { OnOk result (Ran given.header given.host given.outside (command.Allocate task address bytes) given.past self.new ids.new log.new.items) }
         ensures plays { OnOk result (Plays given.header given.past log.old.items (paging self.old) log.new.items (paging self.new)) }
         ensures quiet { OnOk result (QueueIsStill self.old.waits.queue self.new.waits.queue log.old.items log.new.items) }
-        ensures spends { OnOk result (Spends 2 2 0 self.old ids.old log.old self.new ids.new log.new) }
-        ensures succeeds { IsRoomy 2 2 self.old ids.old log.old.room → IsOk result }
+        ensures spends { OnOk result (Spends 2 2 0 self.old log.old self.new log.new) }
+        ensures succeeds { IsRoomy 2 2 self.old log.old.room → IsOk result }
         ensures spare { OnOk result (KeepsSpare self.old self.new) }
     {
         let pages = (bytes / u64::from(self.size.bytes())) as u32;
@@ -129,6 +129,7 @@ impl Parts {
         ensures succeeds { 0 < self.old.memory.objects.rows → 0 < self.old.chains.spare → IsOk result }
         ensures objects { self.old.memory.objects.rows ≤ self.new.memory.objects.rows + 1 }
         ensures shadows { self.old.chains.spare ≤ self.new.chains.spare + 1 }
+        ensures marked { self.new.chains.marked ≡ self.old.chains.marked }
         ensures skip { OnOk result (self.new.skip ≡ self.old.skip) }
     {
         self.memory.objects.make(object, ObjectKind::Temp, pages)?;
@@ -149,8 +150,8 @@ impl Parts {
         ensures ran { OnOk result (Ran given.header given.host given.outside (command.Wire (host_id given.host) count) given.past self.new ids.now log.new.items) }
         ensures plays { OnOk result (Plays given.header given.past log.old.items (paging self.old) log.new.items (paging self.new)) }
         ensures quiet { OnOk result (QueueIsStill self.old.waits.queue self.new.waits.queue log.old.items log.new.items) }
-        ensures spends { OnOk result (Spends 1 1 0 self.old ids.now log.old self.new ids.now log.new) }
-        ensures succeeds { IsRoomy 1 1 self.old ids.now log.old.room → IsOk result }
+        ensures spends { OnOk result (Spends 1 1 0 self.old log.old self.new log.new) }
+        ensures succeeds { IsRoomy 1 1 self.old log.old.room → IsOk result }
         ensures spare { OnOk result (KeepsSpare self.old self.new) }
     {
         let _ = self.memory.frames.wire(count);
@@ -163,8 +164,8 @@ impl Parts {
         ensures ran { OnOk result (Ran given.header given.host given.outside (command.Unwire (host_id given.host) count) given.past self.new ids.now log.new.items) }
         ensures plays { OnOk result (Plays given.header given.past log.old.items (paging self.old) log.new.items (paging self.new)) }
         ensures quiet { OnOk result (QueueIsStill self.old.waits.queue self.new.waits.queue log.old.items log.new.items) }
-        ensures spends { OnOk result (Spends 1 1 0 self.old ids.now log.old self.new ids.now log.new) }
-        ensures succeeds { IsRoomy 1 1 self.old ids.now log.old.room → IsOk result }
+        ensures spends { OnOk result (Spends 1 1 0 self.old log.old self.new log.new) }
+        ensures succeeds { IsRoomy 1 1 self.old log.old.room → IsOk result }
         ensures spare { OnOk result (KeepsSpare self.old self.new) }
     {
         let _ = self.memory.frames.unwire(count);

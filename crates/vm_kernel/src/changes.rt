@@ -86,8 +86,8 @@ impl Parts {
         ensures plays { OnOk result (Plays given.header given.past log.old.items (paging self.old) log.new.items (paging self.new)) }
         ensures quiet { OnOk result (QueueIsStill self.old.waits.queue self.new.waits.queue log.old.items log.new.items) }
         ensures ends { OnOk result (EndsByAddress given.header given.past given.command log.new.items) }
-        ensures spends { OnOk result (Spends (1 + leaving self.old ids.now) 0 0 self.old ids.now log.old self.new ids.now log.new) }
-        ensures succeeds { IsRoomy (1 + leaving self.old ids.now) 0 self.old ids.now log.old.room → HasBuffers self.old → IsOk result }
+        ensures spends { OnOk result (Spends (1 + leaving self.old ids.now) 0 0 self.old log.old self.new log.new) }
+        ensures succeeds { IsRoomy (1 + leaving self.old ids.now) 0 self.old log.old.room → HasBuffers self.old → IsOk result }
         ensures buffers { OnOk result (HasBuffers self.old → HasBuffers self.new) }
         ensures skip { OnOk result (KeepsSkip self.old self.new) }
     {
@@ -112,8 +112,8 @@ impl Parts {
         ensures plays { OnOk result (Plays given.header given.past log.old.items (paging self.old) log.new.items (paging self.new)) }
         ensures quiet { OnOk result (QueueIsStill self.old.waits.queue self.new.waits.queue log.old.items log.new.items) }
         ensures ends { OnOk result (EndsByAddress given.header given.past given.command log.new.items) }
-        ensures spends { OnOk result (Spends (1 + leaving self.old ids.now) 0 0 self.old ids.now log.old self.new ids.now log.new) }
-        ensures err { IsRoomy (1 + leaving self.old ids.now) 0 self.old ids.now log.old.room → HasBuffers self.old → OnErr result ((self.new ≡ self.old) × (log.new.items ≡ log.old.items)) }
+        ensures spends { OnOk result (Spends (1 + leaving self.old ids.now) 0 0 self.old log.old self.new log.new) }
+        ensures err { IsRoomy (1 + leaving self.old ids.now) 0 self.old log.old.room → HasBuffers self.old → OnErr result ((self.new ≡ self.old) × (log.new.items ≡ log.old.items)) }
         ensures buffers { OnOk result (HasBuffers self.old → HasBuffers self.new) }
         ensures skip { OnOk result (KeepsSkip self.old self.new) }
     {
@@ -143,8 +143,8 @@ impl Parts {
         ensures ran { OnOk result (Ran given.header given.host given.outside (command.Protect task address bytes prot) given.past self.new ids.now log.new.items) }
         ensures plays { OnOk result (Plays given.header given.past log.old.items (paging self.old) log.new.items (paging self.new)) }
         ensures quiet { OnOk result (QueueIsStill self.old.waits.queue self.new.waits.queue log.old.items log.new.items) }
-        ensures spends { OnOk result (Spends 1 1 0 self.old ids.now log.old self.new ids.now log.new) }
-        ensures err { IsRoomy 1 1 self.old ids.now log.old.room → OnErr result ((self.new ≡ self.old) × (log.new.items ≡ log.old.items)) }
+        ensures spends { OnOk result (Spends 1 1 0 self.old log.old self.new log.new) }
+        ensures err { IsRoomy 1 1 self.old log.old.room → OnErr result ((self.new ≡ self.old) × (log.new.items ≡ log.old.items)) }
         ensures spare { OnOk result (KeepsSpare self.old self.new) }
     {
         let cuts = cuts_of(&self.maps, task, address, bytes);
@@ -173,8 +173,8 @@ impl Parts {
         ensures ran { OnOk result (Ran given.header given.host given.outside (command.Inherit task address bytes inherit) given.past self.new ids.now log.new.items) }
         ensures plays { OnOk result (Plays given.header given.past log.old.items (paging self.old) log.new.items (paging self.new)) }
         ensures quiet { OnOk result (QueueIsStill self.old.waits.queue self.new.waits.queue log.old.items log.new.items) }
-        ensures spends { OnOk result (Spends 1 1 0 self.old ids.now log.old self.new ids.now log.new) }
-        ensures err { IsRoomy 1 1 self.old ids.now log.old.room → OnErr result ((self.new ≡ self.old) × (log.new.items ≡ log.old.items)) }
+        ensures spends { OnOk result (Spends 1 1 0 self.old log.old self.new log.new) }
+        ensures err { IsRoomy 1 1 self.old log.old.room → OnErr result ((self.new ≡ self.old) × (log.new.items ≡ log.old.items)) }
         ensures spare { OnOk result (KeepsSpare self.old self.new) }
     {
         let cuts = cuts_of(&self.maps, task, address, bytes);

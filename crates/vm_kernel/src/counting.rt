@@ -21,7 +21,7 @@ pub struct Cuts {
 pub fn set_count(chains: &mut Chains, region: RegionId, count: u32)
     requires { has_region chains.old region.0 ≡ true }
     ensures puts { PutsEntries region.0 count chains.old chains.new }
-    ensures spare { chains.new.spare ≡ chains.old.spare }
+    ensures spare { (chains.new.spare ≡ chains.old.spare) × (chains.new.marked ≡ chains.old.marked) }
 {
     chains.set_entries(region, count);
 }
@@ -70,7 +70,7 @@ fn count_cut(chains: &mut Chains, cut: Option<RegionId>)
     requires there { IfSome cut (λ region. has_region chains.old region.0 ≡ true) }
     requires few { (r : ℕ) → region_entries chains.old r < 2 ^ 32 - 1 }
     ensures raised { (rows : List Row) → IsCutOn cut rows → Raised rows chains.old chains.new }
-    ensures spare { chains.new.spare ≡ chains.old.spare }
+    ensures spare { (chains.new.spare ≡ chains.old.spare) × (chains.new.marked ≡ chains.old.marked) }
 {
     let Some(region) = cut else {
         return;
@@ -85,7 +85,7 @@ pub fn count_cuts(chains: &mut Chains, cuts: Cuts)
     requires high { IfSome cuts.high (λ region. has_region chains.old region.0 ≡ true) }
     requires few { (r : ℕ) → region_entries chains.old r < 2 ^ 32 - 2 }
     ensures raised { (low high : List Row) → IsCutOn cuts.low low → IsCutOn cuts.high high → Raised (low ++ high) chains.old chains.new }
-    ensures spare { chains.new.spare ≡ chains.old.spare }
+    ensures spare { (chains.new.spare ≡ chains.old.spare) × (chains.new.marked ≡ chains.old.marked) }
 {
     count_cut(chains, cuts.low);
     count_cut(chains, cuts.high);

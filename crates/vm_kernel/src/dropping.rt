@@ -83,8 +83,8 @@ impl Parts {
         ensures ran { OnOk result (Ran given.header given.host given.outside given.command given.past self.new ids.now log.new.items) }
         ensures plays { OnOk result (PlaysBy given.header (SparesSourceSince (first_in_queue self.old.waits.queue) given.past) given.past log.old.items (paging self.old) log.new.items (paging self.new)) }
         ensures quiet { OnOk result (QueueIsStill self.old.waits.queue self.new.waits.queue log.old.items log.new.items) }
-        ensures spends { OnOk result (Spends (2 * listed_pages self.old.memory.queues) 0 0 self.old ids.now log.old self.new ids.now log.new) }
-        ensures succeeds { IsRoomy (2 * listed_pages self.old.memory.queues) 0 self.old ids.now log.old.room → min count (listed_pages self.old.memory.queues) + 1 ≤ self.old.memory.buffers.count → IsSkipRoom self.old → IsOk result }
+        ensures spends { OnOk result (Spends (2 * listed_pages self.old.memory.queues) 0 0 self.old log.old self.new log.new) }
+        ensures succeeds { IsRoomy (2 * listed_pages self.old.memory.queues) 0 self.old log.old.room → min count (listed_pages self.old.memory.queues) + 1 ≤ self.old.memory.buffers.count → IsSkipRoom self.old → IsOk result }
         ensures spare { OnOk result ((min count (listed_pages self.old.memory.queues) + 1 ≤ self.old.memory.buffers.count → 0 < self.new.memory.buffers.count) × (vec_capacity self.old.skip ≤ vec_capacity self.new.skip)) }
         ensures rows { OnOk result (length self.new.waits.rows ≤ length self.old.waits.rows) }
     {

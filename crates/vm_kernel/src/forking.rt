@@ -37,8 +37,8 @@ impl Parts {
         ensures ran { OnOk result (Ran given.header given.host given.outside (command.Fork task child) given.past self.new ids.new log.new.items) }
         ensures plays { OnOk result (Plays given.header given.past log.old.items (paging self.old) log.new.items (paging self.new)) }
         ensures quiet { OnOk result (QueueIsStill self.old.waits.queue self.new.waits.queue log.old.items log.new.items) }
-        ensures spends { OnOk result (Spends 1025 1025 0 self.old ids.old log.old self.new ids.new log.new) }
-        ensures err { IsRoomy 1025 1025 self.old ids.old log.old.room → OnErr result ((self.new ≡ self.old) × ((ids.new ≡ ids.old) × (log.new.items ≡ log.old.items))) }
+        ensures spends { OnOk result (Spends 1025 1025 0 self.old log.old self.new log.new) }
+        ensures err { IsRoomy 1025 1025 self.old log.old.room → OnErr result ((self.new ≡ self.old) × ((ids.new ≡ ids.old) × (log.new.items ≡ log.old.items))) }
         ensures spare { OnOk result (KeepsSpare self.old self.new) }
     {
         self.maps.add_task(child)?;
@@ -75,10 +75,9 @@ impl Parts {
         ensures ran { OnOk result (Ran given.header given.host given.outside (command.Copy task address bytes target to) given.past self.new ids.new log.new.items) }
         ensures plays { OnOk result (Plays given.header given.past log.old.items (paging self.old) log.new.items (paging self.new)) }
         ensures restarts { OnOk result (Restarted given.header given.host self.new.waits.rows given.past self.old.waits.queue self.new.waits.queue log.new.items) }
-        ensures few { OnOk result (length log.new.items + dues (to_run self.new.waits.rows) self.new.memory ids.new.marks ≤ length log.old.items + (full_dues self.old ids.old + front wide.Few self.old)) }
-        ensures room { (more : ℕ) → HasMore (front wide.Few self.old) (making wide.Few) more self.old ids.old log.old.room → 0 < self.old.waits.room → HasBuffers self.old → length self.old.waits.rows + 1 < vec_capacity self.old.skip → OnOk result (HasRoom more self.new ids.new log.new.room × (0 < self.new.memory.buffers.count × IsSkipRoom self.new)) }
-        ensures err { HasMore (front wide.Few self.old) (making wide.Few) 0 self.old ids.old log.old.room → 0 < self.old.waits.room → HasBuffers self.old → length self.old.waits.rows + 1 < vec_capacity self.old.skip → OnErr result ((self.new ≡ self.old) × ((ids.new ≡ ids.old) × (log.new.items ≡ log.old.items))) }
-        ensures marks { OnOk result (ids.new.marks ≤ ids.old.marks + 5) }
+        ensures few { OnOk result (length log.new.items + dues self.new ≤ length log.old.items + (full_dues self.old + front wide.Frames self.old)) }
+        ensures room { (more : ℕ) → HasMore (front wide.Frames self.old) (making wide.Frames self.old) more self.old log.old.room → 0 < self.old.waits.room → HasBuffers self.old → length self.old.waits.rows + 1 < vec_capacity self.old.skip → OnOk result (HasRoom more self.new log.new.room × (0 < self.new.memory.buffers.count × IsSkipRoom self.new)) }
+        ensures err { HasMore (front wide.Frames self.old) (making wide.Frames self.old) 0 self.old log.old.room → 0 < self.old.waits.room → HasBuffers self.old → length self.old.waits.rows + 1 < vec_capacity self.old.skip → OnErr result ((self.new ≡ self.old) × ((ids.new ≡ ids.old) × (log.new.items ≡ log.old.items))) }
     {
         let place = self.place(task, address);
         if place.region.0 < self.declared.len() {
@@ -105,7 +104,7 @@ impl Parts {
     fn share(&mut self, child: TaskId, entry: Entry, log: &mut Events) -> Result<(), NoMemory>
         requires { CanShare child.0 entry self.old }
         ensures shares { OnOk result (Shares child entry self.old self.new log.old.items log.new.items) }
-        ensures spends { (ids : Numbers) → OnOk result (Spends 1 1 0 self.old ids log.old self.new ids log.new) }
+        ensures spends { OnOk result (Spends 1 1 0 self.old log.old self.new log.new) }
         ensures succeeds { 0 < log.old.room → IsOk result }
         ensures spare { OnOk result (KeepsSpare self.old self.new) }
     {
@@ -127,8 +126,8 @@ impl Parts {
     ) -> Result<(), NoMemory>
         requires { CanCopy task.0 source offset range self.old ids.old }
         ensures enters { OnOk result (EntersCopy task source offset range self.old self.new ids.old ids.new log.old.items log.new.items) }
-        ensures spends { OnOk result (Spends 4 4 0 self.old ids.old log.old self.new ids.new log.new) }
-        ensures succeeds { IsRoomy 4 4 self.old ids.old log.old.room → IsOk result }
+        ensures spends { OnOk result (Spends 4 4 0 self.old log.old self.new log.new) }
+        ensures succeeds { IsRoomy 4 4 self.old log.old.room → IsOk result }
         ensures spare { OnOk result (KeepsSpare self.old self.new) }
     {
         let Some(row) = self.chains.region(source) else {

@@ -17,7 +17,7 @@ ghost use Rattle.vm_supply.specs.Answers.{outcome_of};
 ghost use Rattle.vm_state.specs.Stands.{HasTasks};
 ghost use Rattle.vm_kernel.specs.Matches.{IsRanged, Rests, first_ids, host_id};
 ghost use Rattle.vm_kernel.specs.Refusing.{maps_elsewhere, takes_name};
-ghost use Rattle.vm_kernel.specs.Rooms.{IsReady, ServeRoom, breadth_of, dues_of, front, full_dues, making, most, with_rooms_of, word_breadth};
+ghost use Rattle.vm_kernel.specs.Rooms.{IsReady, ServeRoom, breadth_of, dues, front, full_dues, making, most, with_rooms_of, word_breadth};
 ghost use Rattle.vm_kernel.specs.Taking.{IsAbsencePaid, IsErrorPaid, IsLockPaid, IsWord};
 ghost use Rattle.vm_legal.specs.InTurn.{EndsAll, NoneSleepsOn};
 ghost use Rattle.vm_legal.specs.Returned.{OnlyReturned};
@@ -86,20 +86,20 @@ impl Kernel {
 
     /// The most events that the next `begin`, `take` or `laundered` and the serving behind it add on this
     /// host. It takes no memory.
-    pub fn most(&self, breadth: Breadth, ids: &Ids) -> u64
-        ensures { result ≡ most breadth self.now ids.now }
+    pub fn most(&self, breadth: Breadth) -> u64
+        ensures { result ≡ most breadth self.now }
     {
-        self.parts.most(ids, breadth)
+        self.parts.most(breadth)
     }
 
     /// Makes room for a step in the host's tables; nothing but room changes. It fails for want of memory
     /// alone. Then `serve` and `laundered` want none, nor does a `take` but for a lock request of an object
     /// that isn't declared; and where `begin` does, it leaves all as it was.
-    pub fn reserve(&mut self, breadth: Breadth, ids: &Ids) -> Result<(), NoMemory>
+    pub fn reserve(&mut self, breadth: Breadth) -> Result<(), NoMemory>
         ensures is { self.new ≡ with_rooms_of self.new self.old }
-        ensures ready { OnOk result (IsReady breadth self.new ids.now) }
+        ensures ready { OnOk result (IsReady breadth self.new) }
     {
-        self.parts.reserve(ids, breadth)
+        self.parts.reserve(breadth)
     }
 
     /// Runs a command that isn't refused, and adds what happened behind its line to the log, which is
@@ -124,10 +124,9 @@ impl Kernel {
         ensures plays { OnOk result (PlaysBy given.header (may_reclaim command.now self.old.waits.queue given.past) given.past [] (paging self.old) log.new.items (paging self.new)) }
         ensures restarts { OnOk result (Restarted given.header given.host self.new.waits.rows given.past self.old.waits.queue self.new.waits.queue log.new.items) }
         ensures ends { OnOk result (EndsByAddress given.header given.past command.now log.new.items) }
-        ensures few { OnOk result (length log.new.items + dues_of self.new ids.new ≤ full_dues self.old ids.old + front (breadth_of command.now) self.old) }
-        ensures room { (more : ℕ) → IsReady (breadth_of command.now) self.old ids.old → most (breadth_of command.now) self.old ids.old + more ≤ log.old.room → OnOk result (ServeRoom more self.new ids.new log.new.room) }
-        ensures marks { OnOk result (ids.new.marks ≤ ids.old.marks + making (breadth_of command.now)) }
-        ensures err { IsReady (breadth_of command.now) self.old ids.old → most (breadth_of command.now) self.old ids.old ≤ log.old.room → OnErr result ((self.new ≡ with_rooms_of self.new self.old) × ((ids.new ≡ ids.old) × (log.new.items ≡ []))) }
+        ensures few { OnOk result (length log.new.items + dues self.new ≤ full_dues self.old + front (breadth_of command.now) self.old) }
+        ensures room { (more : ℕ) → IsReady (breadth_of command.now) self.old → most (breadth_of command.now) self.old + more ≤ log.old.room → OnOk result (ServeRoom more self.new log.new.room) }
+        ensures err { IsReady (breadth_of command.now) self.old → most (breadth_of command.now) self.old ≤ log.old.room → OnErr result ((self.new ≡ with_rooms_of self.new self.old) × ((ids.new ≡ ids.old) × (log.new.items ≡ []))) }
     {
         self.parts.reserve_for(command)?;
         self.parts.run(command, ids, log)
@@ -163,10 +162,9 @@ impl Kernel {
         ensures plays { OnOk result (PlaysAnswer given.header (given.front ++ given.past) object (outcome_of (object_at self.old.memory.objects object.0) control (row_at self.old.memory.resident object.0) message.now) (paging self.old) log.new.items (paging self.new)) }
         ensures ended { HasQueue given.header given.host self.old given.past → OnOk result (EndsAll given.header (log.new.items ++ (given.front ++ given.past))) }
         ensures restarts { OnOk result (Restarted given.header given.host self.new.waits.rows (given.front ++ given.past) self.old.waits.queue self.new.waits.queue log.new.items) }
-        ensures few { OnOk result (length log.new.items + dues_of self.new ids.new ≤ full_dues self.old ids.old + front (word_breadth message.now) self.old) }
-        ensures room { (more : ℕ) → IsReady (word_breadth message.now) self.old ids.old → most (word_breadth message.now) self.old ids.old + more ≤ log.old.room → OnOk result (ServeRoom more self.new ids.new log.new.room) }
-        ensures marks { OnOk result (ids.new.marks ≤ ids.old.marks) }
-        ensures err { IsReady (word_breadth message.now) self.old ids.old → most (word_breadth message.now) self.old ids.old ≤ log.old.room → OnErr result ((self.new ≡ with_rooms_of self.new self.old) × ((ids.new ≡ ids.old) × (log.new.items ≡ []))) }
+        ensures few { OnOk result (length log.new.items + dues self.new ≤ full_dues self.old + front (word_breadth message.now) self.old) }
+        ensures room { (more : ℕ) → IsReady (word_breadth message.now) self.old → most (word_breadth message.now) self.old + more ≤ log.old.room → OnOk result (ServeRoom more self.new log.new.room) }
+        ensures err { IsReady (word_breadth message.now) self.old → most (word_breadth message.now) self.old ≤ log.old.room → OnErr result ((self.new ≡ with_rooms_of self.new self.old) × ((ids.new ≡ ids.old) × (log.new.items ≡ []))) }
     {
         self.parts.reserve_for_word(message)?;
         self.parts.take(ids, object, control, message, log)
@@ -182,8 +180,8 @@ impl Kernel {
         ensures passed { Passed given.header given.host given.outside given.command (given.front ++ given.past) self.new ids.now [] }
         ensures pages { paging self.new ≡ paging self.old }
         ensures waits { self.new.waits ≡ self.old.waits }
-        ensures ready { (breadth : Breadth) → IsReady breadth self.old ids.now → IsReady breadth self.new ids.now }
-        ensures most { (breadth : Breadth) → most breadth self.new ids.now ≡ most breadth self.old ids.now }
+        ensures ready { (breadth : Breadth) → IsReady breadth self.old → IsReady breadth self.new }
+        ensures most { (breadth : Breadth) → most breadth self.new ≡ most breadth self.old }
     {
         self.parts.launder(ids);
     }
@@ -196,14 +194,13 @@ impl Kernel {
     pub fn serve(&mut self, ids: &mut Ids, log: &mut Events)
         ghost given: { Doing }
         requires rests { Rests given.header given.host self.old ids.old (log.old.items ++ given.past) }
-        requires room { (more : ℕ) × ServeRoom more self.old ids.old log.old.room }
+        requires room { (more : ℕ) × ServeRoom more self.old log.old.room }
         ensures served { Served given.header given.host given.outside given.command given.past log.old.items self.new ids.new log.new.items }
         ensures awake { OnlyReturned (named given.header) given.host (log.new.items ++ given.past) → NoneSleepsOn given.header given.host (log.new.items ++ given.past) }
         ensures leaves { LeavesInTurn given.header given.past self.old self.new log.old.items log.new.items }
         ensures others { KeepsOthers self.old.waits.queue self.old.waits.rows self.new.waits.rows }
-        ensures few { length log.new.items + ids.new.marks ≤ length log.old.items + dues_of self.old ids.old + 2 }
-        ensures left { (more : ℕ) → ServeRoom more self.old ids.old log.old.room → ids.new.marks + more ≤ log.new.room }
-        ensures marks { ids.new.marks ≤ ids.old.marks }
+        ensures few { length log.new.items ≤ length log.old.items + dues self.old + 2 }
+        ensures left { (more : ℕ) → ServeRoom more self.old log.old.room → more ≤ log.new.room }
     {
         let Ok(()) = self.parts.go_on(ids, log) else {
             unreachable!()

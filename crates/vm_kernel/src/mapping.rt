@@ -54,9 +54,9 @@ impl Parts {
         ensures ran { OnOk result (Ran given.header given.host given.outside (command.Map task address bytes object offset) given.past self.new ids.now log.new.items) }
         ensures plays { OnOk result (Plays given.header given.past log.old.items (paging self.old) log.new.items (paging self.new)) }
         ensures quiet { OnOk result (QueueIsStill self.old.waits.queue self.new.waits.queue log.old.items log.new.items) }
-        ensures spends { OnOk result (Spends 2 2 0 self.old ids.now log.old self.new ids.now log.new) }
-        ensures succeeds { IsRoomy 2 2 self.old ids.now log.old.room → IfSome (object_at self.old.memory.objects object.0) (λ known. known.control < 2 ^ 32 - 3) → IsOk result }
-        ensures err { IsRoomy 2 2 self.old ids.now log.old.room → OnErr result ((self.new ≡ self.old) × (log.new.items ≡ log.old.items)) }
+        ensures spends { OnOk result (Spends 2 2 0 self.old log.old self.new log.new) }
+        ensures succeeds { IsRoomy 2 2 self.old log.old.room → IfSome (object_at self.old.memory.objects object.0) (λ known. known.control < 2 ^ 32 - 3) → IsOk result }
+        ensures err { IsRoomy 2 2 self.old log.old.room → OnErr result ((self.new ≡ self.old) × (log.new.items ≡ log.old.items)) }
         ensures spare { OnOk result (KeepsSpare self.old self.new) }
     {
         if !self.can_open(object) {
@@ -88,6 +88,7 @@ impl Parts {
         ensures succeeds { 0 < self.old.memory.objects.rows → 0 < self.old.chains.spare → IsOk result }
         ensures objects { self.old.memory.objects.rows ≤ self.new.memory.objects.rows + 1 }
         ensures shadows { self.old.chains.spare ≤ self.new.chains.spare + 1 }
+        ensures marked { self.new.chains.marked ≡ self.old.chains.marked }
     {
         let region = RegionId(object.0);
         if let Some(row) = self.chains.region(region) {

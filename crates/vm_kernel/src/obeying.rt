@@ -54,8 +54,8 @@ impl Parts {
         ensures zeroed { OnOk result (IsAbsencePaid given.header (log.new.items ++ (given.front ++ given.past))) }
         ensures locked { OnOk result (IsLockPaid given.header (log.new.items ++ (given.front ++ given.past))) }
         ensures plays { OnOk result (PlaysAnswer given.header (given.front ++ given.past) object (outcome_of (object_at self.old.memory.objects object.0) control (row_at self.old.memory.resident object.0) message.now) (paging self.old) log.new.items (paging self.new)) }
-        ensures spends { OnOk result (Spends (heeding message.now self.old) 0 0 self.old ids.now log.old self.new ids.now log.new) }
-        ensures succeeds { IsRoomy (heeding message.now self.old) 0 self.old ids.now log.old.room → (is_lock_request message.now ≡ true → listed_pages self.old.memory.queues + 1 ≤ self.old.memory.buffers.count) → 0 < self.old.memory.objects.marks → IsOk result }
+        ensures spends { OnOk result (Spends (heeding message.now self.old) 0 0 self.old log.old self.new log.new) }
+        ensures succeeds { IsRoomy (heeding message.now self.old) 0 self.old log.old.room → (is_lock_request message.now ≡ true → listed_pages self.old.memory.queues + 1 ≤ self.old.memory.buffers.count) → 0 < self.old.memory.objects.marks → IsOk result }
         ensures buffers { OnOk result ((is_lock_request message.now ≡ true → listed_pages self.old.memory.queues + 1 ≤ self.old.memory.buffers.count) → HasBuffers self.old → 0 < self.new.memory.buffers.count) }
         ensures failing { IfOk result (λ woken. (key : PageKey) → woken ≡ who.Fails key → HasBuffers self.old → HasBuffers self.new) }
         ensures dies { IfOk result (λ woken. (key : PageKey) → woken ≡ who.Fails key → Dies message.now self.old self.new) }
@@ -94,8 +94,8 @@ impl Parts {
         ensures zeroed { OnOk result (IsAbsencePaid given.header (log.new.items ++ (given.front ++ given.past))) }
         ensures locked { OnOk result (IsLockPaid given.header (log.new.items ++ (given.front ++ given.past))) }
         ensures plays { OnOk result (Plays given.header (given.front ++ given.past) [] (paging self.old) log.new.items (paging self.new)) }
-        ensures spends { OnOk result (Spends (listed_pages self.old.memory.queues + 1) 0 0 self.old ids.now log.old self.new ids.now log.new) }
-        ensures succeeds { IsRoomy (listed_pages self.old.memory.queues + 1) 0 self.old ids.now log.old.room → listed_pages self.old.memory.queues + 1 ≤ self.old.memory.buffers.count → IsOk result }
+        ensures spends { OnOk result (Spends (listed_pages self.old.memory.queues + 1) 0 0 self.old log.old self.new log.new) }
+        ensures succeeds { IsRoomy (listed_pages self.old.memory.queues + 1) 0 self.old log.old.room → listed_pages self.old.memory.queues + 1 ≤ self.old.memory.buffers.count → IsOk result }
         ensures buffers { OnOk result (listed_pages self.old.memory.queues + 1 ≤ self.old.memory.buffers.count → 0 < self.new.memory.buffers.count) }
         ensures skip { OnOk result (KeepsSkip self.old self.new) }
     {

@@ -8,7 +8,6 @@ use crate::breadth::Breadth;
 use crate::parts::Parts;
 use vm_base::NoMemory;
 use vm_model::{Command, Message};
-use vm_shadow::Ids;
 
 // What a fork tells and makes at most: it makes a task, and copies 256 entries.
 const OF_ENTRIES: u32 = 1025;
@@ -19,35 +18,27 @@ const OF_FEW: u32 = 5;
 // What a reclaim for the frame queue tells last.
 const TOLD_LAST: u64 = 2;
 
-// The most marks that a command makes, and rows that it takes in each table.
-fn most_made(breadth: Breadth) -> u32
-    ensures made { result ≡ making breadth }
-    ensures small { result ≤ 1025 }
-{
-    match breadth {
-        Breadth::Few => OF_FEW,
-        Breadth::Entries => OF_ENTRIES,
-        Breadth::Pages => 0,
-    }
-}
-
 impl Parts {
     /// The most events that a step adds on this host. It takes no memory.
-    pub fn most(&self, ids: &Ids, breadth: Breadth) -> u64
-        ensures { result ≡ most breadth self.now ids.now }
+    pub fn most(&self, breadth: Breadth) -> u64
+        ensures { result ≡ most breadth self.now }
     {
-        self.most_behind(ids) + self.front(breadth) + TOLD_LAST
+        self.most_behind() + self.front(breadth) + TOLD_LAST
     }
 
     // The most events that the accesses tell that are run.
-    fn most_behind(&self, ids: &Ids) -> u64
-        ensures dues { result ≡ full_dues self.now ids.now }
+    fn most_behind(&self) -> u64
+        ensures dues { result ≡ full_dues self.now }
         ensures small { result < 2 ^ 35 }
     {
         let accesses = u64::from(self.waits.count());
-        let frames = u64::from(self.memory.frames.count());
-        let marks = u64::from(ids.marks);
-        3 * accesses + marks + 2 * frames + 1
+        let marks = u64::from(self.chains.marked());
+        let copied = if self.waits.copies() == 0 {
+            0
+        } else {
+            u64::from(self.memory.frames.count())
+        };
+        3 * accesses + marks + 2 * copied + 1
     }
 
     // The most events that a step tells in front of these.
@@ -59,20 +50,35 @@ impl Parts {
         match breadth {
             Breadth::Few => u64::from(OF_FEW),
             Breadth::Entries => u64::from(OF_ENTRIES),
+            Breadth::Frames => 2 * frames + u64::from(OF_FEW),
             Breadth::Pages => 2 * frames + self.memory.objects.count() as u64 + 1,
         }
     }
 
-    /// Makes room for a step in the host's tables; it fails for want of memory alone.
-    pub fn reserve(&mut self, ids: &Ids, breadth: Breadth) -> Result<(), NoMemory>
-        ensures is { self.new ≡ with_rooms_of self.new self.old }
-        ensures ready { OnOk result (IsReady breadth self.new ids.now) }
+    // The most rows that it takes in each table.
+    fn made(&self, breadth: Breadth) -> u64
+        ensures made { result ≡ making breadth self.now }
+        ensures small { result < 2 ^ 34 }
     {
-        let made = most_made(breadth);
-        let Some(shadows) = ids.marks.checked_add(made) else {
+        let frames = u64::from(self.memory.frames.count());
+        match breadth {
+            Breadth::Few => u64::from(OF_FEW),
+            Breadth::Entries => u64::from(OF_ENTRIES),
+            Breadth::Frames => 2 * frames + u64::from(OF_FEW),
+            Breadth::Pages => 0,
+        }
+    }
+
+    /// Makes room for a step in the host's tables; it fails for want of memory alone.
+    pub fn reserve(&mut self, breadth: Breadth) -> Result<(), NoMemory>
+        ensures is { self.new ≡ with_rooms_of self.new self.old }
+        ensures ready { OnOk result (IsReady breadth self.new) }
+    {
+        let made = self.made(breadth);
+        let Ok(shadows) = u32::try_from(u64::from(self.chains.marked()) + made) else {
             return Err(NoMemory);
         };
-        let Ok(pages) = u32::try_from(self.most_behind(ids) + u64::from(made)) else {
+        let Ok(pages) = u32::try_from(self.most_behind() + made) else {
             return Err(NoMemory);
         };
         self.memory.resident.reserve(pages)?;

@@ -44,10 +44,9 @@ impl Parts {
         ensures attempts { IfOk result (λ answer. Attempts given.header given.host waiting may_claim answer self.old self.new (log.old.items ++ given.past) (log.new.items ++ given.past)) }
         ensures plays { OnOk result (Plays given.header given.past log.old.items (paging self.old) log.new.items (paging self.new)) }
         ensures once { IfOk result (λ answer. RunsOnce waiting may_claim (wants_frame answer) self.old.waits self.new.waits log.old.items log.new.items) }
-        ensures room { (more : ℕ) → HasRoom more self.old ids.old log.old.room → IsOk result × HasRoom more self.new ids.new log.new.room }
+        ensures room { (more : ℕ) → HasRoom more self.old log.old.room → IsOk result × HasRoom more self.new log.new.room }
         ensures spare { OnOk result (KeepsSpare self.old self.new) }
-        ensures few { OnOk result (length log.new.items + dues (to_run self.new.waits.rows) self.new.memory ids.new.marks ≤ length log.old.items + dues (to_run self.old.waits.rows) self.old.memory ids.old.marks) }
-        ensures marks { OnOk result (ids.new.marks ≤ ids.old.marks) }
+        ensures few { OnOk result (length log.new.items + dues self.new ≤ length log.old.items + dues self.old) }
     {
         let mut want = waiting.want;
         let step = fault(
@@ -93,10 +92,9 @@ impl Parts {
         ensures first { OnOk result (RunsFirst given.header self.old.waits.rows given.past log.old.items log.new.items) }
         ensures plays { OnOk result (Plays given.header given.past log.old.items (paging self.old) log.new.items (paging self.new)) }
         ensures restarts { OnOk result (RunsNoneYet log.old.items → Restarted given.header given.host self.new.waits.rows given.past self.old.waits.queue self.new.waits.queue log.new.items) }
-        ensures room { (more : ℕ) → HasRoom more self.old ids.old log.old.room → IsOk result × HasRoom more self.new ids.new log.new.room }
+        ensures room { (more : ℕ) → HasRoom more self.old log.old.room → IsOk result × HasRoom more self.new log.new.room }
         ensures spare { OnOk result (KeepsSpare self.old self.new) }
-        ensures few { OnOk result (length log.new.items + dues (to_run self.new.waits.rows) self.new.memory ids.new.marks ≤ length log.old.items + dues (to_run self.old.waits.rows) self.old.memory ids.old.marks) }
-        ensures marks { OnOk result (ids.new.marks ≤ ids.old.marks) }
+        ensures few { OnOk result (length log.new.items + dues self.new ≤ length log.old.items + dues self.old) }
     {
         'again: while let Some(waiting) = self.waits.next_again() {
             let may_claim = !self.waits.has_queue();
@@ -115,10 +113,9 @@ impl Parts {
         ensures served { OnOk result (QueueIsServed given.header given.host self.new (log.new.items ++ given.past)) }
         ensures leaves { OnOk result (LeavesInTurn given.header given.past self.old self.new log.old.items log.new.items) }
         ensures others { OnOk result (KeepsOthers self.old.waits.queue self.old.waits.rows self.new.waits.rows) }
-        ensures room { (more : ℕ) → HasRoom (more + 2) self.old ids.old log.old.room → 0 < self.old.memory.buffers.count → IsSkipRoom self.old → IsOk result × (ids.new.marks + more ≤ log.new.room) }
+        ensures room { (more : ℕ) → HasRoom (more + 2) self.old log.old.room → 0 < self.old.memory.buffers.count → IsSkipRoom self.old → IsOk result × (more ≤ log.new.room) }
         ensures idle { queued self.old.waits.rows ≡ 0 → IsOk result × ((self.new ≡ self.old) × ((ids.new ≡ ids.old) × (log.new ≡ log.old))) }
-        ensures few { OnOk result (length log.new.items + ids.new.marks ≤ length log.old.items + dues (to_run self.old.waits.rows) self.old.memory ids.old.marks + 2) }
-        ensures marks { OnOk result (ids.new.marks ≤ ids.old.marks) }
+        ensures few { OnOk result (length log.new.items ≤ length log.old.items + dues self.old + 2) }
     {
         'serve: while let Some(waiting) = self.waits.front() {
             if let Attempt::Wants { source } = self.attempt(ids, waiting, true, log)? {
@@ -153,8 +150,8 @@ impl Parts {
         ensures full { IfOk result (λ stops. stops ≡ true → HostIsFull given.header given.host (log.new.items ++ given.past)) }
         ensures plays { OnOk result (PlaysBy given.header (SparesSource (first_in_queue self.old.waits.queue)) given.past log.old.items (paging self.old) log.new.items (paging self.new)) }
         ensures spared { OnOk result (IfSome source (λ key. IsHere self.new key)) }
-        ensures room { (more : ℕ) → ServeRoom more self.old ids.now log.old.room → IsOk result × IfOk result (λ stops. StopsRoom stops more self.new ids.now log.new.room) }
-        ensures few { IfOk result (λ stops. stops ≡ false → length log.new.items + dues (to_run self.new.waits.rows) self.new.memory ids.now.marks ≤ length log.old.items + dues (to_run self.old.waits.rows) self.old.memory ids.now.marks) }
+        ensures room { (more : ℕ) → ServeRoom more self.old log.old.room → IsOk result × IfOk result (λ stops. StopsRoom stops more self.new log.new.room) }
+        ensures few { IfOk result (λ stops. stops ≡ false → length log.new.items + dues self.new ≤ length log.old.items + dues self.old) }
         ensures two { OnOk result (length log.new.items ≤ length log.old.items + 2) }
     {
         if !self.laundry.is_empty() {
@@ -177,10 +174,9 @@ impl Parts {
         ensures awake { OnOk result (OnlyReturned (named given.header) given.host (log.new.items ++ given.past) → NoneSleepsOn given.header given.host (log.new.items ++ given.past)) }
         ensures leaves { OnOk result (LeavesInTurn given.header given.past self.old self.new log.old.items log.new.items) }
         ensures others { OnOk result (KeepsOthers self.old.waits.queue self.old.waits.rows self.new.waits.rows) }
-        ensures room { (more : ℕ) → HasRoom (more + 2) self.old ids.old log.old.room → 0 < self.old.memory.buffers.count → IsSkipRoom self.old → IsOk result × (ids.new.marks + more ≤ log.new.room) }
+        ensures room { (more : ℕ) → HasRoom (more + 2) self.old log.old.room → 0 < self.old.memory.buffers.count → IsSkipRoom self.old → IsOk result × (more ≤ log.new.room) }
         ensures idle { queued self.old.waits.rows ≡ 0 → IsOk result × ((self.new ≡ self.old) × ((ids.new ≡ ids.old) × (log.new ≡ log.old))) }
-        ensures few { OnOk result (length log.new.items + ids.new.marks ≤ length log.old.items + dues (to_run self.old.waits.rows) self.old.memory ids.old.marks + 2) }
-        ensures marks { OnOk result (ids.new.marks ≤ ids.old.marks) }
+        ensures few { OnOk result (length log.new.items ≤ length log.old.items + dues self.old + 2) }
     {
         self.serve(ids, log)
     }

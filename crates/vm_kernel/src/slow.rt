@@ -7,9 +7,10 @@ ghost use Rattle.vm_maps.specs.Maps.{rows_in};
 ghost use Rattle.vm_model.specs.declared.command.Command.TheVariants as command;
 ghost use Rattle.vm_kernel.specs.Begun.{Doing, Ran, Starts};
 ghost use Rattle.vm_kernel.specs.Plays.{Plays, paging};
-ghost use Rattle.vm_kernel.specs.Rooms.{HasMore, HasRoom, KeepsSpare, dues, full_dues, to_run};
+ghost use Rattle.vm_kernel.specs.Rooms.{HasMore, HasRoom, KeepsSpare, dues, front, full_dues, making};
 ghost use Rattle.vm_kernel.specs.Slow.{CanEndCopy, EndsCopyIn};
 ghost use Rattle.vm_kernel.specs.Turns.{Restarted};
+ghost use Rattle.vm_kernel.specs.declared.breadth.Breadth.TheVariants as wide;
 
 use crate::building::{entered, entering, whole_entry};
 use crate::counting::set_count;
@@ -39,10 +40,9 @@ impl Parts {
         ensures ran { OnOk result (Ran given.header given.host given.outside given.command given.past self.new ids.new log.new.items) }
         ensures plays { OnOk result (Plays given.header given.past log.old.items (paging self.old) log.new.items (paging self.new)) }
         ensures restarts { OnOk result (Restarted given.header given.host self.new.waits.rows given.past self.old.waits.queue self.new.waits.queue log.new.items) }
-        ensures few { OnOk result (length log.new.items + dues (to_run self.new.waits.rows) self.new.memory ids.new.marks ≤ length log.old.items + (full_dues self.old ids.old + 5)) }
-        ensures room { (more : ℕ) → HasMore 5 5 more self.old ids.old log.old.room → 0 < self.old.waits.room → OnOk result (HasRoom more self.new ids.new log.new.room) × IsOk result }
+        ensures few { OnOk result (length log.new.items + dues self.new ≤ length log.old.items + (full_dues self.old + front wide.Frames self.old)) }
+        ensures room { (more : ℕ) → HasMore (front wide.Frames self.old) (making wide.Frames self.old) more self.old log.old.room → 0 < self.old.waits.room → OnOk result (HasRoom more self.new log.new.room) × IsOk result }
         ensures spare { OnOk result ((self.old.memory.buffers.count ≤ self.new.memory.buffers.count) × ((vec_capacity self.old.skip ≤ vec_capacity self.new.skip) × (length self.new.waits.rows ≤ length self.old.waits.rows + 1))) }
-        ensures marks { OnOk result (ids.new.marks ≤ ids.old.marks) }
     {
         self.waits.reserve(1)?;
         let pages = (bytes / u64::from(self.size.bytes())) as u32;
@@ -83,7 +83,7 @@ impl Parts {
         ensures ends { OnOk result (EndsCopyIn waiting self.old self.new log.old.items log.new.items) }
         ensures room { OnOk result (log.old.room + length log.old.items ≤ log.new.room + length log.new.items) }
         ensures spare { OnOk result (KeepsSpare self.old self.new) }
-        ensures chains { OnOk result (self.new.chains.spare ≡ self.old.chains.spare) }
+        ensures chains { OnOk result ((self.new.chains.spare ≡ self.old.chains.spare) × (self.new.chains.marked ≡ self.old.chains.marked)) }
         ensures succeeds { (is_copying waiting.want ≡ true → 2 ≤ log.old.room) → IsOk result }
     {
         let Want::CopyTo { pages, .. } = waiting.want else {

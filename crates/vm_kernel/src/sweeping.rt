@@ -27,8 +27,8 @@ impl Parts {
         ensures plays { OnOk result (Plays given.header given.past log.old.items (paging self.old) log.new.items (paging self.new)) }
         ensures quiet { OnOk result (QueueIsStill self.old.waits.queue self.new.waits.queue log.old.items log.new.items) }
         ensures ends { OnOk result (EndsSoFar given.header (log.old.items ++ given.past) (by_address gone.now) [] log.old.items log.new.items) }
-        ensures spends { OnOk result (Spends (leaving self.old ids.now) 0 (leaving self.new ids.now) self.old ids.now log.old self.new ids.now log.new) }
-        ensures succeeds { IsRoomy (leaving self.old ids.now) 0 self.old ids.now log.old.room → HasBuffers self.old → IsOk result }
+        ensures spends { OnOk result (Spends (leaving self.old ids.now) 0 (leaving self.new ids.now) self.old log.old self.new log.new) }
+        ensures succeeds { IsRoomy (leaving self.old ids.now) 0 self.old log.old.room → HasBuffers self.old → IsOk result }
         ensures buffers { OnOk result (HasBuffers self.old → HasBuffers self.new) }
         ensures skip { OnOk result (KeepsSkip self.old self.new) }
     {
@@ -55,8 +55,8 @@ impl Parts {
         ensures plays { OnOk result (Plays given.header given.past log.old.items (paging self.old) log.new.items (paging self.new)) }
         ensures quiet { OnOk result (QueueIsStill self.old.waits.queue self.new.waits.queue log.old.items log.new.items) }
         ensures ends { OnOk result (CountsOut given.header (log.old.items ++ given.past) (drop i (by_address gone.now)) given.rest log.old.items log.new.items) }
-        ensures spends { OnOk result (Spends (leaving self.old ids.now) 0 (leaving self.new ids.now) self.old ids.now log.old self.new ids.now log.new) }
-        ensures succeeds { IsRoomy (leaving self.old ids.now) 0 self.old ids.now log.old.room → HasBuffers self.old → IsOk result }
+        ensures spends { OnOk result (Spends (leaving self.old ids.now) 0 (leaving self.new ids.now) self.old log.old self.new log.new) }
+        ensures succeeds { IsRoomy (leaving self.old ids.now) 0 self.old log.old.room → HasBuffers self.old → IsOk result }
         ensures buffers { OnOk result (HasBuffers self.old → HasBuffers self.new) }
         ensures skip { OnOk result (KeepsSkip self.old self.new) }
     {
@@ -85,8 +85,8 @@ impl Parts {
         ensures plays { OnOk result (Plays given.header given.past log.old.items (paging self.old) log.new.items (paging self.new)) }
         ensures only { OnOk result (EndsOnly log.old.items log.new.items) }
         ensures under { OnOk result (EndsBelow given.header (log.old.items ++ given.past) (region_of given.header region.0 (log.old.items ++ given.past)).top log.old.items log.new.items) }
-        ensures spends { OnOk result (Spends (leaving self.old ids.now) 0 (leaving self.new ids.now) self.old ids.now log.old self.new ids.now log.new) }
-        ensures succeeds { IsRoomy (leaving self.old ids.now) 0 self.old ids.now log.old.room → HasBuffers self.old → IsOk result }
+        ensures spends { OnOk result (Spends (leaving self.old ids.now) 0 (leaving self.new ids.now) self.old log.old self.new log.new) }
+        ensures succeeds { IsRoomy (leaving self.old ids.now) 0 self.old log.old.room → HasBuffers self.old → IsOk result }
         ensures buffers { OnOk result (HasBuffers self.old → HasBuffers self.new) }
         ensures skip { OnOk result (KeepsSkip self.old self.new) }
     {
@@ -109,8 +109,8 @@ impl Parts {
         ensures plays { OnOk result (Plays given.header given.past log.old.items (paging self.old) log.new.items (paging self.new)) }
         ensures only { OnOk result (EndsOnly log.old.items log.new.items) }
         ensures under { OnOk result (EndsBelow given.header (log.old.items ++ given.past) object.0 log.old.items log.new.items) }
-        ensures spends { OnOk result (Spends (leaving self.old ids.now) 0 (leaving self.new ids.now) self.old ids.now log.old self.new ids.now log.new) }
-        ensures succeeds { IsRoomy (leaving self.old ids.now) 0 self.old ids.now log.old.room → HasBuffers self.old → IsOk result }
+        ensures spends { OnOk result (Spends (leaving self.old ids.now) 0 (leaving self.new ids.now) self.old log.old self.new log.new) }
+        ensures succeeds { IsRoomy (leaving self.old ids.now) 0 self.old log.old.room → HasBuffers self.old → IsOk result }
         ensures buffers { OnOk result (HasBuffers self.old → HasBuffers self.new) }
         ensures skip { OnOk result (KeepsSkip self.old self.new) }
     {

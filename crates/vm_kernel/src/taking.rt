@@ -48,8 +48,8 @@ impl Parts {
         ensures brought { OnOk result (IsBrought log.new.items) }
         ensures zeroed { OnOk result (IsAbsencePaid given.header (log.new.items ++ (given.front ++ given.past))) }
         ensures plays { OnOk result (PlaysAnswer given.header (given.front ++ given.past) object (outcome_of (object_at self.old.memory.objects object.0) control (row_at self.old.memory.resident object.0) message.now) (paging self.old) log.new.items (paging self.new)) }
-        ensures spends { OnOk result (Spends 1 0 0 self.old ids.now log.old self.new ids.now log.new) }
-        ensures succeeds { IsRoomy 1 0 self.old ids.now log.old.room → 0 < self.old.memory.objects.marks → IsOk result }
+        ensures spends { OnOk result (Spends 1 0 0 self.old log.old self.new log.new) }
+        ensures succeeds { IsRoomy 1 0 self.old log.old.room → 0 < self.old.memory.objects.marks → IsOk result }
         ensures buffers { OnOk result (self.new.memory.buffers ≡ self.old.memory.buffers) }
         ensures failing { IfOk result (λ woken. (key : PageKey) → woken ≡ who.Fails key → HasBuffers self.old → HasBuffers self.new) }
         ensures dies { IfOk result (λ woken. (key : PageKey) → woken ≡ who.Fails key → Dies message.now self.old self.new) }
@@ -74,8 +74,8 @@ impl Parts {
         ensures plays { OnOk result (Plays given.header given.past log.old.items (paging self.old) log.new.items (paging self.new)) }
         ensures ended { OnOk result (HasEnded woken self.old.waits.rows (log.new.items ++ given.past)) }
         ensures quiet { OnOk result (RunsNobody self.old.waits.queue self.new.waits.queue log.old.items log.new.items) }
-        ensures spends { OnOk result (Spends (waking woken self.old ids.now) 0 0 self.old ids.now log.old self.new ids.now log.new) }
-        ensures succeeds { IsRoomy (waking woken self.old ids.now) 0 self.old ids.now log.old.room → ((key : PageKey) → woken ≡ who.Fails key → HasBuffers self.old) → IsOk result }
+        ensures spends { OnOk result (Spends (waking woken self.old ids.now) 0 0 self.old log.old self.new log.new) }
+        ensures succeeds { IsRoomy (waking woken self.old ids.now) 0 self.old log.old.room → ((key : PageKey) → woken ≡ who.Fails key → HasBuffers self.old) → IsOk result }
         ensures buffers { OnOk result (HasBuffers self.old → HasBuffers self.new) }
         ensures enough { OnOk result (((key : PageKey) → woken ≡ who.Fails key → HasBuffers self.old) → 0 < self.old.memory.buffers.count → 0 < self.new.memory.buffers.count) }
         ensures skip { OnOk result (KeepsSkip self.old self.new) }
@@ -110,8 +110,8 @@ impl Parts {
         ensures plays { OnOk result (Plays given.header given.past log.old.items (paging self.old) log.new.items (paging self.new)) }
         ensures ended { OnOk result (HasEnded (who.Fails key) self.old.waits.rows (log.new.items ++ given.past)) }
         ensures quiet { OnOk result (RunsNobody self.old.waits.queue self.new.waits.queue log.old.items log.new.items) }
-        ensures spends { OnOk result (Spends (leaving self.old ids.now) 0 (leaving self.new ids.now) self.old ids.now log.old self.new ids.now log.new) }
-        ensures succeeds { IsRoomy (leaving self.old ids.now) 0 self.old ids.now log.old.room → HasBuffers self.old → IsOk result }
+        ensures spends { OnOk result (Spends (leaving self.old ids.now) 0 (leaving self.new ids.now) self.old log.old self.new log.new) }
+        ensures succeeds { IsRoomy (leaving self.old ids.now) 0 self.old log.old.room → HasBuffers self.old → IsOk result }
         ensures buffers { OnOk result (HasBuffers self.old → HasBuffers self.new) }
         ensures skip { OnOk result (KeepsSkip self.old self.new) }
     {
@@ -151,9 +151,8 @@ impl Parts {
         ensures plays { OnOk result (PlaysAnswer given.header (given.front ++ given.past) object (outcome_of (object_at self.old.memory.objects object.0) control (row_at self.old.memory.resident object.0) message.now) (paging self.old) log.new.items (paging self.new)) }
         ensures ended { OnOk result (EndsEach given.header self.old.waits.rows (log.new.items ++ (given.front ++ given.past))) }
         ensures restarts { OnOk result (Restarted given.header given.host self.new.waits.rows (given.front ++ given.past) self.old.waits.queue self.new.waits.queue log.new.items) }
-        ensures few { OnOk result (length log.new.items + dues (to_run self.new.waits.rows) self.new.memory ids.new.marks ≤ length log.old.items + (full_dues self.old ids.old + front (word_breadth message.now) self.old)) }
-        ensures room { (more : ℕ) → HasMore (front (word_breadth message.now) self.old) (making (word_breadth message.now)) more self.old ids.old log.old.room → 0 < self.old.memory.objects.marks → HasBuffers self.old → IsSkipRoom self.old → (is_lock_request message.now ≡ true → listed_pages self.old.memory.queues + 1 ≤ self.old.memory.buffers.count) → IsOk result × (HasRoom more self.new ids.new log.new.room × (0 < self.new.memory.buffers.count × IsSkipRoom self.new)) }
-        ensures marks { OnOk result (ids.new.marks ≤ ids.old.marks) }
+        ensures few { OnOk result (length log.new.items + dues self.new ≤ length log.old.items + (full_dues self.old + front (word_breadth message.now) self.old)) }
+        ensures room { (more : ℕ) → HasMore (front (word_breadth message.now) self.old) (making (word_breadth message.now) self.old) more self.old log.old.room → 0 < self.old.memory.objects.marks → HasBuffers self.old → IsSkipRoom self.old → (is_lock_request message.now ≡ true → listed_pages self.old.memory.queues + 1 ≤ self.old.memory.buffers.count) → IsOk result × (HasRoom more self.new log.new.room × (0 < self.new.memory.buffers.count × IsSkipRoom self.new)) }
     {
         self.memory.queues.stand_once();
         let woken = self.heed(ids, object, control, message, log)?;

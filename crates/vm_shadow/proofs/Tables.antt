@@ -29,14 +29,22 @@ region_below n r row table below is =
     let none : n ≤ r → region_at table r ≡ None = below r in
     grind (arith, none, is)
 
+-- a new region leaves each other with its row
+pub source_kept : (old mid : ChainTable) (source copy offset pages : ℕ) (row found : RegionRow) → RegionsBelow copy old → region_at old source ≡ Some row
+    → PutsRegion copy (Some (copy_of row offset pages)) old mid → region_at mid source ≡ Some found → found ≡ row
+source_kept old mid source copy offset pages row found below is put there =
+    let less = region_below copy source row old below is in
+    let other : (copy == source) ≡ false = grind (arith, nat_tests) in
+    let kept : region_at mid source ≡ Some row = rw other at (put.at source) ∙ is in
+    same_row (region_at mid source) found row there kept
+
 pub region_copied : (old mid new : ChainTable) (source copy offset pages : ℕ) (row found : RegionRow) → RegionsBelow copy old → region_at old source ≡ Some row
     → PutsRegion copy (Some (copy_of row offset pages)) old mid → region_at mid source ≡ Some found → PutsRegion source (Some (record found { marked = true })) mid new
     → CopiesRegion source copy offset pages row old new
 region_copied old mid new source copy offset pages row found below is put there marks =
     let less = region_below copy source row old below is in
     let other : (copy == source) ≡ false = grind (arith, nat_tests) in
-    let kept : region_at mid source ≡ Some row = rw other at (put.at source) ∙ is in
-    let same : found ≡ row = same_row (region_at mid source) found row there kept in
+    let same : found ≡ row = source_kept old mid source copy offset pages row found below is put there in
     let at : (r : ℕ) → region_at new r ≡ (if copy == r then Some (copy_of row offset pages) else (if source == r then Some (record row { marked = true }) else region_at old r))
     = λ r. rw (← same) (grind (arith, nat_tests, marks.at r, put.at r, other)) in
     record { at = at; shadows = marks.shadows ∙ put.shadows }

@@ -7,10 +7,11 @@ use Rattle.vm_base.specs.declared.ids.RegionId.{RegionId}
 use Rattle.vm_shadow.specs.declared.region_row.RegionRow.{RegionRow}
 use Rattle.vm_shadow.specs.declared.shadow_row.ShadowRow.{ShadowRow}
 
--- the row of each region, what stands under each object, and how many further regions and shadows together are made without memory
+-- the row of each region, what stands under each object, how many regions are marked, and how many further regions and shadows together are made without memory
 pub record ChainTable : Type 0 where
   pub regions : List (RegionId × RegionRow)
   pub shadows : List (ObjectId × ShadowRow)
+  pub marked : ℕ
   pub spare : ℕ
 
 -- the row of a region, where it is there
@@ -25,6 +26,7 @@ shadow_at table o = lookup (λ id. o == id.0) table.shadows
 pub record SameChains (old new : ChainTable) : Type 0 where
   pub regions : region_at new ≡ region_at old
   pub shadows : shadow_at new ≡ shadow_at old
+  pub marked : new.marked ≡ old.marked
   pub spare : old.spare ≤ new.spare
 
 -- one region has this row now, or is gone; each other is as it was, and so is what stands under each object

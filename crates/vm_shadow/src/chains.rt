@@ -9,9 +9,12 @@ use std::alloc::Global;
 use std::marker::Model;
 use vm_base::{NoMemory, ObjectId, PageKey, PageNo, RegionId};
 
+// Where more regions are marked, a copy, which marks two at most, could make too many to be counted.
+const MOST_MARKED: u32 = u32::MAX - 2;
+
 /// The regions of a host, and the shadows of their chains. Contracts see each region with its row,
-/// what stands under each object that is a shadow, and the number of further regions and shadows
-/// together that are made without memory.
+/// what stands under each object that is a shadow, the number of regions that are marked, and the
+/// number of further regions and shadows together that are made without memory.
 ///
 /// Only `reserve`, `make_region`, `symmetric` and `shadow_over` take memory. A region stays until it
 /// is dropped, and only one to which no entry leads can be dropped; what stands under an object stays
@@ -21,25 +24,30 @@ pub struct Chains {
     regions: IndexMap<RegionId, RegionRow>,
     // What stands under each object that is a shadow.
     shadows: IndexMap<ObjectId, ShadowRow>,
+    // So many regions are marked.
+    marked: u32,
 }
 
 impl Model for Chains {
-    ghost use Rattle.std.specs.Prelude.{min};
+    ghost use Rattle.std.specs.Prelude.{◌-◌, ◌/◌, ◌^◌, min};
     ghost use Rattle.indexmap.specs.IndexMap.{spare};
-    ghost use Rattle.vm_shadow.specs.Chains.{ChainTable, IsOlderUnder};
+    ghost use Rattle.vm_shadow.specs.Chains.{ChainTable};
+    ghost use Rattle.vm_shadow.specs.Kept.{AreKept};
 
     ghost Value = { ChainTable };
 
     ghost view = { λ s. record {
       regions = s.regions.entries;
       shadows = s.shadows.entries;
-      spare = min (spare s.regions) (spare s.shadows);
+      marked = s.marked;
+      spare = min (min (spare s.regions) (spare s.shadows)) ((2 ^ 32 - 1 - s.marked) / 2);
     } };
 
-    ghost invariant = { λ s. IsOlderUnder (record {
+    ghost invariant = { λ s. AreKept (record {
       regions = s.regions.entries;
       shadows = s.shadows.entries;
-      spare = min (spare s.regions) (spare s.shadows);
+      marked = s.marked;
+      spare = min (min (spare s.regions) (spare s.shadows)) ((2 ^ 32 - 1 - s.marked) / 2);
     }) };
 }
 
@@ -48,10 +56,12 @@ impl Chains {
     pub fn new(alloc: Global) -> Chains
         ensures regions { (r : ℕ) → region_at result r ≡ None }
         ensures shadows { (o : ℕ) → shadow_at result o ≡ None }
+        ensures marked { result.marked ≡ 0 }
     {
         Chains {
             regions: IndexMap::new(alloc),
             shadows: IndexMap::new(alloc),
+            marked: 0,
         }
     }
 
@@ -60,30 +70,47 @@ impl Chains {
     pub fn reserve(&mut self, rows: u32) -> Result<(), NoMemory>
         ensures same { (region_at self.new ≡ region_at self.old) × (shadow_at self.new ≡ shadow_at self.old) }
         ensures lists { (self.new.regions ≡ self.old.regions) × (self.new.shadows ≡ self.old.shadows) }
+        ensures marked { self.new.marked ≡ self.old.marked }
         ensures room { OnOk result (rows ≤ self.new.spare) }
         ensures kept { self.old.spare ≤ self.new.spare }
         ensures succeeds { rows ≤ self.old.spare → IsOk result }
     {
+        if (u32::MAX - self.marked) / 2 < rows {
+            return Err(NoMemory);
+        }
         self.regions.reserve(rows as usize)?;
         self.shadows.reserve(rows as usize)?;
         Ok(())
+    }
+
+    /// How many regions are marked.
+    pub fn marked(&self) -> u32
+        ensures { result ≡ self.now.marked }
+    {
+        self.marked
     }
 
     /// Makes a region that isn't there; it fails for want of memory alone.
     pub fn make_region(&mut self, region: RegionId, row: RegionRow) -> Result<(), NoMemory>
         requires { region_at self.old region.0 ≡ None }
         ensures ok { OnOk result (PutsRegion region.0 (Some row) self.old self.new) }
+        ensures marked { OnOk result (self.new.marked ≡ self.old.marked + (if row.marked then 1 else 0)) }
         ensures err { OnErr result (SameChains self.old self.new) }
         ensures succeeds { 0 < self.old.spare → IsOk result }
         ensures spare { self.old.spare ≤ self.new.spare + 1 }
     {
+        if self.marked > MOST_MARKED {
+            return Err(NoMemory);
+        }
         self.regions.insert(region, row)?;
+        self.marked += if row.marked { 1 } else { 0 };
         Ok(())
     }
 
     /// The row of a region; None where the region isn't there.
     pub fn region(&self, region: RegionId) -> Option<RegionRow>
-        ensures { result ≡ region_at self.now region.0 }
+        ensures row { result ≡ region_at self.now region.0 }
+        ensures marked { IfSome result (λ row. row.marked ≡ true → 0 < self.now.marked) }
     {
         self.regions.get(&region).copied()
     }
@@ -93,6 +120,7 @@ impl Chains {
         requires { IsSome (region_at self.old region.0) }
         ensures row { IfSome (region_at self.old region.0) (λ row.
             PutsRegion region.0 (Some (record row { entries = entries })) self.old self.new) }
+        ensures marked { self.new.marked ≡ self.old.marked }
         ensures spare { self.new.spare ≡ self.old.spare }
     {
         let row = self.regions.get_mut(&region).unwrap();
@@ -139,6 +167,8 @@ impl Chains {
         ensures copy { IfOk result (λ copy. copy.0 ≡ ids.old.next_region) }
         ensures ok { OnOk result (IfSome (region_at self.old source.0) (λ row.
             CopiesRegion source.0 ids.old.next_region offset pages row self.old self.new)) }
+        ensures marked { OnOk result (IfSome (region_at self.old source.0) (λ row.
+            self.new.marked ≡ self.old.marked + (if row.marked then 1 else 2))) }
         ensures ids { OnOk result (IfSome (region_at self.old source.0) (λ row. ids.new ≡ record ids.old {
           next_region = ids.old.next_region + 1;
           marks = ids.old.marks + (if row.marked then 1 else 2);
@@ -158,9 +188,13 @@ impl Chains {
             entries: 0,
             ..row
         };
+        if self.marked > MOST_MARKED {
+            return Err(NoMemory);
+        }
         self.regions.insert(copy, shared)?;
         let copied = self.regions.get_mut(&source).unwrap();
         copied.marked = true;
+        self.marked += if row.marked { 1 } else { 2 };
         ids.next_region += 1;
         ids.marks += if row.marked { 1 } else { 2 };
         Ok(copy)
@@ -177,6 +211,7 @@ impl Chains {
         ensures object { IfOk result (λ object. object.0 ≡ ids.old.next_object) }
         ensures ok { IfOk result (λ object. IfSome (region_at self.old region.0) (λ row.
             ShadowsRegion region.0 object row self.old self.new)) }
+        ensures marked { OnOk result (self.new.marked + 1 ≡ self.old.marked) }
         ensures ids { OnOk result (ids.new ≡ record ids.old {
           next_object = ids.old.next_object + 1;
           marks = ids.old.marks - 1;
@@ -198,6 +233,7 @@ impl Chains {
         shadowed.top = object;
         shadowed.shift = 0;
         shadowed.marked = false;
+        self.marked -= 1;
         ids.next_object += 1;
         ids.marks -= 1;
         Ok(object)
@@ -208,9 +244,13 @@ impl Chains {
         requires { IsSomeAnd (region_at self.old region.0) (λ row. row.entries ≡ 0) }
         ensures top { IfSome (region_at self.old region.0) (λ row. result ≡ row.top) }
         ensures dropped { PutsRegion region.0 None self.old self.new }
+        ensures marked { IfSome (region_at self.old region.0) (λ row.
+            self.new.marked + (if row.marked then 1 else 0) ≡ self.old.marked) }
         ensures spare { self.old.spare ≤ self.new.spare }
     {
-        self.regions.swap_remove(&region).unwrap().top
+        let row = self.regions.swap_remove(&region).unwrap();
+        self.marked -= if row.marked { 1 } else { 0 };
+        row.top
     }
 
     /// Forgets what stands under an object that goes, and gives the object under it; None where it is no
@@ -218,6 +258,7 @@ impl Chains {
     pub fn drop_object(&mut self, object: ObjectId) -> Option<ObjectId>
         ensures under { result ≡ option_map (λ row. row.under) (shadow_at self.old object.0) }
         ensures dropped { DropsShadow object.0 self.old self.new }
+        ensures marked { self.new.marked ≡ self.old.marked }
         ensures spare { self.old.spare ≤ self.new.spare }
     {
         let row = self.shadows.swap_remove(&object)?;

@@ -17,7 +17,7 @@ use Rattle.vm_terminate.specs.Steps.{Ends, LeavesUnder, Nothing, Stays}
 
 pub uses_none : (n : ℕ) (parts : HostParts) (chains : ChainTable) (room : ℕ) → UsesRoom n parts parts chains chains room room
 uses_none n parts chains room =
-    record { log = omega arith; buffers = omega arith; rows = omega arith; objects = omega arith; shadows = omega arith; fewer = omega arith; live = omega arith }
+    record { log = omega arith; buffers = omega arith; rows = omega arith; objects = omega arith; shadows = omega arith; marked = refl; fewer = omega arith; live = omega arith }
 
 -- What the calls of a turn say of the room: the pages of an object leave, its control ends, and what stood under it loses a reference.
 pub record TakesTurn (known : ObjectRow) (now bare new : FinishState) (room room_bare room_quiet : ℕ) : Type 0 where
@@ -28,6 +28,7 @@ pub record TakesTurn (known : ObjectRow) (now bare new : FinishState) (room room
   pub rows : now.parts.resident.spare ≤ new.parts.resident.spare
   pub objects : now.parts.objects.rows ≤ new.parts.objects.rows
   pub shadows : now.chains.spare ≤ new.chains.spare
+  pub marked : new.chains.marked ≡ now.chains.marked
   pub fewer : listed_pages bare.parts.queues ≤ listed_pages now.parts.queues
 
 leaving_queues : (object : ObjectId) (next : Option ObjectId) (old new : FinishState) → LeavesUnder object next old new → new.parts.queues ≡ old.parts.queues
@@ -63,6 +64,7 @@ turn_uses host ending next known start chains now bare quiet new before room roo
       rows = omega (arith, turn.rows, uses.rows);
       objects = omega (arith, turn.objects, uses.objects);
       shadows = omega (arith, turn.shadows, uses.shadows);
+      marked = turn.marked ∙ uses.marked;
       fewer = omega (arith, pages, turn.fewer, uses.fewer);
       live = omega (arith, first, second, third, uses.live);
     }

@@ -18,13 +18,14 @@ abbrev pub live_below : ObjectTable → ℕ → ℕ
 live_below objects zero = 0
 live_below objects (suc o) = (if is_live_row (object_at objects o) then 1 else 0) + live_below objects o
 
--- what an end uses of the room: a place in the log for each page that leaves and each control that ends, a buffer for a page at most
+-- what an end uses of the room: a place in the log for each page that leaves and each control that ends, a buffer for a page at most; as many regions are marked as before
 pub record UsesRoom (n : ℕ) (old new : HostParts) (chains_old chains_new : ChainTable) (before after : ℕ) : Type 0 where
   pub log : before + (listed_pages new.queues + live_below new.objects n) ≤ after + (listed_pages old.queues + live_below old.objects n)
   pub buffers : old.buffers.count + listed_pages new.queues ≤ new.buffers.count + listed_pages old.queues
   pub rows : old.resident.spare ≤ new.resident.spare
   pub objects : old.objects.rows ≤ new.objects.rows
   pub shadows : chains_old.spare ≤ chains_new.spare
+  pub marked : chains_new.marked ≡ chains_old.marked
   pub fewer : listed_pages new.queues ≤ listed_pages old.queues
   pub live : live_below new.objects n ≤ live_below old.objects n
 

@@ -106,6 +106,7 @@ fn leave_under(object: ObjectId, parts: &mut HostParts, chains: &mut Chains) -> 
     ensures spare { parts.new.resident.spare ≡ parts.old.resident.spare }
     ensures rows { parts.new.objects.rows ≡ parts.old.objects.rows }
     ensures shadows { chains.old.spare ≤ chains.new.spare }
+    ensures marked { chains.new.marked ≡ chains.old.marked }
 {
     let row = chains.backing(object)?;
     let _ = chains.drop_object(object);

@@ -1,4 +1,5 @@
 mod ByTask
+pub mod Copies
 pub mod Entries
 pub mod Lines
 mod Rows

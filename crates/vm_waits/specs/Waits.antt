@@ -2,6 +2,7 @@
 use Rattle.std.specs.Prelude.{ℕ, ◌≡◌, ◌+◌, ◌==◌, ◌&&◌, ◌||◌, Bool, true, false, List, [], ◌∷◌, Option, Some, None, if◌then◌else◌}
 use Rattle.vm_base.specs.declared.ids.PageKey.{PageKey}
 use Rattle.vm_base.specs.declared.ids.TaskId.{TaskId}
+use Rattle.vm_waits.specs.Wants.{is_copying}
 use Rattle.vm_waits.specs.declared.waiting.On.{On}
 use Rattle.vm_waits.specs.declared.waiting.On.TheVariants as on
 use Rattle.vm_waits.specs.declared.waiting.Waiting.{Waiting}
@@ -81,6 +82,11 @@ count_again rows = count_rows is_again rows
 -- how many wait for a frame
 abbrev pub queued : List Waiting → ℕ
 queued rows = count_rows is_frame rows
+
+-- how many of the rows are slow copies
+abbrev pub count_copies : List Waiting → ℕ
+count_copies [] = 0
+count_copies (w ∷ ws) = one (is_copying w.want) + count_copies ws
 
 -- the oldest row whose reason passes a test
 abbrev pub oldest_row : (On → Bool) → List Waiting → Option Waiting

@@ -1,5 +1,5 @@
 -- What an access is to do: where, how much, and what it needs; with the size of pages.
-use Rattle.std.specs.Prelude.{ℕ, ◌+◌, ◌*◌, ◌%◌, ◌^◌, ◌<◌, ◌≤◌, ◌≡◌}
+use Rattle.std.specs.Prelude.{ℕ, ◌+◌, ◌*◌, ◌%◌, ◌^◌, ◌<◌, ◌≤◌, ◌≡◌, Bool, true, false}
 use Rattle.vm_base.specs.declared.ids.Access.{Access as Need}
 use Rattle.vm_base.specs.declared.ids.Access.TheVariants as need
 use Rattle.vm_base.specs.Pages.{IsAccessSize}
@@ -29,6 +29,12 @@ abbrev pub IsSizedWant : ℕ → Want → Type 0
 IsSizedWant size (want.Load address bytes) = IsAccessSize bytes × (address % bytes ≡ 0)
 IsSizedWant size (want.Store address bytes value) = IsAccessSize bytes × (address % bytes ≡ 0) × (value < 256 ^ bytes)
 IsSizedWant size (want.CopyTo address pages target next) = (address % size ≡ 0) × (next < pages) × (address + pages * size ≤ 2 ^ 32)
+
+-- an access is a slow copy
+abbrev pub is_copying : Want → Bool
+is_copying (want.Load address bytes) = false
+is_copying (want.Store address bytes value) = false
+is_copying (want.CopyTo address pages target next) = true
 
 -- a load or a store, and no slow copy
 abbrev pub IsOfNumber : Want → Type 0

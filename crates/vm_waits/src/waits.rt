@@ -1,7 +1,8 @@
 // The waiting accesses of a host, and the queue for its frames.
 ghost use Rattle.std.specs.Prelude.{ℕ, ◌≡◌, ◌+◌, ◌<◌, ◌≤◌, ◌++◌, ◌∷◌, [], true, false, length, map, nat_lt, IfSome, IsOk, IsSome, IsSomeAnd, MatchOption, None, OnErr, OnOk, Some};
-ghost use Rattle.vm_waits.specs.Waits.{EachOnce, PutsEntry, Waked, count_again, count_rows, entry, first_in_queue, is_again, is_frame, is_listed, oldest_row, one_again, one_frame, queue_without, queued, rewanted, rows_without, turned, waits_for_frame, with_on, with_want, woken, woken_page, woken_ready};
+ghost use Rattle.vm_waits.specs.Waits.{EachOnce, PutsEntry, Waked, count_again, count_copies, count_rows, entry, first_in_queue, is_again, is_frame, is_listed, oldest_row, one, one_again, one_frame, queue_without, queued, rewanted, rows_without, turned, waits_for_frame, with_on, with_want, woken, woken_page, woken_ready};
 ghost use Rattle.vm_waits.specs.Kept.{AreQueued};
+ghost use Rattle.vm_waits.specs.Wants.{is_copying};
 ghost use Rattle.vm_waits.specs.declared.waiting.On.TheVariants.{Again, Frame};
 
 use crate::scan::{oldest_again, oldest_on, take_off, wake_for_page, wake_for_ready};
@@ -27,19 +28,31 @@ pub struct Waits {
     // In the order of joining.
     queue: Vec<TaskId>,
     room: u32,
+    // So many of the rows are slow copies.
+    copies: u32,
 }
 
 impl Model for Waits {
-    ghost use Rattle.std.specs.Prelude.{length, vec_capacity};
+    ghost use Rattle.std.specs.Prelude.{◌≡◌, length, vec_capacity};
     ghost use Rattle.indexmap.specs.IndexMap.{spare, values, IsEmpty};
     ghost use Rattle.vm_waits.specs.Kept.{AreKept, AreQueued, HasRoom};
-    ghost use Rattle.vm_waits.specs.Waits.{WaitTable};
+    ghost use Rattle.vm_waits.specs.Waits.{WaitTable, count_copies};
 
     ghost Value = { WaitTable };
 
     ghost view = { λ s. record { rows = values s.rows; queue = s.queue.items; room = s.room } };
 
-    ghost invariant = { λ s. AreKept s.rows.entries × IsEmpty s.second × AreQueued (values s.rows) s.queue.items × HasRoom s.room (length (values s.rows)) (spare s.rows) (spare s.second) (vec_capacity s.queue) };
+    ghost invariant = { λ s. AreKept s.rows.entries × IsEmpty s.second × AreQueued (values s.rows) s.queue.items × HasRoom s.room (length (values s.rows)) (spare s.rows) (spare s.second) (vec_capacity s.queue) × (s.copies ≡ count_copies (values s.rows)) };
+}
+
+// 1 for a slow copy, and 0 for another access.
+fn copy_count(want: Want) -> u32
+    ensures { result ≡ one (is_copying want) }
+{
+    match want {
+        Want::Load { .. } | Want::Store { .. } => 0,
+        Want::CopyTo { .. } => 1,
+    }
 }
 
 impl Waits {
@@ -52,6 +65,7 @@ impl Waits {
             second: IndexMap::new(alloc),
             queue: Vec::new(alloc),
             room: 0,
+            copies: 0,
         }
     }
 
@@ -99,6 +113,7 @@ impl Waits {
         };
         self.rows.insert(task, row).unwrap();
         self.room -= 1;
+        self.copies += copy_count(want);
     }
 
     /// The waiting access of a task; None exactly where it has none. The rows aren't searched for it.
@@ -167,7 +182,9 @@ impl Waits {
         ensures queue { self.new.queue ≡ self.old.queue }
         ensures room { self.new.room ≡ self.old.room }
     {
-        self.rows.get_mut(&task).unwrap().want = want;
+        let row = self.rows.get_mut(&task).unwrap();
+        self.copies = self.copies - copy_count(row.want) + copy_count(want);
+        row.want = want;
     }
 
     /// A task's access waits for something else, but not for a frame; it leaves the queue if it was
@@ -218,9 +235,21 @@ impl Waits {
         ensures queue { self.new.queue ≡ queue_without task.0 self.old.queue }
         ensures room { self.new.room ≡ self.old.room + 1 }
     {
+        self.copies -= self.copies_of(task);
         take_out(&mut self.rows, &mut self.second, task, self.room as usize);
         take_off(&mut self.queue, task);
         self.room += 1;
+    }
+
+    // 1 where a task's access is a slow copy, and 0 else; it is looked for where there are any.
+    fn copies_of(&self, task: TaskId) -> u32
+        requires { IsSome (entry self.now.rows task.0) }
+        ensures { IfSome (entry self.now.rows task.0) (λ was. result ≡ one (is_copying was.want)) }
+    {
+        if self.copies == 0 {
+            return 0;
+        }
+        copy_count(self.get(task).unwrap().want)
     }
 
     /// The accesses that wait for a page are to be run again.
@@ -254,5 +283,12 @@ impl Waits {
         ensures queue { (t : ℕ) → is_listed t self.now.queue ≡ waits_for_frame (entry self.now.rows t) }
     {
         self.rows.len() as u32
+    }
+
+    /// The number of waiting accesses that are slow copies.
+    pub fn copies(&self) -> u32
+        ensures { result ≡ count_copies self.now.rows }
+    {
+        self.copies
     }
 }

@@ -36,7 +36,7 @@ pages-preserved c =
           (runs_then maps host task claim step want now mid faulted more answer last end (subst (λ (z : Want). Runs maps host task claim answer z last mid end) left rest));
       still = λ none. c.in_ok-step.ensures.still none ∙ c.pages.invariant.still none;
       takes = takes_then _ now mid _ c.pages.log.room c.once.new.log.room c.pages.invariant.takes c.in_ok-step.ensures.takes;
-      room = λ has. subst (λ (z : Want). HasRoom z mid.parts mid.chains mid.ids c.once.new.log.room) (sym left)
+      room = λ has. subst (λ (z : Want). HasRoom z mid.parts mid.chains c.once.new.log.room) (sym left)
           (room_then maps host task claim step want now mid c.pages.log.room c.once.new.log.room faulted more c.in_ok-step.ensures.takes (c.pages.invariant.room has));
     }
 

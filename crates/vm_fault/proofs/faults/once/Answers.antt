@@ -38,6 +38,19 @@ go-requires-clause-can c =
     let sized = subst (λ n. IsSizedWant n want) (can.size ∙ sym sizes) can.sized in
     can_go run can.entry.region _ s mid c.top_of-top.result ready c.top_of-top.ensures.stands refl (subst IsPageSize c.size-2.ensures c.offset_of.ensures.size) at sized copies c.in_ok-prepare.ensures.room
 
+pub go-requires-clause-fits : goal.go-requires-clause-fits
+go-requires-clause-fits c =
+    let can = c.requires in
+    let want = c.args.want in
+    let place = c.find-place.result in
+    let maps = c.args.maps.now in
+    let s : FaultState = record { parts = c.args.parts.now; chains = c.args.chains.now; ids = c.args.ids.now; events = c.args.log.now.items } in
+    let mid : FaultState = record { parts = c.prepare.new.parts; chains = c.prepare.new.chains; ids = c.prepare.new.ids; events = c.prepare.new.log.items } in
+    let its : c.address_of-address.result ≡ address_in maps.size want = c.address_of-address.ensures ∙ ap (λ n. address_in n want) (c.size.ensures ∙ sym can.size) in
+    let led = leads maps s c.args.task.0 c.address_of-address.result want place can its c.find-place.ensures in
+    let was = subst (λ (z : List Event). WasPrepared want place (record s { events = z }) mid) c.in_ok-reserve.ensures.same c.in_ok-prepare.ensures.ok in
+    (prepared (is_storing want && can.row.marked) can.entry.region can.row s mid can.fit can.chains can.region (place_prepared maps c.args.task.0 want place s mid can led was)).fits
+
 pub returns-clause-faulted : goal.returns-clause-faulted
 returns-clause-faulted c =
     let can = c.requires in

@@ -31,6 +31,7 @@ returns-clause-ok c =
       object = object;
       next = over.object;
       chains = shadows;
+      fewer = over.marked;
       objects = put;
       marks = marks_twice k.objects c.reserve.new.self c.make.new.self c.refer.new.self c.in_ok-reserve.ensures.same.absent made.marks c.refer.ensures.marks;
       parts = refl;

@@ -110,6 +110,7 @@ takes_turn g c =
       rows = omega (arith, c.in_ok-end_pages.ensures.spare, c.in_ok-end_control.ensures.spare, c.leave_under.ensures.spare);
       objects = omega (arith, c.in_ok-end_pages.ensures.rows, c.in_ok-end_control.ensures.rows, c.leave_under.ensures.rows);
       shadows = c.leave_under.ensures.shadows;
+      marked = c.leave_under.ensures.marked;
       fewer = c.in_ok-end_pages.ensures.fewer;
     }
 

@@ -10,7 +10,7 @@ use Rattle.vm_terminate.specs.Steps.{finish_state}
 use Rattle.vm_terminate.proofs.pages.end_pages.Goals as goal
 
 no_chains : ChainTable
-no_chains = record { regions = []; shadows = []; spare = 0 }
+no_chains = record { regions = []; shadows = []; marked = 0; spare = 0 }
 
 pub end_page-requires-clause-room : goal.end_page-requires-clause-room
 end_page-requires-clause-room g c =

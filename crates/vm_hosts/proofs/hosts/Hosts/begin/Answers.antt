@@ -26,7 +26,7 @@ serve_all-requires g c =
     let ready : IsReady (breadth_of c.args.command.now) some.0 hosts c.args.log.now.room = subst (λ (z : HostTable). IsReady (breadth_of c.args.command.now) some.0 z c.args.log.now.room) (sym c.self.view_is) some.1 in
     let room = c.in_ok-begin.ensures.room (other_dues h hosts.kernels) (ready.each h k at.at) (front_room hosts h c.begin.new.self k c.begin.new.ids at.at (breadth_of c.args.command.now) some.0 c.args.log.now.room ready) in (
       rests_ran given.header given.outside c.args.command.now given.past c.begin.new.log.items hosts h k.host.0 c.begin.new.self c.begin.new.ids at.number c.in-Some.ensures.known all c.in_ok-begin.ensures.ran,
-      acted_room hosts h c.begin.new.self k c.begin.new.ids at.at (breadth_of c.args.command.now) some.0 c.args.log.now.room c.begin.new.log.room ready room c.in_ok-begin.ensures.marks,
+      acted_room hosts h c.begin.new.self k c.begin.new.ids at.at (breadth_of c.args.command.now) some.0 c.args.log.now.room c.begin.new.log.room ready room,
     )
 
 pub returns-clause-began : goal.returns-clause-began

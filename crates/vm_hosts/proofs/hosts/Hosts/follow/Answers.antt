@@ -1,6 +1,5 @@
 use Rattle.vm_hosts.proofs.Common.{AllRest, Event, List, length, subst, sym, ◌++◌}
 use Rattle.vm_hosts.proofs.Dues.{can_serve, none_more, served_few}
-use Rattle.vm_hosts.proofs.Tables.{some_kernels}
 use Rattle.vm_hosts.proofs.Taking.{passed_alone}
 use Rattle.vm_hosts.proofs.hosts.Hosts.follow.Goals as goal
 
@@ -10,7 +9,7 @@ serve_all-requires g c =
     let rests = c.behind.ensures.rests in
     let some = c.requires.1.1.1 in (
       subst (λ (z : List Event). AllRest given.header c.behind.new.self (z ++ (given.front ++ given.past))) (sym c.requires.1.1.0) rests,
-      can_serve some.0 c.behind.new.self some.1.0 c.args.log.now.room (some_kernels given.header c.behind.new.self (given.front ++ given.past) rests) (c.behind.ensures.ready some.0 some.1.0 c.args.log.now.room some.1.1),
+      can_serve some.0 c.behind.new.self some.1.0 c.args.log.now.room (c.behind.ensures.ready some.0 some.1.0 c.args.log.now.room some.1.1),
     )
 
 pub returns : goal.returns
@@ -20,5 +19,5 @@ returns g c =
       passed = passed_alone given.header given.outside given.command (given.front ++ given.past) c.args.log.now.items c.serve_all.new.self c.serve_all.new.log.items c.requires.1.1.0 c.serve_all.ensures.went;
       few = λ breadth events ready.
           none_more (length c.serve_all.new.log.items) events c.args.log.now.items c.requires.1.1.0 c.serve_all.ensures.few
-          (served_few breadth c.behind.new.self events c.args.log.now.room (some_kernels given.header c.behind.new.self (given.front ++ given.past) c.behind.ensures.rests) (c.behind.ensures.ready breadth events c.args.log.now.room ready));
+          (served_few breadth c.behind.new.self events c.args.log.now.room (c.behind.ensures.ready breadth events c.args.log.now.room ready));
     }

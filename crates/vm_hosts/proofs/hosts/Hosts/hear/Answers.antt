@@ -1,11 +1,11 @@
 use Rattle.vm_hosts.proofs.Common.{AllQueued, AllRest, Down, HasQueue, HostTable, IsReady, [], ap, host_id, length, subst, sym, ◌++◌, ◌∙◌, ◌∷◌}
 use Rattle.vm_model.specs.declared.event.Event.TheVariants as event
 use Rattle.vm_kernel.specs.Begun as begun
-use Rattle.vm_hosts.proofs.Dues.{acted_few, acted_room, few_more, front_fits, front_room, other_dues}
+use Rattle.vm_hosts.proofs.Dues.{acted_few, acted_room, front_fits, front_room, other_dues}
 use Rattle.vm_hosts.proofs.Rooms.{all_rooms, on_err, queued_rooms}
 use Rattle.vm_hosts.proofs.Tables.{found}
 use Rattle.vm_hosts.proofs.Taking.{ends_went, locked_went, paid_went, passed_on, taken_follows, taken_rests, taken_turns, zeroed_went}
-use Rattle.vm_kernel.specs.Rooms.{making, word_breadth}
+use Rattle.vm_kernel.specs.Rooms.{word_breadth}
 use Rattle.vm_hosts.proofs.hosts.Hosts.hear.Goals as goal
 
 pub take-requires : goal.take-requires
@@ -29,10 +29,9 @@ serve_all-requires g c =
     let some = c.requires.1.1.1.1.1.1.1 in
     let ready : IsReady (word_breadth c.args.message.now) some.0 hosts c.args.log.now.room = subst (λ (z : HostTable). IsReady (word_breadth c.args.message.now) some.0 z c.args.log.now.room) (sym c.self.view_is) some.1 in
     let passed = subst (λ z. begun.Passed given.header z given.outside given.command (given.front ++ given.past) c.take.new.self c.take.new.ids c.take.new.log.items) at.number c.in_ok-take.ensures.passed in
-    let marks = few_more (making (word_breadth c.args.message.now)) c.in_ok-take.ensures.marks in
     let room = c.in_ok-take.ensures.room (other_dues h hosts.kernels) (ready.each h k at.at) (front_room hosts h c.take.new.self k c.take.new.ids at.at (word_breadth c.args.message.now) some.0 c.args.log.now.room ready) in (
       taken_rests given.header given.outside given.command given.past given.front c.take.new.log.items hosts c.args.host c.args.object c.args.control c.args.message.now c.take.new.self c.take.new.ids c.requires.1.1.0 all c.requires.1.1.1.1.1.0 c.requires.1.1.1.0 passed,
-      acted_room hosts h c.take.new.self k c.take.new.ids at.at (word_breadth c.args.message.now) some.0 c.args.log.now.room c.take.new.log.room ready room marks,
+      acted_room hosts h c.take.new.self k c.take.new.ids at.at (word_breadth c.args.message.now) some.0 c.args.log.now.room c.take.new.log.room ready room,
     )
 
 pub returns-clause-passed : goal.returns-clause-passed

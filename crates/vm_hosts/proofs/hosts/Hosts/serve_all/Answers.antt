@@ -25,7 +25,7 @@ serve-requires g c =
     let known : c.hosts.host < length g.given.header.frames.items = omega (arith, count, same) in
     let k = c.index_mut.result.now in
     let at = found g.given.header hosts (c.hosts.log.items ++ g.given.past) c.hosts.host k was.rests known c.index_mut.ensures.value in
-    let total = length c.args.log.now.items + (c.self.inside.ids.marks + sum_of_dues c.self.inside.kernels.items) in
+    let total = length c.args.log.now.items + sum_of_dues c.self.inside.kernels.items in
     (at.rests, (dues_from (c.hosts.host + 1) hosts.kernels, serves_room total c.hosts.host hosts k (length c.hosts.log.items) c.hosts.log.room at.at c.hosts.invariant.serves))
 
 pub hosts-preserved : goal.hosts-preserved
@@ -38,7 +38,7 @@ hosts-preserved g c =
     let known : c.hosts.host < length given.header.frames.items = omega (arith, count, same) in
     let k = c.index_mut.result.now in
     let at = found given.header hosts (c.hosts.log.items ++ given.past) c.hosts.host k was.rests known c.index_mut.ensures.value in
-    let total = length c.args.log.now.items + (c.self.inside.ids.marks + sum_of_dues c.self.inside.kernels.items) in
+    let total = length c.args.log.now.items + sum_of_dues c.self.inside.kernels.items in
     let serves = c.hosts.invariant.serves in
     let room = serves_room total c.hosts.host hosts k (length c.hosts.log.items) c.hosts.log.room at.at serves in
     record {
@@ -47,7 +47,7 @@ hosts-preserved g c =
           c.serve.ensures.served;
       same = length-set {A = Parts} c.hosts.self-inside.kernels.items c.hosts.host c.serve.new.self ∙ same;
       serves =
-          serves_next total c.hosts.host hosts k (length c.hosts.log.items) c.hosts.log.room at.at serves c.serve.new.self c.serve.new.ids (length c.serve.new.log.items) c.serve.new.log.room c.serve.ensures.marks c.serve.ensures.few
+          serves_next total c.hosts.host hosts k (length c.hosts.log.items) c.hosts.log.room at.at serves c.serve.new.self c.serve.new.ids (length c.serve.new.log.items) c.serve.new.log.room c.serve.ensures.few
           (c.serve.ensures.left (dues_from (c.hosts.host + 1) hosts.kernels) room);
     }
 
@@ -58,10 +58,10 @@ returns g c =
     let hosts : HostTable = record { kernels = c.hosts.self-inside.kernels.items; ids = c.hosts.self-inside.ids } in
     let same = c.hosts.invariant.same in
     let all : length c.hosts.self-inside.kernels.items ≡ c.hosts.host = omega (arith, same) in
-    let total = length c.args.log.now.items + (first.ids.marks + sum_of_dues first.kernels) in
+    let total = length c.args.log.now.items + sum_of_dues first.kernels in
     record {
       went = serving_done given.header given.outside given.command given.past c.args.log.now.items c.hosts.log.items c.hosts.host hosts all c.hosts.invariant.serving;
       few =
-          subst (λ (z : HostTable). length c.hosts.log.items ≤ length c.args.log.now.items + (z.ids.marks + sum_of_dues z.kernels)) c.self.view_is
+          subst (λ (z : HostTable). length c.hosts.log.items ≤ length c.args.log.now.items + sum_of_dues z.kernels) c.self.view_is
           (serves_done total c.hosts.host hosts (length c.hosts.log.items) c.hosts.log.room c.hosts.invariant.serves);
     }

@@ -3,7 +3,7 @@ use Rattle.vm_kernel.proofs.Growing.{on_ok}
 use Rattle.vm_kernel.proofs.Composing.{on_err}
 use Rattle.vm_kernel.proofs.Readying.{buffers_rooms, front_buffers, most_buffers, ready_buffers, ready_more, starts_buffers}
 use Rattle.vm_kernel.specs.Plays.{PlaysBy, may_reclaim}
-use Rattle.vm_kernel.specs.Rooms.{IsReady, breadth_of, dues_of, front, full_dues, most, with_buffers, with_rooms_of}
+use Rattle.vm_kernel.specs.Rooms.{IsReady, breadth_of, dues, front, full_dues, most, with_buffers, with_rooms_of}
 use Rattle.vm_kernel.proofs.kernel.Kernel.begin.Given.{Over}
 use Rattle.vm_kernel.proofs.kernel.Kernel.begin.Goals as goal
 
@@ -33,25 +33,25 @@ pub returns-clause-few : goal.returns-clause-few
 returns-clause-few g c =
     let told = ap length c.requires.0.nothing in
     on_ok c.run.result _ _ (λ few. omega (arith, few, told))
-    (of_old g c (λ z. OnOk c.run.result (length c.run.new.log.items + dues_of c.run.new.self c.run.new.ids ≤ length c.args.log.now.items + (full_dues z c.args.ids.now + front (breadth_of c.args.command.now) z))) c.run.ensures.few
-    (λ z was. subst (λ (n : ℕ). OnOk c.run.result (length c.run.new.log.items + dues_of c.run.new.self c.run.new.ids ≤ length c.args.log.now.items + (full_dues z c.args.ids.now + n))) (front_buffers z c.reserve_for.new.self.memory.buffers.count (breadth_of c.args.command.now)) was))
+    (of_old g c (λ z. OnOk c.run.result (length c.run.new.log.items + dues c.run.new.self ≤ length c.args.log.now.items + (full_dues z + front (breadth_of c.args.command.now) z))) c.run.ensures.few
+    (λ z was. subst (λ (n : ℕ). OnOk c.run.result (length c.run.new.log.items + dues c.run.new.self ≤ length c.args.log.now.items + (full_dues z + n))) (front_buffers z c.reserve_for.new.self.memory.buffers.count (breadth_of c.args.command.now)) was))
 
 pub returns-clause-room : goal.returns-clause-room
 returns-clause-room g c more ready log =
-    let inside = subst (λ (z : Parts). IsReady (breadth_of c.args.command.now) z c.args.ids.now) (sym c.self.view_is) ready in
-    let now = subst (λ (z : Parts). IsReady (breadth_of c.args.command.now) z c.args.ids.now) (sym c.in_ok-reserve_for.ensures.is) (ready_buffers c.self.inside.parts c.reserve_for.new.self.memory.buffers.count (breadth_of c.args.command.now) c.args.ids.now c.in_ok-reserve_for.ensures.kept inside) in
-    let same : most (breadth_of c.args.command.now) c.reserve_for.new.self c.args.ids.now ≡ most (breadth_of c.args.command.now) c.args.self.now c.args.ids.now = ap (λ (z : Parts). most (breadth_of c.args.command.now) z c.args.ids.now) c.in_ok-reserve_for.ensures.is ∙ (most_buffers c.self.inside.parts c.reserve_for.new.self.memory.buffers.count (breadth_of c.args.command.now) c.args.ids.now ∙ ap (λ (z : Parts). most (breadth_of c.args.command.now) z c.args.ids.now) c.self.view_is) in
-    let enough : most (breadth_of c.args.command.now) c.reserve_for.new.self c.args.ids.now + more ≤ c.args.log.now.room = omega (arith, same, log) in
+    let inside = subst (λ (z : Parts). IsReady (breadth_of c.args.command.now) z) (sym c.self.view_is) ready in
+    let now = subst (λ (z : Parts). IsReady (breadth_of c.args.command.now) z) (sym c.in_ok-reserve_for.ensures.is) (ready_buffers c.self.inside.parts c.reserve_for.new.self.memory.buffers.count (breadth_of c.args.command.now) c.in_ok-reserve_for.ensures.kept inside) in
+    let same : most (breadth_of c.args.command.now) c.reserve_for.new.self ≡ most (breadth_of c.args.command.now) c.args.self.now = ap (λ (z : Parts). most (breadth_of c.args.command.now) z) c.in_ok-reserve_for.ensures.is ∙ (most_buffers c.self.inside.parts c.reserve_for.new.self.memory.buffers.count (breadth_of c.args.command.now) ∙ ap (λ (z : Parts). most (breadth_of c.args.command.now) z) c.self.view_is) in
+    let enough : most (breadth_of c.args.command.now) c.reserve_for.new.self + more ≤ c.args.log.now.room = omega (arith, same, log) in
     on_ok c.run.result _ _ (λ room. record { has = room.0; buffers = room.1.0; skip = room.1.1 })
-    (c.run.ensures.room (more + 2) (ready_more (breadth_of c.args.command.now) c.reserve_for.new.self c.args.ids.now c.args.log.now.room more now enough) now.access now.buffers now.skip c.in_ok-reserve_for.ensures.enough)
+    (c.run.ensures.room (more + 2) (ready_more (breadth_of c.args.command.now) c.reserve_for.new.self c.args.log.now.room more now enough) now.access now.buffers now.skip c.in_ok-reserve_for.ensures.enough)
 
 pub returns-clause-err : goal.returns-clause-err
 returns-clause-err g c ready log =
-    let inside = subst (λ (z : Parts). IsReady (breadth_of c.args.command.now) z c.args.ids.now) (sym c.self.view_is) ready in
-    let now = subst (λ (z : Parts). IsReady (breadth_of c.args.command.now) z c.args.ids.now) (sym c.in_ok-reserve_for.ensures.is) (ready_buffers c.self.inside.parts c.reserve_for.new.self.memory.buffers.count (breadth_of c.args.command.now) c.args.ids.now c.in_ok-reserve_for.ensures.kept inside) in
-    let same : most (breadth_of c.args.command.now) c.reserve_for.new.self c.args.ids.now ≡ most (breadth_of c.args.command.now) c.args.self.now c.args.ids.now = ap (λ (z : Parts). most (breadth_of c.args.command.now) z c.args.ids.now) c.in_ok-reserve_for.ensures.is ∙ (most_buffers c.self.inside.parts c.reserve_for.new.self.memory.buffers.count (breadth_of c.args.command.now) c.args.ids.now ∙ ap (λ (z : Parts). most (breadth_of c.args.command.now) z c.args.ids.now) c.self.view_is) in
-    let enough : most (breadth_of c.args.command.now) c.reserve_for.new.self c.args.ids.now + 0 ≤ c.args.log.now.room = omega (arith, same, log) in
-    let more = ready_more (breadth_of c.args.command.now) c.reserve_for.new.self c.args.ids.now c.args.log.now.room 0 now enough in
+    let inside = subst (λ (z : Parts). IsReady (breadth_of c.args.command.now) z) (sym c.self.view_is) ready in
+    let now = subst (λ (z : Parts). IsReady (breadth_of c.args.command.now) z) (sym c.in_ok-reserve_for.ensures.is) (ready_buffers c.self.inside.parts c.reserve_for.new.self.memory.buffers.count (breadth_of c.args.command.now) c.in_ok-reserve_for.ensures.kept inside) in
+    let same : most (breadth_of c.args.command.now) c.reserve_for.new.self ≡ most (breadth_of c.args.command.now) c.args.self.now = ap (λ (z : Parts). most (breadth_of c.args.command.now) z) c.in_ok-reserve_for.ensures.is ∙ (most_buffers c.self.inside.parts c.reserve_for.new.self.memory.buffers.count (breadth_of c.args.command.now) ∙ ap (λ (z : Parts). most (breadth_of c.args.command.now) z) c.self.view_is) in
+    let enough : most (breadth_of c.args.command.now) c.reserve_for.new.self + 0 ≤ c.args.log.now.room = omega (arith, same, log) in
+    let more = ready_more (breadth_of c.args.command.now) c.reserve_for.new.self c.args.log.now.room 0 now enough in
     on_err c.run.result _ _
     (λ err. (
       subst (λ (z : Parts). c.run.new.self ≡ with_rooms_of c.run.new.self z) c.self.view_is

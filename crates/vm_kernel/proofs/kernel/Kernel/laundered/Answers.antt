@@ -14,7 +14,7 @@ pub returns-clause-waits : goal.returns-clause-waits
 returns-clause-waits g c = c.launder.ensures.waits ∙ ap (λ (z : Parts). z.waits) c.self.view_is
 
 pub returns-clause-ready : goal.returns-clause-ready
-returns-clause-ready g c breadth = subst (λ (z : Parts). IsReady breadth z c.args.ids.now → IsReady breadth c.launder.new.self c.args.ids.now) c.self.view_is (ready_washed breadth c.self.inside.parts c.launder.new.self c.args.ids.now c.launder.ensures.rest c.launder.ensures.frames)
+returns-clause-ready g c breadth = subst (λ (z : Parts). IsReady breadth z → IsReady breadth c.launder.new.self) c.self.view_is (ready_washed breadth c.self.inside.parts c.launder.new.self c.launder.ensures.rest c.launder.ensures.frames)
 
 pub returns-clause-most : goal.returns-clause-most
-returns-clause-most g c breadth = subst (λ (z : Parts). most breadth c.launder.new.self c.args.ids.now ≡ most breadth z c.args.ids.now) c.self.view_is (most_washed breadth c.self.inside.parts c.launder.new.self c.args.ids.now c.launder.ensures.rest c.launder.ensures.frames)
+returns-clause-most g c breadth = subst (λ (z : Parts). most breadth c.launder.new.self ≡ most breadth z) c.self.view_is (most_washed breadth c.self.inside.parts c.launder.new.self c.launder.ensures.rest c.launder.ensures.frames)

@@ -5,7 +5,7 @@ use Rattle.vm_kernel.proofs.Served.{both_ok}
 use Rattle.vm_kernel.proofs.Spending.{never_err}
 use Rattle.vm_kernel.proofs.Stopping.{ends_waiters}
 use Rattle.vm_kernel.specs.Plays.{PlaysAnswer}
-use Rattle.vm_kernel.specs.Rooms.{HasMore, IsReady, dues_of, front, full_dues, making, most, with_buffers, word_breadth}
+use Rattle.vm_kernel.specs.Rooms.{HasMore, IsReady, dues, front, full_dues, making, most, with_buffers, word_breadth}
 use Rattle.vm_kernel.specs.Taking.{IsWord}
 use Rattle.vm_objects.specs.Objects.{object_at}
 use Rattle.vm_resident.specs.Resident.{row_at}
@@ -48,20 +48,20 @@ pub returns-clause-few : goal.returns-clause-few
 returns-clause-few g c =
     let told = ap length c.requires.1.1.1 in
     on_ok c.take.result _ _ (λ few. omega (arith, few, told))
-    (of_old g c (λ z. OnOk c.take.result (length c.take.new.log.items + dues_of c.take.new.self c.take.new.ids ≤ length c.args.log.now.items + (full_dues z c.args.ids.now + front (word_breadth c.args.message.now) z))) c.take.ensures.few
-    (λ z was. subst (λ (n : ℕ). OnOk c.take.result (length c.take.new.log.items + dues_of c.take.new.self c.take.new.ids ≤ length c.args.log.now.items + (full_dues z c.args.ids.now + n))) (front_buffers z c.reserve_for_word.new.self.memory.buffers.count (word_breadth c.args.message.now)) was))
+    (of_old g c (λ z. OnOk c.take.result (length c.take.new.log.items + dues c.take.new.self ≤ length c.args.log.now.items + (full_dues z + front (word_breadth c.args.message.now) z))) c.take.ensures.few
+    (λ z was. subst (λ (n : ℕ). OnOk c.take.result (length c.take.new.log.items + dues c.take.new.self ≤ length c.args.log.now.items + (full_dues z + n))) (front_buffers z c.reserve_for_word.new.self.memory.buffers.count (word_breadth c.args.message.now)) was))
 
 -- behind `reserve` there is room for what the call does
-ready_now : (g : Over) (c : goal.After-take g) → IsReady (word_breadth c.args.message.now) c.args.self.now c.args.ids.now → IsReady (word_breadth c.args.message.now) c.reserve_for_word.new.self c.args.ids.now
+ready_now : (g : Over) (c : goal.After-take g) → IsReady (word_breadth c.args.message.now) c.args.self.now → IsReady (word_breadth c.args.message.now) c.reserve_for_word.new.self
 ready_now g c ready =
-    let inside = subst (λ (z : Parts). IsReady (word_breadth c.args.message.now) z c.args.ids.now) (sym c.self.view_is) ready in
-    subst (λ (z : Parts). IsReady (word_breadth c.args.message.now) z c.args.ids.now) (sym c.in_ok-reserve_for_word.ensures.is) (ready_buffers c.self.inside.parts c.reserve_for_word.new.self.memory.buffers.count (word_breadth c.args.message.now) c.args.ids.now c.in_ok-reserve_for_word.ensures.kept inside)
+    let inside = subst (λ (z : Parts). IsReady (word_breadth c.args.message.now) z) (sym c.self.view_is) ready in
+    subst (λ (z : Parts). IsReady (word_breadth c.args.message.now) z) (sym c.in_ok-reserve_for_word.ensures.is) (ready_buffers c.self.inside.parts c.reserve_for_word.new.self.memory.buffers.count (word_breadth c.args.message.now) c.in_ok-reserve_for_word.ensures.kept inside)
 
-more_now : (g : Over) (c : goal.After-take g) (more : ℕ) → IsReady (word_breadth c.args.message.now) c.args.self.now c.args.ids.now → most (word_breadth c.args.message.now) c.args.self.now c.args.ids.now + more ≤ c.args.log.now.room
-    → HasMore (front (word_breadth c.args.message.now) c.reserve_for_word.new.self) (making (word_breadth c.args.message.now)) (more + 2) c.reserve_for_word.new.self c.args.ids.now c.args.log.now.room
+more_now : (g : Over) (c : goal.After-take g) (more : ℕ) → IsReady (word_breadth c.args.message.now) c.args.self.now → most (word_breadth c.args.message.now) c.args.self.now + more ≤ c.args.log.now.room
+    → HasMore (front (word_breadth c.args.message.now) c.reserve_for_word.new.self) (making (word_breadth c.args.message.now) c.reserve_for_word.new.self) (more + 2) c.reserve_for_word.new.self c.args.log.now.room
 more_now g c more ready log =
-    let same : most (word_breadth c.args.message.now) c.reserve_for_word.new.self c.args.ids.now ≡ most (word_breadth c.args.message.now) c.args.self.now c.args.ids.now = ap (λ (z : Parts). most (word_breadth c.args.message.now) z c.args.ids.now) c.in_ok-reserve_for_word.ensures.is ∙ (most_buffers c.self.inside.parts c.reserve_for_word.new.self.memory.buffers.count (word_breadth c.args.message.now) c.args.ids.now ∙ ap (λ (z : Parts). most (word_breadth c.args.message.now) z c.args.ids.now) c.self.view_is) in
-    ready_more (word_breadth c.args.message.now) c.reserve_for_word.new.self c.args.ids.now c.args.log.now.room more (ready_now g c ready) (omega (arith, same, log))
+    let same : most (word_breadth c.args.message.now) c.reserve_for_word.new.self ≡ most (word_breadth c.args.message.now) c.args.self.now = ap (λ (z : Parts). most (word_breadth c.args.message.now) z) c.in_ok-reserve_for_word.ensures.is ∙ (most_buffers c.self.inside.parts c.reserve_for_word.new.self.memory.buffers.count (word_breadth c.args.message.now) ∙ ap (λ (z : Parts). most (word_breadth c.args.message.now) z) c.self.view_is) in
+    ready_more (word_breadth c.args.message.now) c.reserve_for_word.new.self c.args.log.now.room more (ready_now g c ready) (omega (arith, same, log))
 
 pub returns-clause-room : goal.returns-clause-room
 returns-clause-room g c more ready log =

@@ -1,7 +1,10 @@
 use Rattle.vm_kernel.proofs.Common.{HostParts, WaitTable, ap, arith, entering, false, frame_count, got, length, refl, true, whole_entry, ◌/◌, ◌∙◌, ◌∷◌, ◌≡◌}
 use Rattle.vm_kernel.proofs.Playing.{lists_same, plays_both, plays_told}
+use Rattle.vm_kernel.proofs.Departing.{framed}
 use Rattle.vm_kernel.proofs.Growing.{on_ok}
 use Rattle.vm_kernel.proofs.Ranges.{ran_range, changes_entered}
+use Rattle.vm_kernel.specs.Rooms.{if_copies}
+use Rattle.vm_waits.specs.Waits.{count_copies}
 use Rattle.vm_kernel.proofs.parts.Parts.allocate.Goals as goal
 
 pub returns-clause-ran : goal.returns-clause-ran
@@ -26,17 +29,17 @@ pub returns-clause-spends : goal.returns-clause-spends
 returns-clause-spends g c =
     let made = c.in_ok-make_range.ensures.made in
     let waits = ap (λ (z : WaitTable). length z.rows) made.waits in
-    let frames = ap (λ (z : HostParts). frame_count z.frames) made.memory in
+    let frames = ap (λ (z : WaitTable). if_copies (count_copies z.rows) (frame_count c.make_range.new.self.memory.frames)) made.waits ∙ framed c.args.self.now (ap (λ (z : HostParts). frame_count z.frames) made.memory) in
+    let marked = c.make_range.ensures.marked in
     let rows = ap (λ (z : HostParts). z.resident.spare) made.memory in
     let first = ap length c.in_ok-push.ensures.ok in
     on_ok c.push-2.result _ _
     (λ told. let second = ap length told in record {
-      told = omega (arith, first, second, waits, frames);
-      room = omega (arith, c.push.ensures.room, c.push-2.ensures.room, waits, frames);
-      rows = omega (arith, rows, waits, frames);
-      shadows = omega (arith, c.make_range.ensures.shadows);
-      objects = omega (arith, c.make_range.ensures.objects);
-      marks = omega (arith, c.make_range.ensures.shadows);
+      told = omega (arith, first, second, waits, frames, marked);
+      room = omega (arith, c.push.ensures.room, c.push-2.ensures.room, waits, frames, marked);
+      rows = omega (arith, rows, waits, frames, marked);
+      shadows = omega (arith, c.make_range.ensures.shadows, marked);
+      objects = omega (arith, c.make_range.ensures.objects, marked);
     })
     c.push-2.ensures.ok
 

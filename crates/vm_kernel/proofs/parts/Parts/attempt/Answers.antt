@@ -1,12 +1,14 @@
-use Rattle.vm_kernel.proofs.Common.{On, PageKey, Some, ap, arith, count_again, is_frame, one_again, one_frame, queue_without, queued, refl, rules, [], ◌++◌, ◌∷◌, subst, true, with_on, false, ◌+◌, ◌∙◌, ◌≡◌, ◌⊎◌}
+use Rattle.vm_kernel.proofs.Common.{On, PageKey, Some, ap, arith, count_again, is_frame, one_again, one_frame, queue_without, queued, refl, rules, [], ◌++◌, ◌∷◌, subst, true, with_on, false, ◌+◌, ◌∙◌, ◌≡◌, ◌≤◌, ◌⊎◌}
 use Rattle.vm_fault.specs.declared.step.FaultStep.TheVariants as step
-use Rattle.vm_waits.specs.Waits.{rewanted, turned, with_want}
+use Rattle.vm_waits.proofs.Copies.{copies_some}
+use Rattle.vm_waits.specs.Waits.{count_copies, rewanted, turned, with_want}
 use Rattle.vm_waits.specs.declared.waiting.On.TheVariants as on
-use Rattle.vm_kernel.proofs.Affording.{as_many, as_many_once, as_many_run, cost_most, few_left, few_wanting, keeps_both, one_fewer, pays_run, room_left, room_to_end, room_to_run, room_wanting, run_spare, some_run, tells_end}
+use Rattle.vm_kernel.proofs.Affording.{as_many, as_many_once, as_many_run, copies_gone, copies_on, copies_turn, cost_most, few_left, few_wanting, keeps_both, one_fewer, pays_run, room_left, room_to_end, room_to_run, room_wanting, run_spare, some_run, tells_end}
 use Rattle.vm_kernel.proofs.Claiming.{WaitsOn, once_joins, once_queued, once_turned, waits_page, waits_ready}
 use Rattle.vm_kernel.proofs.Finding.{ends_next}
 use Rattle.vm_kernel.proofs.Leading.{can_fault}
 use Rattle.vm_kernel.proofs.Ordering.{PutsInOrder}
+use Rattle.vm_kernel.proofs.Paying.{runs_kind}
 use Rattle.vm_kernel.proofs.PagesLeft.{left_goes_on, left_gone, left_turns, left_turns_less, once_of}
 use Rattle.vm_kernel.proofs.Pagewise.{left_at_end, pagewise}
 use Rattle.vm_kernel.proofs.Playing.{plays_attempt}
@@ -246,72 +248,77 @@ pub returns-in_err-step-clause-room : goal.returns-in_err-step-clause-room
 returns-in_err-step-clause-room g c = λ more has.
     let w = c.args.waiting in
     let some = some_run c.args.self.now.waits.rows w c.requires.1.0 c.requires.1.1 in
-    absurd (let bad : false ≡ true = c.in_err-step.ensures.succeeds (room_to_run w.want has c.requires.0.matches.fits.parts some) in cc)
+    absurd (let bad : false ≡ true = c.in_err-step.ensures.succeeds (room_to_run w.want has c.requires.0.matches.fits.parts some (copies_some c.args.self.now.waits.rows w.task.0 w c.requires.1.0)) in cc)
 
 pub returns-in_err-end_copy-in-Done-clause-room : goal.returns-in_err-end_copy-in-Done-clause-room
 returns-in_err-end_copy-in-Done-clause-room g c = λ more has.
     let w = c.args.waiting in
     let some = some_run c.args.self.now.waits.rows w c.requires.1.0 c.requires.1.1 in
-    let pays = pays_run g.given.header g.given.host g.given.past c.args.self.now c.args.ids.now w c.args.log.now.items (step.Done c.in-Done.value) c.requires.0 c.requires.1.0 (rw c.in-Done.is at c.in_ok-step.ensures.runs) in
+    let pays = pays_run c.args.self.now c.args.ids.now w c.args.log.now.items (step.Done c.in-Done.value) c.requires.1.0 (rw c.in-Done.is at c.in_ok-step.ensures.runs) in
     absurd (let bad : false ≡ true = c.in_err-end_copy-in-Done.ensures.succeeds (λ copying. room_to_end (step.Done c.in-Done.value) w _ c.fault.new.log.room has pays c.in_ok-step.ensures.takes some refl copying) in cc)
 
 pub returns-in-Done-clause-room : goal.returns-in-Done-clause-room
 returns-in-Done-clause-room g c = λ more has.
     let w = c.args.waiting in
     let ended = c.in_ok-end_copy-in-Done.ensures in
-    let pays = pays_run g.given.header g.given.host g.given.past c.args.self.now c.args.ids.now w c.args.log.now.items (step.Done c.in-Done.value) c.requires.0 c.requires.1.0 (rw c.in-Done.is at c.in_ok-step.ensures.runs) in
+    let pays = pays_run c.args.self.now c.args.ids.now w c.args.log.now.items (step.Done c.in-Done.value) c.requires.1.0 (rw c.in-Done.is at c.in_ok-step.ensures.runs) in
     let tells = tells_end w _ c.end_copy.new.self _ c.end_copy.new.log.items ended.ends in
+    let copies : count_copies c.end_copy.new.self.waits.rows ≤ count_copies c.args.self.now.waits.rows = rw (keeps_rest w _ c.end_copy.new.self _ c.end_copy.new.log.items c.in_ok-end_copy-in-Done.ensures.ends).waits
+    (copies_gone w.task.0 c.fault.new.want c.args.self.now.waits.rows c.set_want.new.self.rows c.remove.new.self.rows w (once_of _ 0 c.args.self.now.waits.rows c.requires.0.order) c.requires.1.0 c.set_want.ensures.rows c.remove.ensures.rows (runs_kind c.in_ok-step.ensures.runs)) in
     let leaves = returns-in-Done-clause-attempts g c in
-    (refl, room_left (step.Done c.in-Done.value) w _ c.fault.new.log.room tells.extra c.end_copy.new.log.items has pays c.in_ok-step.ensures.takes tells.costs c.requires.1.1 leaves.again leaves.queued tells.memory ended.chains tells.told ended.room)
+    (refl, room_left (step.Done c.in-Done.value) w _ c.fault.new.log.room tells.extra c.end_copy.new.log.items has pays c.in_ok-step.ensures.takes tells.costs c.requires.1.1 leaves.again leaves.queued copies tells.memory ended.chains tells.told ended.room)
 
 pub returns-in-Done-clause-spare : goal.returns-in-Done-clause-spare
 returns-in-Done-clause-spare g c =
     let w = c.args.waiting in
     let rows = c.args.self.now.waits.rows in
-    let pays = pays_run g.given.header g.given.host g.given.past c.args.self.now c.args.ids.now w c.args.log.now.items (step.Done c.in-Done.value) c.requires.0 c.requires.1.0 (rw c.in-Done.is at c.in_ok-step.ensures.runs) in
+    let pays = pays_run c.args.self.now c.args.ids.now w c.args.log.now.items (step.Done c.in-Done.value) c.requires.1.0 (rw c.in-Done.is at c.in_ok-step.ensures.runs) in
     keeps_both (run_spare c.args.self.now _ c.remove.new.self pays (one_fewer (rewanted w.task.0 c.fault.new.want) rows c.set_want.new.self.rows c.remove.new.self.rows c.set_want.ensures.rows c.remove.ensures.length)) c.in_ok-end_copy-in-Done.ensures.spare
 
 pub returns-then-ne-clause-room : goal.returns-then-ne-clause-room
 returns-then-ne-clause-room g c = λ more has.
     let w = c.args.waiting in
-    let pays = pays_run g.given.header g.given.host g.given.past c.args.self.now c.args.ids.now w c.args.log.now.items (step.NeedFrame c.in-NeedFrame.source) c.requires.0 c.requires.1.0 (rw c.in-NeedFrame.is at c.in_ok-step.ensures.runs) in
+    let pays = pays_run c.args.self.now c.args.ids.now w c.args.log.now.items (step.NeedFrame c.in-NeedFrame.source) c.requires.1.0 (rw c.in-NeedFrame.is at c.in_ok-step.ensures.runs) in
     let joins = returns-then-ne-clause-attempts g c in
     let same = as_many_run w c.args.self.now.waits.rows c.join_queue.new.self.rows c.requires.1.1 joins.again joins.queued in
-    (refl, room_wanting c.in-NeedFrame.source w _ c.fault.new.log.room has pays c.in_ok-step.ensures.takes same refl refl)
+    let copies = copies_turn w.task.0 c.fault.new.want on.Frame c.args.self.now.waits.rows c.set_want.new.self.rows c.join_queue.new.self.rows w (once_of _ 0 c.args.self.now.waits.rows c.requires.0.order) c.requires.1.0 c.set_want.ensures.rows c.join_queue.ensures.rows (runs_kind c.in_ok-step.ensures.runs) in
+    (refl, room_wanting c.in-NeedFrame.source w _ c.fault.new.log.room has pays c.in_ok-step.ensures.takes same copies refl refl)
 
 pub returns-then-ne-clause-spare : goal.returns-then-ne-clause-spare
 returns-then-ne-clause-spare g c =
     let w = c.args.waiting in
-    let pays = pays_run g.given.header g.given.host g.given.past c.args.self.now c.args.ids.now w c.args.log.now.items (step.NeedFrame c.in-NeedFrame.source) c.requires.0 c.requires.1.0 (rw c.in-NeedFrame.is at c.in_ok-step.ensures.runs) in
+    let pays = pays_run c.args.self.now c.args.ids.now w c.args.log.now.items (step.NeedFrame c.in-NeedFrame.source) c.requires.1.0 (rw c.in-NeedFrame.is at c.in_ok-step.ensures.runs) in
     run_spare c.args.self.now _ c.join_queue.new.self pays
     (as_many (rewanted w.task.0 c.fault.new.want) (turned w.task.0 on.Frame) c.args.self.now.waits.rows c.set_want.new.self.rows c.join_queue.new.self.rows c.set_want.ensures.rows c.join_queue.ensures.rows)
 
 pub returns-else-ne-clause-room : goal.returns-else-ne-clause-room
 returns-else-ne-clause-room g c = λ more has.
     let w = c.args.waiting in
-    let pays = pays_run g.given.header g.given.host g.given.past c.args.self.now c.args.ids.now w c.args.log.now.items (step.NeedFrame c.in-NeedFrame.source) c.requires.0 c.requires.1.0 (rw c.in-NeedFrame.is at c.in_ok-step.ensures.runs) in
+    let pays = pays_run c.args.self.now c.args.ids.now w c.args.log.now.items (step.NeedFrame c.in-NeedFrame.source) c.requires.1.0 (rw c.in-NeedFrame.is at c.in_ok-step.ensures.runs) in
     let joins = returns-else-ne-clause-attempts g c in
     let same = as_many_run w c.args.self.now.waits.rows c.set_want.new.self.rows c.requires.1.1 joins.again joins.queued in
-    (refl, room_wanting c.in-NeedFrame.source w _ c.fault.new.log.room has pays c.in_ok-step.ensures.takes same refl refl)
+    let copies = copies_on w.task.0 c.fault.new.want c.args.self.now.waits.rows c.set_want.new.self.rows w (once_of _ 0 c.args.self.now.waits.rows c.requires.0.order) c.requires.1.0 c.set_want.ensures.rows (runs_kind c.in_ok-step.ensures.runs) in
+    (refl, room_wanting c.in-NeedFrame.source w _ c.fault.new.log.room has pays c.in_ok-step.ensures.takes same copies refl refl)
 
 pub returns-else-ne-clause-spare : goal.returns-else-ne-clause-spare
 returns-else-ne-clause-spare g c =
     let w = c.args.waiting in
-    let pays = pays_run g.given.header g.given.host g.given.past c.args.self.now c.args.ids.now w c.args.log.now.items (step.NeedFrame c.in-NeedFrame.source) c.requires.0 c.requires.1.0 (rw c.in-NeedFrame.is at c.in_ok-step.ensures.runs) in
+    let pays = pays_run c.args.self.now c.args.ids.now w c.args.log.now.items (step.NeedFrame c.in-NeedFrame.source) c.requires.1.0 (rw c.in-NeedFrame.is at c.in_ok-step.ensures.runs) in
     run_spare c.args.self.now _ c.set_want.new.self pays (as_many_once (rewanted w.task.0 c.fault.new.want) c.args.self.now.waits.rows c.set_want.new.self.rows c.set_want.ensures.rows)
 
 pub returns-clause-room : goal.returns-clause-room
 returns-clause-room g c = λ more has.
     let w = c.args.waiting in
     let answer = c.in_ok-step.step in
-    let pays = pays_run g.given.header g.given.host g.given.past c.args.self.now c.args.ids.now w c.args.log.now.items answer c.requires.0 c.requires.1.0 c.in_ok-step.ensures.runs in
+    let pays = pays_run c.args.self.now c.args.ids.now w c.args.log.now.items answer c.requires.1.0 c.in_ok-step.ensures.runs in
     let leaves = returns-clause-attempts g c in
-    (refl, room_left answer w _ c.fault.new.log.room 0 c.fault.new.log.items has pays c.in_ok-step.ensures.takes (cost_most answer w.want) c.requires.1.1 leaves.again leaves.queued refl refl (omega arith) (omega arith))
+    let copies = copies_turn w.task.0 c.fault.new.want c.match-step.on c.args.self.now.waits.rows c.set_want.new.self.rows c.set_on.new.self.rows w (once_of _ 0 c.args.self.now.waits.rows c.requires.0.order) c.requires.1.0 c.set_want.ensures.rows c.set_on.ensures.rows (runs_kind c.in_ok-step.ensures.runs) in
+    (refl, room_left answer w _ c.fault.new.log.room 0 c.fault.new.log.items has pays c.in_ok-step.ensures.takes (cost_most answer w.want) c.requires.1.1 leaves.again leaves.queued copies refl (refl, refl) (omega arith) (omega arith))
 
 pub returns-clause-spare : goal.returns-clause-spare
 returns-clause-spare g c =
     let w = c.args.waiting in
-    let pays = pays_run g.given.header g.given.host g.given.past c.args.self.now c.args.ids.now w c.args.log.now.items c.in_ok-step.step c.requires.0 c.requires.1.0 c.in_ok-step.ensures.runs in
+    let pays = pays_run c.args.self.now c.args.ids.now w c.args.log.now.items c.in_ok-step.step c.requires.1.0 c.in_ok-step.ensures.runs in
     run_spare c.args.self.now _ c.set_on.new.self pays
     (as_many (rewanted w.task.0 c.fault.new.want) (turned w.task.0 c.match-step.on) c.args.self.now.waits.rows c.set_want.new.self.rows c.set_on.new.self.rows c.set_want.ensures.rows c.set_on.ensures.rows)
 
@@ -320,47 +327,36 @@ returns-clause-spare g c =
 pub returns-in-Done-clause-few : goal.returns-in-Done-clause-few
 returns-in-Done-clause-few g c =
     let w = c.args.waiting in
-    let pays = pays_run g.given.header g.given.host g.given.past c.args.self.now c.args.ids.now w c.args.log.now.items (step.Done c.in-Done.value) c.requires.0 c.requires.1.0 (rw c.in-Done.is at c.in_ok-step.ensures.runs) in
+    let pays = pays_run c.args.self.now c.args.ids.now w c.args.log.now.items (step.Done c.in-Done.value) c.requires.1.0 (rw c.in-Done.is at c.in_ok-step.ensures.runs) in
     let tells = tells_end w _ c.end_copy.new.self _ c.end_copy.new.log.items c.in_ok-end_copy-in-Done.ensures.ends in
+    let copies : count_copies c.end_copy.new.self.waits.rows ≤ count_copies c.args.self.now.waits.rows = rw (keeps_rest w _ c.end_copy.new.self _ c.end_copy.new.log.items c.in_ok-end_copy-in-Done.ensures.ends).waits
+    (copies_gone w.task.0 c.fault.new.want c.args.self.now.waits.rows c.set_want.new.self.rows c.remove.new.self.rows w (once_of _ 0 c.args.self.now.waits.rows c.requires.0.order) c.requires.1.0 c.set_want.ensures.rows c.remove.ensures.rows (runs_kind c.in_ok-step.ensures.runs)) in
     let leaves = returns-in-Done-clause-attempts g c in
-    few_left c.args.self.now c.end_copy.new.self (step.Done c.in-Done.value) w _ tells.extra c.end_copy.new.log.items pays tells.costs c.requires.1.1 leaves.again leaves.queued tells.memory tells.told
-
-pub returns-in-Done-clause-marks : goal.returns-in-Done-clause-marks
-returns-in-Done-clause-marks g c =
-    (pays_run g.given.header g.given.host g.given.past c.args.self.now c.args.ids.now c.args.waiting c.args.log.now.items c.in_ok-step.step c.requires.0 c.requires.1.0 c.in_ok-step.ensures.runs).marks
+    few_left c.args.self.now c.end_copy.new.self (step.Done c.in-Done.value) w _ tells.extra c.end_copy.new.log.items pays tells.costs c.requires.1.1 leaves.again leaves.queued copies tells.memory c.in_ok-end_copy-in-Done.ensures.chains.1 tells.told
 
 pub returns-then-ne-clause-few : goal.returns-then-ne-clause-few
 returns-then-ne-clause-few g c =
     let w = c.args.waiting in
-    let pays = pays_run g.given.header g.given.host g.given.past c.args.self.now c.args.ids.now w c.args.log.now.items (step.NeedFrame c.in-NeedFrame.source) c.requires.0 c.requires.1.0 (rw c.in-NeedFrame.is at c.in_ok-step.ensures.runs) in
+    let pays = pays_run c.args.self.now c.args.ids.now w c.args.log.now.items (step.NeedFrame c.in-NeedFrame.source) c.requires.1.0 (rw c.in-NeedFrame.is at c.in_ok-step.ensures.runs) in
     let joins = returns-then-ne-clause-attempts g c in
     let same = as_many_run w c.args.self.now.waits.rows c.join_queue.new.self.rows c.requires.1.1 joins.again joins.queued in
-    few_wanting c.args.self.now (record c.args.self.now { waits = c.join_queue.new.self; memory = c.fault.new.parts }) c.in-NeedFrame.source w _ pays same refl
-
-pub returns-then-ne-clause-marks : goal.returns-then-ne-clause-marks
-returns-then-ne-clause-marks g c =
-    (pays_run g.given.header g.given.host g.given.past c.args.self.now c.args.ids.now c.args.waiting c.args.log.now.items c.in_ok-step.step c.requires.0 c.requires.1.0 c.in_ok-step.ensures.runs).marks
+    let copies = copies_turn w.task.0 c.fault.new.want on.Frame c.args.self.now.waits.rows c.set_want.new.self.rows c.join_queue.new.self.rows w (once_of _ 0 c.args.self.now.waits.rows c.requires.0.order) c.requires.1.0 c.set_want.ensures.rows c.join_queue.ensures.rows (runs_kind c.in_ok-step.ensures.runs) in
+    few_wanting c.args.self.now (record c.args.self.now { waits = c.join_queue.new.self; memory = c.fault.new.parts; chains = c.fault.new.chains }) c.in-NeedFrame.source w _ pays same copies refl refl
 
 pub returns-else-ne-clause-few : goal.returns-else-ne-clause-few
 returns-else-ne-clause-few g c =
     let w = c.args.waiting in
-    let pays = pays_run g.given.header g.given.host g.given.past c.args.self.now c.args.ids.now w c.args.log.now.items (step.NeedFrame c.in-NeedFrame.source) c.requires.0 c.requires.1.0 (rw c.in-NeedFrame.is at c.in_ok-step.ensures.runs) in
+    let pays = pays_run c.args.self.now c.args.ids.now w c.args.log.now.items (step.NeedFrame c.in-NeedFrame.source) c.requires.1.0 (rw c.in-NeedFrame.is at c.in_ok-step.ensures.runs) in
     let joins = returns-else-ne-clause-attempts g c in
     let same = as_many_run w c.args.self.now.waits.rows c.set_want.new.self.rows c.requires.1.1 joins.again joins.queued in
-    few_wanting c.args.self.now (record c.args.self.now { waits = c.set_want.new.self; memory = c.fault.new.parts }) c.in-NeedFrame.source w _ pays same refl
-
-pub returns-else-ne-clause-marks : goal.returns-else-ne-clause-marks
-returns-else-ne-clause-marks g c =
-    (pays_run g.given.header g.given.host g.given.past c.args.self.now c.args.ids.now c.args.waiting c.args.log.now.items c.in_ok-step.step c.requires.0 c.requires.1.0 c.in_ok-step.ensures.runs).marks
+    let copies = copies_on w.task.0 c.fault.new.want c.args.self.now.waits.rows c.set_want.new.self.rows w (once_of _ 0 c.args.self.now.waits.rows c.requires.0.order) c.requires.1.0 c.set_want.ensures.rows (runs_kind c.in_ok-step.ensures.runs) in
+    few_wanting c.args.self.now (record c.args.self.now { waits = c.set_want.new.self; memory = c.fault.new.parts; chains = c.fault.new.chains }) c.in-NeedFrame.source w _ pays same copies refl refl
 
 pub returns-clause-few : goal.returns-clause-few
 returns-clause-few g c =
     let w = c.args.waiting in
     let answer = c.in_ok-step.step in
-    let pays = pays_run g.given.header g.given.host g.given.past c.args.self.now c.args.ids.now w c.args.log.now.items answer c.requires.0 c.requires.1.0 c.in_ok-step.ensures.runs in
+    let pays = pays_run c.args.self.now c.args.ids.now w c.args.log.now.items answer c.requires.1.0 c.in_ok-step.ensures.runs in
     let leaves = returns-clause-attempts g c in
-    few_left c.args.self.now (record c.args.self.now { waits = c.set_on.new.self; memory = c.fault.new.parts }) answer w _ 0 c.fault.new.log.items pays (cost_most answer w.want) c.requires.1.1 leaves.again leaves.queued refl (omega arith)
-
-pub returns-clause-marks : goal.returns-clause-marks
-returns-clause-marks g c =
-    (pays_run g.given.header g.given.host g.given.past c.args.self.now c.args.ids.now c.args.waiting c.args.log.now.items c.in_ok-step.step c.requires.0 c.requires.1.0 c.in_ok-step.ensures.runs).marks
+    let copies = copies_turn w.task.0 c.fault.new.want c.match-step.on c.args.self.now.waits.rows c.set_want.new.self.rows c.set_on.new.self.rows w (once_of _ 0 c.args.self.now.waits.rows c.requires.0.order) c.requires.1.0 c.set_want.ensures.rows c.set_on.ensures.rows (runs_kind c.in_ok-step.ensures.runs) in
+    few_left c.args.self.now (record c.args.self.now { waits = c.set_on.new.self; memory = c.fault.new.parts; chains = c.fault.new.chains }) answer w _ 0 c.fault.new.log.items pays (cost_most answer w.want) c.requires.1.1 leaves.again leaves.queued copies refl refl (omega arith)

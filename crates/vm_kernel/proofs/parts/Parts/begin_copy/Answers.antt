@@ -1,4 +1,4 @@
-use Rattle.vm_kernel.proofs.Common.{ap, entry, false, frame_count, HostParts, Ids, length, length-append, List, Parts, refl, true, Waiting, WaitTable, ◌+◌, ◌/◌, ◌∙◌, ◌≡◌, arith}
+use Rattle.vm_kernel.proofs.Common.{ap, entry, false, frame_count, HostParts, Ids, length, length-append, List, Parts, refl, true, Waiting, WaitTable, ◌*◌, ◌+◌, ◌/◌, ◌∙◌, ◌≡◌, arith}
 use Rattle.std.specs.Prelude.{vec_capacity}
 use Rattle.vm_kernel.proofs.CopyBegins.{copy_absent, copy_quiet, copy_ran, has_begun}
 use Rattle.vm_kernel.proofs.Growing.{on_ok}
@@ -6,7 +6,9 @@ use Rattle.vm_kernel.proofs.Playing.{lists_same, plays_both, plays_told}
 use Rattle.vm_kernel.proofs.Served.{three_ok}
 use Rattle.vm_kernel.proofs.Turning.{restarts_behind}
 use Rattle.vm_kernel.proofs.Composing.{any_ok, few_behind, room_behind, told_behind}
+use Rattle.vm_kernel.proofs.Paying.{copies_all}
 use Rattle.vm_kernel.specs.Rooms.{Spends}
+use Rattle.vm_waits.specs.Waits.{count_copies}
 use Rattle.vm_kernel.proofs.parts.Parts.begin_copy.Given as given
 use Rattle.vm_kernel.proofs.parts.Parts.begin_copy.Goals as goal
 
@@ -79,30 +81,32 @@ more_rows g c =
     ∙ (length-append c.make_range.new.self.waits.rows _ ∙ ap (λ z. length z + 1) (ap (λ (z : WaitTable). z.rows) c.in_ok-make_range.ensures.made.waits ∙ c.reserve.ensures.rows))
 
 -- the beginning takes two events, and a region over an object
-begun : (g : given.Over) (c : goal.After-restart g) → Spends 5 5 0 c.args.self.now c.args.ids.now c.args.log.now (mid g c) (numbers g c) c.push-2.new.self
+begun : (g : given.Over) (c : goal.After-restart g)
+    → Spends (2 * frame_count c.args.self.now.memory.frames + 5) (2 * frame_count c.args.self.now.memory.frames + 5) 0 c.args.self.now c.args.log.now (mid g c) c.push-2.new.self
 begun g c =
     let made = c.in_ok-make_range.ensures.made in
     let waits = more_rows g c in
     let frames = ap (λ (z : HostParts). frame_count z.frames) made.memory in
+    let copied = copies_all (count_copies c.begin.new.self.rows) (frame_count c.make_range.new.self.memory.frames) in
+    let marked = c.make_range.ensures.marked in
     let rows = ap (λ (z : HostParts). z.resident.spare) made.memory in
     let first = ap length c.in_ok-push.ensures.ok in
     let second = ap length c.in_ok-push-2.ensures.ok in record {
-      told = omega (arith, first, second, waits, frames);
-      room = omega (arith, c.push.ensures.room, c.push-2.ensures.room, waits, frames);
-      rows = omega (arith, rows, waits, frames);
-      shadows = omega (arith, c.make_range.ensures.shadows);
-      objects = omega (arith, c.make_range.ensures.objects);
-      marks = omega (arith, c.make_range.ensures.shadows);
+      told = omega (arith, first, second, waits, frames, copied, marked);
+      room = omega (arith, c.push.ensures.room, c.push-2.ensures.room, waits, frames, copied, marked);
+      rows = omega (arith, rows, waits, frames, copied, marked);
+      shadows = omega (arith, c.make_range.ensures.shadows, marked);
+      objects = omega (arith, c.make_range.ensures.objects, marked);
     }
 
 pub returns-clause-few : goal.returns-clause-few
 returns-clause-few g c =
-    let few = told_behind c.args.self.now (mid g c) c.args.ids.now (numbers g c) c.args.log.now c.push-2.new.self 5 5 5 (omega arith) (begun g c) in
+    let few = told_behind c.args.self.now (mid g c) c.args.log.now c.push-2.new.self _ _ (2 * frame_count c.args.self.now.memory.frames + 5) (omega arith) (begun g c) in
     on_ok c.restart.result _ _ (λ more. few_behind more few) c.restart.ensures.few
 
 pub returns-clause-room : goal.returns-clause-room
 returns-clause-room g c = λ more had access.
-    let runs = c.restart.ensures.room more (room_behind c.args.self.now (mid g c) c.args.ids.now (numbers g c) c.args.log.now c.push-2.new.self 5 5 more (begun g c) had) in
+    let runs = c.restart.ensures.room more (room_behind c.args.self.now (mid g c) c.args.log.now c.push-2.new.self _ _ more (begun g c) had) in
     (any_ok c.restart.result _ runs.1, runs.0)
 
 pub returns-in_err-reserve-clause-room : goal.returns-in_err-reserve-clause-room

@@ -1,13 +1,15 @@
-use Rattle.vm_kernel.proofs.Common.{Ran, Starts, TaskId, ap, arith, length, refl, rows_in, subst, sym, ℕ, ◌<◌, ◌≤◌}
+use Rattle.vm_kernel.proofs.Common.{Ran, Starts, TaskId, ap, arith, refl, rows_in, subst, sym, ℕ, ◌<◌, ◌≤◌}
 use Rattle.vm_model.specs.declared.command.Command.TheVariants as command
 use Rattle.vm_kernel.proofs.Copies.{can_place, may_place, ran_copy}
 use Rattle.vm_kernel.proofs.CopyBegins.{copy_declared, copy_target_own, entered_quiet}
 use Rattle.vm_kernel.proofs.Growing.{on_ok}
 use Rattle.vm_kernel.proofs.Playing.{lists_same, plays_both, plays_told}
 use Rattle.vm_kernel.proofs.Turning.{restarts_quiet}
-use Rattle.vm_kernel.proofs.Composing.{begun_leaves, few_behind, few_ok, kept_ok, more_fewer, skip_fewer, up_to_front}
+use Rattle.vm_kernel.proofs.Composing.{begun_leaves, few_ok, kept_ok, skip_fewer}
 use Rattle.vm_kernel.proofs.Departing.{roomy_fewer}
 use Rattle.vm_kernel.proofs.Spending.{never_err}
+use Rattle.vm_kernel.specs.Rooms.{front, making}
+use Rattle.vm_kernel.specs.declared.breadth.Breadth.TheVariants as wide
 use Rattle.vm_kernel.proofs.parts.Parts.copy.Goals as goal
 
 pub place-place-requires : goal.place-place-requires
@@ -62,28 +64,22 @@ returns-clause-restarts g c =
     c.enter_copy.ensures.enters
 
 pub returns-then-place-len-clause-few : goal.returns-then-place-len-clause-few
-returns-then-place-len-clause-few g c = on_ok c.begin_copy.result _ _ (λ few. few_behind few (up_to_front c.args.self.now c.args.ids.now (length c.args.log.now.items) 5 5 (omega arith))) c.begin_copy.ensures.few
+returns-then-place-len-clause-few g c = c.begin_copy.ensures.few
 
 pub returns-then-place-len-clause-room : goal.returns-then-place-len-clause-room
 returns-then-place-len-clause-room g c = λ more had access has skip.
-    let began = c.begin_copy.ensures.room more (more_fewer 5 5 5 5 more c.args.self.now c.args.ids.now _ had (omega arith) (omega arith)) access in
-    begun_leaves c.begin_copy.result more c.args.self.now c.begin_copy.new.self c.begin_copy.new.ids c.begin_copy.new.log.room began.0 c.begin_copy.ensures.spare has skip
+    let began = c.begin_copy.ensures.room more had access in
+    begun_leaves c.begin_copy.result more c.args.self.now c.begin_copy.new.self c.begin_copy.new.log.room began.0 c.begin_copy.ensures.spare has skip
 
 pub returns-then-place-len-clause-err : goal.returns-then-place-len-clause-err
-returns-then-place-len-clause-err g c = λ had access has skip. never_err c.begin_copy.result _ (c.begin_copy.ensures.room 0 (more_fewer 5 5 5 5 0 c.args.self.now c.args.ids.now _ had (omega arith) (omega arith)) access).1
-
-pub returns-then-place-len-clause-marks : goal.returns-then-place-len-clause-marks
-returns-then-place-len-clause-marks g c = on_ok c.begin_copy.result _ _ (λ marks. omega (arith, marks)) c.begin_copy.ensures.marks
+returns-then-place-len-clause-err g c = λ had access has skip. never_err c.begin_copy.result _ (c.begin_copy.ensures.room 0 had access).1
 
 pub returns-clause-few : goal.returns-clause-few
-returns-clause-few g c = few_ok c.enter_copy.result c.args.self.now c.enter_copy.new.self c.args.ids.now c.enter_copy.new.ids c.args.log.now c.enter_copy.new.log 4 4 5 (omega arith) c.enter_copy.ensures.spends
+returns-clause-few g c = few_ok c.enter_copy.result c.args.self.now c.enter_copy.new.self c.args.log.now c.enter_copy.new.log 4 4 (front wide.Frames c.args.self.now) (omega arith) c.enter_copy.ensures.spends
 
 pub returns-clause-room : goal.returns-clause-room
 returns-clause-room g c = λ more had access has skip.
-    kept_ok c.enter_copy.result c.args.self.now c.enter_copy.new.self c.args.ids.now c.enter_copy.new.ids c.args.log.now c.enter_copy.new.log 4 4 5 5 more (omega arith) (omega arith) c.enter_copy.ensures.spends c.enter_copy.ensures.spare had has (skip_fewer c.args.self.now skip)
+    kept_ok c.enter_copy.result c.args.self.now c.enter_copy.new.self c.args.log.now c.enter_copy.new.log 4 4 (front wide.Frames c.args.self.now) (making wide.Frames c.args.self.now) more (omega arith) (omega arith) c.enter_copy.ensures.spends c.enter_copy.ensures.spare had has (skip_fewer c.args.self.now skip)
 
 pub returns-clause-err : goal.returns-clause-err
-returns-clause-err g c = λ had access has skip. never_err c.enter_copy.result _ (c.enter_copy.ensures.succeeds (roomy_fewer 5 5 4 4 c.args.self.now c.args.ids.now _ had.tables (omega arith) (omega arith)))
-
-pub returns-clause-marks : goal.returns-clause-marks
-returns-clause-marks g c = on_ok c.enter_copy.result _ _ (λ is. omega (arith, is.marks)) c.enter_copy.ensures.spends
+returns-clause-err g c = λ had access has skip. never_err c.enter_copy.result _ (c.enter_copy.ensures.succeeds (roomy_fewer (front wide.Frames c.args.self.now) (making wide.Frames c.args.self.now) 4 4 c.args.self.now _ had.tables (omega arith) (omega arith)))

@@ -61,15 +61,15 @@ returns-clause-ends g c =
 pub returns-clause-spends : goal.returns-clause-spends
 returns-clause-spends g c =
     on_ok c.sweep.result _ _
-    (λ more. spends_less c.args.self.now c.sweep.new.self c.args.ids.now c.args.ids.now c.args.log.now c.sweep.new.log _ _ 0
-    (spends_both c.args.self.now (record c.args.self.now { maps = c.remove.new.self; chains = c.count_cuts.new.chains }) c.sweep.new.self c.args.ids.now c.args.ids.now c.args.ids.now c.args.log.now c.push.new.self c.sweep.new.log _ _ _
+    (λ more. spends_less c.args.self.now c.sweep.new.self c.args.log.now c.sweep.new.log _ _ 0
+    (spends_both c.args.self.now (record c.args.self.now { maps = c.remove.new.self; chains = c.count_cuts.new.chains }) c.sweep.new.self c.args.log.now c.push.new.self c.sweep.new.log _ _ _
     (removed_spends c.args.self.now c.args.ids.now c.remove.new.self c.count_cuts.new.chains c.args.log.now c.push.new.self _ c.count_cuts.ensures.spare c.in_ok-push.ensures.ok c.in_ok-push.ensures.room) more) (omega arith))
     c.sweep.ensures.spends
 
 pub returns-clause-err : goal.returns-clause-err
 returns-clause-err g c = λ room has.
     never_err c.sweep.result _
-    (c.sweep.ensures.succeeds (roomy_on c.args.self.now (record c.args.self.now { maps = c.remove.new.self; chains = c.count_cuts.new.chains }) c.args.ids.now c.args.ids.now c.args.log.now c.push.new.self _ _
+    (c.sweep.ensures.succeeds (roomy_on c.args.self.now (record c.args.self.now { maps = c.remove.new.self; chains = c.count_cuts.new.chains }) c.args.log.now c.push.new.self _ _
     (removed_spends c.args.self.now c.args.ids.now c.remove.new.self c.count_cuts.new.chains c.args.log.now c.push.new.self _ c.count_cuts.ensures.spare c.in_ok-push.ensures.ok c.in_ok-push.ensures.room) room) has)
 
 pub returns-in_err-push-clause-err : goal.returns-in_err-push-clause-err

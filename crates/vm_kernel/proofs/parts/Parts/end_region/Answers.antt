@@ -49,12 +49,12 @@ returns-then-unrefer-gt0-clause-under g c = below_none g.given.header _ _ c.args
 
 -- nothing is spent before an object ends
 first_spends : (g : given.Over) (c : After-unrefer g) → Spends (leaving c.args.self.now c.args.ids.now) 0 (leaving (record c.args.self.now { memory = record c.args.self.now.memory { objects = c.unrefer.new.self }; chains = c.drop_region-object.new.self }) c.args.ids.now)
-    c.args.self.now c.args.ids.now c.args.log.now (record c.args.self.now { memory = record c.args.self.now.memory { objects = c.unrefer.new.self }; chains = c.drop_region-object.new.self }) c.args.ids.now c.args.log.now
+    c.args.self.now c.args.log.now (record c.args.self.now { memory = record c.args.self.now.memory { objects = c.unrefer.new.self }; chains = c.drop_region-object.new.self }) c.args.log.now
 first_spends g c =
     let object = c.drop_region-object.result in
     region_spends c.args.self.now c.args.ids.now c.args.region.0 c.unrefer.result object c.drop_region-object.new.self c.unrefer.new.self c.args.log.now
     (loses_region g.given.header g.given.host g.given.past g.given.who c.args.self.now c.args.ids.now g.given.rest c.args.region.0 c.unrefer.result c.args.log.now.items object c.drop_region-object.new.self c.unrefer.new.self c.requires c.drop_region-object.ensures.top c.drop_region-object.ensures.dropped c.unrefer.ensures.left c.unrefer.ensures.object c.unrefer.ensures.marks)
-    c.drop_region-object.ensures.spare c.unrefer.ensures.rooms
+    c.drop_region-object.ensures.spare c.drop_region-object.ensures.marked c.unrefer.ensures.rooms
 
 pub returns-then-unrefer-gt0-clause-spends : goal.returns-then-unrefer-gt0-clause-spends
 returns-then-unrefer-gt0-clause-spends g c = first_spends g (goal.at.returns-then-unrefer-gt0-clause-spends g c).After-unrefer
@@ -62,11 +62,11 @@ returns-then-unrefer-gt0-clause-spends g c = first_spends g (goal.at.returns-the
 pub returns-clause-spends : goal.returns-clause-spends
 returns-clause-spends g c =
     on_ok c.end_object.result _ _
-    (λ more. spends_both c.args.self.now (record c.args.self.now { memory = record c.args.self.now.memory { objects = c.unrefer.new.self }; chains = c.drop_region-object.new.self }) c.end_object.new.self c.args.ids.now c.args.ids.now c.args.ids.now c.args.log.now c.args.log.now c.end_object.new.log _ _ _
+    (λ more. spends_both c.args.self.now (record c.args.self.now { memory = record c.args.self.now.memory { objects = c.unrefer.new.self }; chains = c.drop_region-object.new.self }) c.end_object.new.self c.args.log.now c.args.log.now c.end_object.new.log _ _ _
     (first_spends g (goal.at.returns-clause-spends g c).After-unrefer) more)
     c.end_object.ensures.spends
 
 pub returns-clause-succeeds : goal.returns-clause-succeeds
 returns-clause-succeeds g c = λ room buffers.
-    c.end_object.ensures.succeeds (roomy_on c.args.self.now (record c.args.self.now { memory = record c.args.self.now.memory { objects = c.unrefer.new.self }; chains = c.drop_region-object.new.self }) c.args.ids.now c.args.ids.now c.args.log.now c.args.log.now _ _
+    c.end_object.ensures.succeeds (roomy_on c.args.self.now (record c.args.self.now { memory = record c.args.self.now.memory { objects = c.unrefer.new.self }; chains = c.drop_region-object.new.self }) c.args.log.now c.args.log.now _ _
     (first_spends g (goal.at.returns-clause-succeeds g c).After-unrefer) room) buffers

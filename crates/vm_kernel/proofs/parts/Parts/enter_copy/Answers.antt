@@ -5,16 +5,16 @@ use Rattle.vm_kernel.proofs.parts.Parts.enter_copy.Goals as goal
 
 pub returns-clause-spends : goal.returns-clause-spends
 returns-clause-spends c =
-    let marks = marks_copied _ c.requires.region c.args.ids.now c.symmetric.new.ids c.requires.there c.in_ok-copy.ensures.ids in
+    let marks = marks_copied _ c.requires.region c.args.self.now.chains.marked c.symmetric.new.self.marked c.requires.there c.in_ok-copy.ensures.marked in
+    let marked = c.set_count.ensures.spare.1 in
     let first = ap length c.in_ok-push.ensures.ok in
     on_ok c.push-2.result _ _
     (λ told. let second = ap length told in record {
-      told = omega (arith, first, second, marks);
-      room = omega (arith, c.push.ensures.room, c.push-2.ensures.room, marks);
-      rows = omega (arith, marks);
-      shadows = omega (arith, c.symmetric.ensures.spare, c.set_count.ensures.spare, marks);
-      objects = omega (arith, c.refer.ensures.rooms.rows, marks);
-      marks = omega (arith, c.symmetric.ensures.spare, c.set_count.ensures.spare, marks);
+      told = omega (arith, first, second, marks, marked);
+      room = omega (arith, c.push.ensures.room, c.push-2.ensures.room, marks, marked);
+      rows = omega (arith, marks, marked);
+      shadows = omega (arith, c.symmetric.ensures.spare, c.set_count.ensures.spare.0, marks, marked);
+      objects = omega (arith, c.refer.ensures.rooms.rows, marks, marked);
     })
     c.push-2.ensures.ok
 

@@ -44,14 +44,14 @@ returns-clause-ends g c =
 pub returns-clause-spends : goal.returns-clause-spends
 returns-clause-spends g c =
     on_ok c.sweep.result _ _
-    (λ more. spends_less c.args.self.now c.sweep.new.self c.args.ids.now c.args.ids.now c.args.log.now c.sweep.new.log _ _ 0
-    (spends_both c.args.self.now (record c.args.self.now { maps = c.end_task-gone.new.self }) c.sweep.new.self c.args.ids.now c.args.ids.now c.args.ids.now c.args.log.now c.push.new.self c.sweep.new.log _ _ _
+    (λ more. spends_less c.args.self.now c.sweep.new.self c.args.log.now c.sweep.new.log _ _ 0
+    (spends_both c.args.self.now (record c.args.self.now { maps = c.end_task-gone.new.self }) c.sweep.new.self c.args.log.now c.push.new.self c.sweep.new.log _ _ _
     (exit_spends c.args.self.now c.args.ids.now c.end_task-gone.new.self c.args.log.now c.push.new.self _ c.in_ok-push.ensures.ok c.in_ok-push.ensures.room) more) (omega arith))
     c.sweep.ensures.spends
 
 pub returns-clause-succeeds : goal.returns-clause-succeeds
 returns-clause-succeeds g c = λ room has.
-    c.sweep.ensures.succeeds (roomy_on c.args.self.now (record c.args.self.now { maps = c.end_task-gone.new.self }) c.args.ids.now c.args.ids.now c.args.log.now c.push.new.self _ _
+    c.sweep.ensures.succeeds (roomy_on c.args.self.now (record c.args.self.now { maps = c.end_task-gone.new.self }) c.args.log.now c.push.new.self _ _
     (exit_spends c.args.self.now c.args.ids.now c.end_task-gone.new.self c.args.log.now c.push.new.self _ c.in_ok-push.ensures.ok c.in_ok-push.ensures.room) room) has
 
 pub returns-in_err-push-clause-succeeds : goal.returns-in_err-push-clause-succeeds

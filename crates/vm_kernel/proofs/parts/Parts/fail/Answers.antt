@@ -6,7 +6,7 @@ use Rattle.vm_kernel.proofs.Playing.{plays_both, plays_one}
 use Rattle.vm_kernel.proofs.Failing.{EndsOr, FailedOne, Failing, before_none, ends_all, ends_filled, ends_or, failed_ended, failed_one, failed_plain, or_ended, since_goes, since_now}
 use Rattle.vm_kernel.proofs.Ordering.{without_keeps}
 use Rattle.vm_kernel.proofs.Turning.{nobody_more, quiet_unlisted}
-use Rattle.vm_kernel.proofs.Departing.{failed_spends, roomy_on}
+use Rattle.vm_kernel.proofs.Departing.{copies_dropped, failed_spends, roomy_on}
 use Rattle.vm_kernel.proofs.Spending.{spends_both, spends_none}
 use Rattle.vm_kernel.proofs.Composing.{skip_both, skip_none}
 use Rattle.vm_kernel.proofs.parts.Parts.fail.Goals as goal
@@ -24,7 +24,7 @@ all-init g c =
       each = search rules;
       some = search rules;
       quiet = record { queue = refl; more = []; told = refl; none = tt };
-      spends = spends_none c.args.self.now c.args.ids.now c.args.log.now _;
+      spends = spends_none c.args.self.now c.args.log.now _;
       buffers = λ has. has;
       skip = skip_none c.args.self.now;
     }
@@ -72,8 +72,8 @@ all-preserved g c =
           (nobody_more c.args.self.now.waits.queue c.all.self.waits.queue c.args.log.now.items c.all.log.items c.push.new.self.items _ was.quiet
           (quiet_unlisted c.all.self.waits.rows c.all.self.waits.queue c.remove.new.self.queue w c.all.log.items c.push.new.self.items _ c.next_on.ensures.line c.in-Some.ensures.row.0 (page_frame key w.on c.in-Some.ensures.row.1) c.remove.ensures.queue c.in_ok-push.ensures.ok tt).queue
           c.in_ok-push.ensures.ok tt);
-      spends = spends_both c.args.self.now c.all.self (record c.all.self { waits = c.remove.new.self }) c.args.ids.now c.args.ids.now c.args.ids.now c.args.log.now c.all.log c.push.new.self _ _ _ was.spends
-          (failed_spends c.all.self c.args.ids.now c.remove.new.self c.all.log c.push.new.self _ c.remove.ensures.length c.in_ok-push.ensures.ok c.in_ok-push.ensures.room);
+      spends = spends_both c.args.self.now c.all.self (record c.all.self { waits = c.remove.new.self }) c.args.log.now c.all.log c.push.new.self _ _ _ was.spends
+          (failed_spends c.all.self c.args.ids.now c.remove.new.self c.all.log c.push.new.self _ c.remove.ensures.length (copies_dropped c.in-Some.waiting.task.0 c.all.self.waits.rows c.remove.new.self.rows c.remove.ensures.rows) c.in_ok-push.ensures.ok c.in_ok-push.ensures.room);
       buffers = was.buffers;
       skip = skip_both c.args.self.now c.all.self (record c.all.self { waits = c.remove.new.self }) was.skip (record { skip = refl; fewer = (let gone = c.remove.ensures.length in omega (arith, gone)) });
     }
@@ -113,9 +113,9 @@ all-preserved-in-Continue-branch-2 g c =
           (quiet_unlisted c.all.self.waits.rows c.all.self.waits.queue c.remove.new.self.queue w c.all.log.items c.push.new.self.items _ c.next_on.ensures.line c.in-Some.ensures.row.0 (page_frame key w.on c.in-Some.ensures.row.1) c.remove.ensures.queue c.in_ok-push.ensures.ok tt).queue
           c.in_ok-push.ensures.ok tt)
           (ends_nobody c.remove.new.self c.end_region.new.self.waits c.push.new.self.items c.end_region.new.log.items ends.waits ends.only);
-      spends = spends_both c.args.self.now (record c.all.self { waits = c.remove.new.self }) c.end_region.new.self c.args.ids.now c.args.ids.now c.args.ids.now c.args.log.now c.push.new.self c.end_region.new.log _ _ _
-          (spends_both c.args.self.now c.all.self (record c.all.self { waits = c.remove.new.self }) c.args.ids.now c.args.ids.now c.args.ids.now c.args.log.now c.all.log c.push.new.self _ _ _ was.spends
-          (failed_spends c.all.self c.args.ids.now c.remove.new.self c.all.log c.push.new.self _ c.remove.ensures.length c.in_ok-push.ensures.ok c.in_ok-push.ensures.room))
+      spends = spends_both c.args.self.now (record c.all.self { waits = c.remove.new.self }) c.end_region.new.self c.args.log.now c.push.new.self c.end_region.new.log _ _ _
+          (spends_both c.args.self.now c.all.self (record c.all.self { waits = c.remove.new.self }) c.args.log.now c.all.log c.push.new.self _ _ _ was.spends
+          (failed_spends c.all.self c.args.ids.now c.remove.new.self c.all.log c.push.new.self _ c.remove.ensures.length (copies_dropped c.in-Some.waiting.task.0 c.all.self.waits.rows c.remove.new.self.rows c.remove.ensures.rows) c.in_ok-push.ensures.ok c.in_ok-push.ensures.room))
           ends.spends;
       buffers = λ has. ends.buffers (was.buffers has);
       skip = skip_both c.args.self.now c.all.self c.end_region.new.self was.skip (skip_both c.all.self (record c.all.self { waits = c.remove.new.self }) c.end_region.new.self (record { skip = refl; fewer = (let gone = c.remove.ensures.length in omega (arith, gone)) }) ends.skip);
@@ -129,13 +129,13 @@ returns-clause-quiet g c = c.all.invariant.quiet
 
 pub returns-in_err-push-clause-succeeds : goal.returns-in_err-push-clause-succeeds
 returns-in_err-push-clause-succeeds g c = λ room has.
-    let now = roomy_on c.args.self.now c.all.self c.args.ids.now c.args.ids.now c.args.log.now c.all.log _ _ c.all.invariant.spends room in
+    let now = roomy_on c.args.self.now c.all.self c.args.log.now c.all.log _ _ c.all.invariant.spends room in
     let bad : false ≡ true = c.in_err-push.ensures.succeeds (omega (arith, now.log)) in
     absurd (cc)
 
 pub returns-in_err-end_region-clause-succeeds : goal.returns-in_err-end_region-clause-succeeds
 returns-in_err-end_region-clause-succeeds g c = λ room has.
-    let now = roomy_on c.args.self.now c.all.self c.args.ids.now c.args.ids.now c.args.log.now c.all.log _ _ c.all.invariant.spends room in
-    let bad : false ≡ true = c.in_err-end_region.ensures.succeeds (roomy_on c.all.self (record c.all.self { waits = c.remove.new.self }) c.args.ids.now c.args.ids.now c.all.log c.push.new.self _ _
-    (failed_spends c.all.self c.args.ids.now c.remove.new.self c.all.log c.push.new.self _ c.remove.ensures.length c.in_ok-push.ensures.ok c.in_ok-push.ensures.room) now) (c.all.invariant.buffers has) in
+    let now = roomy_on c.args.self.now c.all.self c.args.log.now c.all.log _ _ c.all.invariant.spends room in
+    let bad : false ≡ true = c.in_err-end_region.ensures.succeeds (roomy_on c.all.self (record c.all.self { waits = c.remove.new.self }) c.all.log c.push.new.self _ _
+    (failed_spends c.all.self c.args.ids.now c.remove.new.self c.all.log c.push.new.self _ c.remove.ensures.length (copies_dropped c.in-Some.waiting.task.0 c.all.self.waits.rows c.remove.new.self.rows c.remove.ensures.rows) c.in_ok-push.ensures.ok c.in_ok-push.ensures.room) now) (c.all.invariant.buffers has) in
     absurd (cc)

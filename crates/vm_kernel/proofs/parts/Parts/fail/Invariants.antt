@@ -16,7 +16,7 @@ invariant-all g l = record {
   each : EndsOr l.key l.fn.self.waits.rows l.self.waits.rows (l.log.items ++ g.given.past);
   some : (since (fails_access l.key.object.0 l.key.page.0) (l.log.items ++ g.given.past) ≡ true) ⊎ Asker l.self.waits.rows l.key.object.0 l.key.page.0;
   quiet : RunsNobody l.fn.self.waits.queue l.self.waits.queue l.fn.log.items l.log.items;
-  spends : Spends (leaving l.fn.self l.ids) 0 (leaving l.self l.ids) l.fn.self l.ids l.fn.log l.self l.ids l.log;
+  spends : Spends (leaving l.fn.self l.ids) 0 (leaving l.self l.ids) l.fn.self l.fn.log l.self l.log;
   buffers : HasBuffers l.fn.self → HasBuffers l.self;
   skip : KeepsSkip l.fn.self l.self;
 }

@@ -23,7 +23,6 @@ all-init g c =
             rows = omega arith;
             shadows = omega arith;
             objects = omega arith;
-            marks = omega arith;
           });
     }
 
@@ -62,8 +61,8 @@ all-preserved g c =
           rw (w.self-is, w.ids-is, w.log-is)
           (record {
             spends =
-                spends_next c.args.self.now c.all.self w.share.new.self c.args.ids.now c.all.ids c.all.ids c.args.log.now c.all.log w.share.new.log c.all.i c.all.invariant.spends
-                (spends_within c.all.self w.share.new.self c.all.ids c.all.ids c.all.log w.share.new.log 1 1 0 3 (w.in_ok-share-in-Share.ensures.spends c.all.ids));
+                spends_next c.args.self.now c.all.self w.share.new.self c.args.log.now c.all.log w.share.new.log c.all.i c.all.invariant.spends
+                (spends_within c.all.self w.share.new.self c.all.log w.share.new.log 1 1 0 3 w.in_ok-share-in-Share.ensures.spends);
             spare = spare_both c.args.self.now c.all.self w.share.new.self c.all.invariant.spare w.in_ok-share-in-Share.ensures.spare;
             quiet =
                 quiet_both c.args.self.now.waits.queue c.all.self.waits.queue w.share.new.self.waits.queue c.args.log.now.items c.all.log.items w.share.new.log.items c.all.invariant.quiet
@@ -76,7 +75,7 @@ all-preserved g c =
           let mid = event.RegionCopied enters.copy row.region row.offset (row.bytes / c.all.self.size) ∷ c.all.log.items in
           rw (w.self-is, w.ids-is, w.log-is)
           (record {
-            spends = spends_next c.args.self.now c.all.self w.enter_copy.new.self c.args.ids.now c.all.ids w.enter_copy.new.ids c.args.log.now c.all.log w.enter_copy.new.log c.all.i c.all.invariant.spends w.in_ok-enter_copy-in-Copy.ensures.spends;
+            spends = spends_next c.args.self.now c.all.self w.enter_copy.new.self c.args.log.now c.all.log w.enter_copy.new.log c.all.i c.all.invariant.spends w.in_ok-enter_copy-in-Copy.ensures.spends;
             spare = spare_both c.args.self.now c.all.self w.enter_copy.new.self c.all.invariant.spare w.in_ok-enter_copy-in-Copy.ensures.spare;
             quiet =
                 quiet_both c.args.self.now.waits.queue c.all.self.waits.queue w.enter_copy.new.self.waits.queue c.args.log.now.items c.all.log.items w.enter_copy.new.log.items c.all.invariant.quiet
@@ -89,7 +88,7 @@ all-preserved g c =
       | in-Never w ↦
           rw (w.self-is, w.ids-is, w.log-is)
           (record {
-            spends = spends_next c.args.self.now c.all.self c.all.self c.args.ids.now c.all.ids c.all.ids c.args.log.now c.all.log c.all.log c.all.i c.all.invariant.spends (spends_nothing c.all.self c.all.ids c.all.log 4 4);
+            spends = spends_next c.args.self.now c.all.self c.all.self c.args.log.now c.all.log c.all.log c.all.i c.all.invariant.spends (spends_nothing c.all.self c.all.log 4 4);
             spare = c.all.invariant.spare;
             quiet = c.all.invariant.quiet;
             forked = fork_other g.given.header g.given.host g.given.outside c.args.task c.args.child rows c.all.i row g.given.past c.all.self c.all.ids c.all.log.items f sound found w.in-Never.is;
@@ -109,13 +108,13 @@ returns-in_err-push-clause-err g c = λ roomy. absurd (let bad : false ≡ true 
 
 pub returns-in_err-share-in-Share-clause-err : goal.returns-in_err-share-in-Share-clause-err
 returns-in_err-share-in-Share-clause-err g c = λ roomy.
-    let left = roomy_next c.args.self.now c.all.self c.args.ids.now c.all.ids c.args.log.now c.all.log c.all.i (omega (arith, c.entries.ensures.sound.few, length-reverse c.entries.result.now.items, c.len-i-end.ensures, c.all-test.true)) c.all.invariant.spends roomy in
+    let left = roomy_next c.args.self.now c.all.self c.args.log.now c.all.log c.all.i (omega (arith, c.entries.ensures.sound.few, length-reverse c.entries.result.now.items, c.len-i-end.ensures, c.all-test.true)) c.all.invariant.spends roomy in
     absurd (let bad : false ≡ true = c.in_err-share-in-Share.ensures.succeeds (omega (arith, left.log)) in cc)
 
 pub returns-in_err-enter_copy-in-Copy-clause-err : goal.returns-in_err-enter_copy-in-Copy-clause-err
 returns-in_err-enter_copy-in-Copy-clause-err g c = λ roomy.
-    let left = roomy_next c.args.self.now c.all.self c.args.ids.now c.all.ids c.args.log.now c.all.log c.all.i (omega (arith, c.entries.ensures.sound.few, length-reverse c.entries.result.now.items, c.len-i-end.ensures, c.all-test.true)) c.all.invariant.spends roomy in
+    let left = roomy_next c.args.self.now c.all.self c.args.log.now c.all.log c.all.i (omega (arith, c.entries.ensures.sound.few, length-reverse c.entries.result.now.items, c.len-i-end.ensures, c.all-test.true)) c.all.invariant.spends roomy in
     absurd (let bad : false ≡ true = c.in_err-enter_copy-in-Copy.ensures.succeeds left in cc)
 
 pub returns-clause-spends : goal.returns-clause-spends
-returns-clause-spends g c = spends_all c.args.self.now c.all.self c.args.ids.now c.all.ids c.args.log.now c.all.log c.all.i (omega (arith, c.entries.ensures.sound.few, length-reverse c.entries.result.now.items, c.len-i-end.ensures, c.all.auto.i-end)) c.all.invariant.spends
+returns-clause-spends g c = spends_all c.args.self.now c.all.self c.args.log.now c.all.log c.all.i (omega (arith, c.entries.ensures.sound.few, length-reverse c.entries.result.now.items, c.len-i-end.ensures, c.all.auto.i-end)) c.all.invariant.spends

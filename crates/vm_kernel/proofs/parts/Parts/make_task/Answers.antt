@@ -23,7 +23,6 @@ returns-clause-spends g c =
       rows = omega arith;
       shadows = omega arith;
       objects = omega arith;
-      marks = omega arith;
     })
     c.push.ensures.ok
 

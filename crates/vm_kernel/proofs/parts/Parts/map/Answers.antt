@@ -59,12 +59,11 @@ returns-clause-spends g c =
     let there = known_held g.given.header g.given.host c.args.task c.args.address c.args.bytes c.args.object c.args.offset g.given.past c.args.self.now c.hold.new.self c.args.ids.now c.args.log.now.items c.requires c.in_ok-hold.ensures.holds in
     on_ok c.open.result _ _
     (λ opens. let little = opens_little c.args.object _ _ c.open.new.self c.push.new.self.items c.open.new.log.items there opens in record {
-      told = omega (arith, first, held.waits, held.frames, little.held.waits, little.held.frames, little.told);
-      room = omega (arith, c.push.ensures.room, c.open.ensures.room, held.waits, held.frames, little.held.waits, little.held.frames);
-      rows = omega (arith, held.waits, held.frames, held.rows, little.held.waits, little.held.frames, little.held.rows);
-      shadows = omega (arith, c.hold.ensures.shadows, little.shadows);
-      objects = omega (arith, c.hold.ensures.objects, c.open.ensures.objects);
-      marks = omega (arith, c.hold.ensures.shadows, little.shadows);
+      told = omega (arith, first, held.waits, held.frames, little.held.waits, little.held.frames, little.told, c.hold.ensures.marked, little.marked);
+      room = omega (arith, c.push.ensures.room, c.open.ensures.room, held.waits, held.frames, little.held.waits, little.held.frames, c.hold.ensures.marked, little.marked);
+      rows = omega (arith, held.waits, held.frames, held.rows, little.held.waits, little.held.frames, little.held.rows, c.hold.ensures.marked, little.marked);
+      shadows = omega (arith, c.hold.ensures.shadows, little.shadows, c.hold.ensures.marked, little.marked);
+      objects = omega (arith, c.hold.ensures.objects, c.open.ensures.objects, c.hold.ensures.marked, little.marked);
     })
     c.open.ensures.opens
 

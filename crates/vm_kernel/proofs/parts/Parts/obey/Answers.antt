@@ -1,8 +1,7 @@
-use Rattle.vm_kernel.proofs.Common.{OnOk, ap, arith, length, sym, ◌++◌, ◌∙◌}
+use Rattle.vm_kernel.proofs.Common.{OnOk, arith, sym, ◌++◌, ◌∙◌}
 use Rattle.vm_kernel.proofs.Growing.{on_ok}
 use Rattle.vm_kernel.proofs.Heeding.{Heeds, can_lock, heeds_done, heeds_none}
 use Rattle.vm_kernel.proofs.Served.{three_ok}
-use Rattle.std.proofs.lemmas.List.{length-map}
 use Rattle.vm_kernel.proofs.Departing.{obeyed_spends, spends_hand}
 use Rattle.vm_kernel.proofs.Spending.{spends_none}
 use Rattle.vm_kernel.proofs.parts.Parts.obey.Given as given
@@ -54,7 +53,7 @@ pub returns-clause-plays : goal.returns-clause-plays
 returns-clause-plays g c = on_ok c.lock.result _ _ (λ all. all.plays) (all_done g c)
 
 pub returns-then-not-is_live-clause-spends : goal.returns-then-not-is_live-clause-spends
-returns-then-not-is_live-clause-spends g c = spends_hand c.args.self.now c.args.self.now c.args.ids.now c.args.ids.now c.args.log.now c.args.log.now 0 0 _ (spends_none c.args.self.now c.args.ids.now c.args.log.now 0) (omega arith)
+returns-then-not-is_live-clause-spends g c = spends_hand c.args.self.now c.args.self.now c.args.log.now c.args.log.now 0 0 _ (spends_none c.args.self.now c.args.log.now 0) (omega arith)
 
 pub returns-then-not-is_live-clause-buffers : goal.returns-then-not-is_live-clause-buffers
 returns-then-not-is_live-clause-buffers g c = λ has. omega (arith, has)
@@ -63,7 +62,7 @@ pub returns-clause-spends : goal.returns-clause-spends
 returns-clause-spends g c =
     three_ok c.lock.result _ _ _ _
     (λ all rooms told. obeyed_spends g.given.header g.given.host g.given.past (c.lock.new.log.items ++ (g.given.front ++ g.given.past)) c.args.self.now c.args.ids.now c.lock.new.parts c.lock.new.laundry c.wake_unlocked.new.waits c.args.log.now c.lock.new.log
-    c.requires.0.matches all.works.matches rooms told (ap length c.wake_unlocked.ensures.rows ∙ length-map c.args.self.now.waits.rows _))
+    c.requires.0.matches all.works.matches rooms told _ c.wake_unlocked.ensures.rows)
     (all_done g c) c.lock.ensures.rooms c.lock.ensures.told
 
 pub returns-clause-succeeds : goal.returns-clause-succeeds

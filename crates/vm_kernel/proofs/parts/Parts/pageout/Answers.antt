@@ -44,7 +44,7 @@ returns-in-Nothing g c =
     let reclaimed : Reclaimed c.pages.counter c.args.self.now c.reclaim.new.self c.args.log.now c.reclaim.new.log =
     all_reclaimed c.in_ok-reclaim.field-0 c.pages.counter c.args.self.now c.pages.self c.reclaim.new.self c.args.log.now c.pages.log c.reclaim.new.log was.reclaimed all.leaves c.in-Nothing.is all.reclaimed.waits frames same.0 same.1 in
     record {
-      spends = reclaimed_spends c.pages.counter c.args.self.now c.reclaim.new.self c.args.ids.now c.args.log.now c.reclaim.new.log reclaimed;
+      spends = reclaimed_spends c.pages.counter c.args.self.now c.reclaim.new.self c.args.log.now c.reclaim.new.log reclaimed;
       succeeds = λ roomy enough long. refl;
       spare = (reclaimed_spare c.pages.counter c.args.count c.args.self.now c.reclaim.new.self c.args.log.now c.reclaim.new.log reclaimed (omega arith), reclaimed.skip);
       rows = (let accesses = reclaimed.accesses in omega (arith, accesses));
@@ -83,7 +83,7 @@ pub returns-clause-quiet : goal.returns-clause-quiet
 returns-clause-quiet g c = c.pages.invariant.quiet
 
 pub returns-clause-spends : goal.returns-clause-spends
-returns-clause-spends g c = reclaimed_spends c.pages.counter c.args.self.now c.pages.self c.args.ids.now c.args.log.now c.pages.log c.pages.invariant.reclaimed
+returns-clause-spends g c = reclaimed_spends c.pages.counter c.args.self.now c.pages.self c.args.log.now c.pages.log c.pages.invariant.reclaimed
 
 pub returns-clause-spare : goal.returns-clause-spare
 returns-clause-spare g c = (reclaimed_spare c.pages.counter c.args.count c.args.self.now c.pages.self c.args.log.now c.pages.log c.pages.invariant.reclaimed (omega arith), c.pages.invariant.reclaimed.skip)

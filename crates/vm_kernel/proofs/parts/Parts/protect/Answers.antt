@@ -34,15 +34,15 @@ returns-clause-plays g c = on_ok c.push.result _ _ (λ told. plays_told told ref
 
 pub returns-clause-spends : goal.returns-clause-spends
 returns-clause-spends g c =
-    let spare = c.count_cuts.ensures.spare in
+    let spare = c.count_cuts.ensures.spare.0 in
+    let marked = c.count_cuts.ensures.spare.1 in
     on_ok c.push.result _ _
     (λ told. let one = ap length told in record {
-      told = omega (arith, one);
-      room = omega (arith, c.push.ensures.room);
-      rows = omega arith;
-      shadows = omega (arith, spare);
-      objects = omega arith;
-      marks = omega (arith, spare);
+      told = omega (arith, one, marked);
+      room = omega (arith, c.push.ensures.room, marked);
+      rows = omega (arith, marked);
+      shadows = omega (arith, spare, marked);
+      objects = omega (arith, marked);
     })
     c.push.ensures.ok
 

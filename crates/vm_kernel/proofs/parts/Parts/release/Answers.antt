@@ -64,12 +64,12 @@ returns-else-count-eq1-clause-spends g c = count_spends c.args.self.now c.args.i
 
 pub returns-in_ok-end_region-clause-spends : goal.returns-in_ok-end_region-clause-spends
 returns-in_ok-end_region-clause-spends g c =
-    spends_both c.args.self.now (record c.args.self.now { chains = c.set_count.new.chains }) c.end_region.new.self c.args.ids.now c.args.ids.now c.args.ids.now c.args.log.now c.args.log.now c.end_region.new.log _ _ _
+    spends_both c.args.self.now (record c.args.self.now { chains = c.set_count.new.chains }) c.end_region.new.self c.args.log.now c.args.log.now c.end_region.new.log _ _ _
     (count_spends c.args.self.now c.args.ids.now c.set_count.new.chains c.args.log.now c.set_count.ensures.spare) c.in_ok-end_region.ensures.spends
 
 pub returns-in_err-end_region-clause-succeeds : goal.returns-in_err-end_region-clause-succeeds
 returns-in_err-end_region-clause-succeeds g c = λ room buffers.
-    let bad : false ≡ true = c.in_err-end_region.ensures.succeeds (roomy_on c.args.self.now (record c.args.self.now { chains = c.set_count.new.chains }) c.args.ids.now c.args.ids.now c.args.log.now c.args.log.now _ _
+    let bad : false ≡ true = c.in_err-end_region.ensures.succeeds (roomy_on c.args.self.now (record c.args.self.now { chains = c.set_count.new.chains }) c.args.log.now c.args.log.now _ _
     (count_spends c.args.self.now c.args.ids.now c.set_count.new.chains c.args.log.now c.set_count.ensures.spare) room) buffers in
     absurd (cc)
 

@@ -1,7 +1,8 @@
 use Rattle.vm_kernel.proofs.Common.{Parts, ap, arith, frame_count, length, ◌∙◌}
 use Rattle.vm_kernel.proofs.Growing.{on_ok}
-use Rattle.vm_kernel.proofs.Readying.{front_same}
-use Rattle.vm_kernel.specs.Rooms.{returning}
+use Rattle.vm_kernel.proofs.Readying.{making_same}
+use Rattle.vm_kernel.specs.Rooms.{if_copies, returning}
+use Rattle.vm_waits.specs.Waits.{count_copies}
 use Rattle.vm_kernel.proofs.parts.Parts.reserve.Goals as goal
 use Rattle.std.specs.Prelude.{vec_capacity}
 
@@ -15,8 +16,9 @@ returns-clause-ready c =
     let rows = ap (λ (z : Parts). length z.waits.rows) is in
     let rows2 = ap (λ (z : Parts). length z.waits.rows) skipped in
     let frames = ap (λ (z : Parts). frame_count z.memory.frames) is ∙ ap (λ (z : Parts). frame_count z.memory.frames) skipped in
-    let known = ap (λ (z : Parts). length z.memory.objects.entries) is ∙ (ap (λ (z : Parts). length z.memory.objects.entries) skipped ∙ ap length c.in_ok-reserve-2.ensures.same.entries) in
-    let first = front_same c.args.breadth c.args.self.now c.reserve_buffers.new.self frames known in
+    let copied = ap (λ (z : Parts). if_copies (count_copies z.waits.rows) (frame_count z.memory.frames)) is ∙ (ap (λ (z : Parts). if_copies (count_copies z.waits.rows) (frame_count z.memory.frames)) skipped ∙ ap (λ z. if_copies (count_copies z) (frame_count c.args.self.now.memory.frames)) c.in_ok-reserve-4.ensures.rows) in
+    let marked = ap (λ (z : Parts). z.chains.marked) is ∙ (ap (λ (z : Parts). z.chains.marked) skipped ∙ c.in_ok-reserve-3.ensures.marked) in
+    let first = making_same c.args.breadth c.args.self.now c.reserve_buffers.new.self frames in
     let spare = ap (λ (z : Parts). z.memory.resident.spare) is ∙ ap (λ (z : Parts). z.memory.resident.spare) skipped in
     let shadows = ap (λ (z : Parts). z.chains.spare) is ∙ ap (λ (z : Parts). z.chains.spare) skipped in
     let objects = ap (λ (z : Parts). z.memory.objects.rows) is ∙ ap (λ (z : Parts). z.memory.objects.rows) skipped in
@@ -24,15 +26,16 @@ returns-clause-ready c =
     let access = ap (λ (z : Parts). z.waits.room) is ∙ ap (λ (z : Parts). z.waits.room) skipped in
     let here = ap returning is in
     let capacity = ap (λ (z : Parts). vec_capacity z.skip) is in
-    let pages = c.in-Ok.ensures in
-    let sum = c.in-Some.ensures in
+    let count = c.from.ensures ∙ c.marked.ensures in
+    let sum = c.in-Ok.ensures in
+    let pages = c.in-Ok-try_from.ensures in
     let behind = c.most_behind.ensures.dues in
-    let made = c.most_made-made.ensures.made in
+    let made = c.made-made.ensures.made in
     let told = c.returning.ensures in
     record {
-      rows = omega (arith, same, rows, rows2, frames, spare, pages, behind, made, c.in_ok-reserve.ensures.room);
-      shadows = omega (arith, shadows, sum, made, c.in_ok-reserve-3.ensures.room);
-      objects = omega (arith, objects, sum, made, c.in_ok-reserve-2.ensures.rows);
+      rows = omega (arith, same, rows, rows2, copied, marked, spare, pages, behind, made, first, c.in_ok-reserve.ensures.room);
+      shadows = omega (arith, shadows, marked, count, sum, made, first, c.in_ok-reserve-3.ensures.room);
+      objects = omega (arith, objects, marked, count, sum, made, first, c.in_ok-reserve-2.ensures.rows);
       mark = omega (arith, marks, c.in_ok-reserve-2.ensures.marks);
       access = omega (arith, access, c.in_ok-reserve-4.ensures.room);
       buffers = omega (arith, here, told, enough);

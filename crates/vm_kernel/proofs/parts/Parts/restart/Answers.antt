@@ -17,7 +17,6 @@ again-init g c =
       room = λ more has. has;
       spare = keeps_none c.args.self.now;
       few = omega arith;
-      marks = omega arith;
       restarts = restarts_none g.given.header g.given.host g.given.past c.args.self.now.waits c.args.log.now.items;
     }
 
@@ -36,7 +35,6 @@ again-preserved g c =
       room = λ more has. (run.room more (was.room more has)).1;
       spare = keeps_both was.spare run.spare;
       few = few_both (length c.args.log.now.items) (length c.again.log.items) (length c.attempt.new.log.items) _ _ _ was.few run.few;
-      marks = let less = was.marks in let more = run.marks in omega (arith, less, more);
       first = λ task next finds.
           first_more g.given.header g.given.host g.given.outside g.given.command g.given.past task c.args.self.now.waits.rows c.again.self.waits.rows c.attempt.new.self.waits.rows c.in-Some.waiting c.args.log.now.items c.again.log.items c.attempt.new.log.items
           (was.first task next finds) next finds c.in-Some.ensures.row.0 c.in-Some.ensures.row.1 run.goes run.ends;

@@ -1,7 +1,7 @@
 use Rattle.vm_kernel.proofs.Common.{FindsPage, IsNextAccess, LegalEvents, Plays, RunsNoneYet, Works, count_again, length, paging, ℕ, ◌++◌, ◌+◌, ◌≤◌}
 use Rattle.vm_kernel.proofs.Finding.{FirstOf}
 use Rattle.vm_kernel.proofs.Turning.{Restarting}
-use Rattle.vm_kernel.specs.Rooms.{HasRoom, KeepsSpare, dues, to_run}
+use Rattle.vm_kernel.specs.Rooms.{HasRoom, KeepsSpare, dues}
 use Rattle.vm_supply.specs.declared.woken.Woken.TheVariants as woken
 use Rattle.vm_kernel.proofs.parts.Parts.restart.Given as goal
 
@@ -14,10 +14,9 @@ invariant-again g l = record {
   goes : LegalEvents g.given.header g.given.host g.given.outside g.given.command g.given.past l.fn.log.items l.log.items;
   plays : Plays g.given.header g.given.past l.fn.log.items (paging l.fn.self) l.log.items (paging l.self);
   first : (task : ℕ) → IsNextAccess task l.fn.self.waits.rows → FindsPage g.given.header task (l.fn.log.items ++ g.given.past) → FirstOf task l.fn.self.waits.rows l.self.waits.rows l.fn.log.items l.log.items;
-  room : (more : ℕ) → HasRoom more l.fn.self l.fn.ids l.fn.log.room → HasRoom more l.self l.ids l.log.room;
+  room : (more : ℕ) → HasRoom more l.fn.self l.fn.log.room → HasRoom more l.self l.log.room;
   spare : KeepsSpare l.fn.self l.self;
-  few : length l.log.items + dues (to_run l.self.waits.rows) l.self.memory l.ids.marks ≤ length l.fn.log.items + dues (to_run l.fn.self.waits.rows) l.fn.self.memory l.fn.ids.marks;
-  marks : l.ids.marks ≤ l.fn.ids.marks;
+  few : length l.log.items + dues l.self ≤ length l.fn.log.items + dues l.fn.self;
   restarts : RunsNoneYet l.fn.log.items → Restarting g.given.header g.given.host g.given.past l.fn.self.waits.queue l.self.waits l.log.items;
 }
 

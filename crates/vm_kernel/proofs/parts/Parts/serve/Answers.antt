@@ -1,6 +1,6 @@
 use Rattle.vm_kernel.proofs.Common.{Parts, ap, arith, false, inr, length, queued, refl, true, ◌∙◌, ◌≡◌}
 use Rattle.std.specs.Prelude.{◌+◌}
-use Rattle.vm_kernel.proofs.Affording.{few_both, front_runs, marks_room, serve_spare}
+use Rattle.vm_kernel.proofs.Affording.{few_both, front_runs, served_room, serve_spare}
 use Rattle.vm_kernel.proofs.Growing.{goes_both}
 use Rattle.vm_kernel.proofs.Served.{attempts_idle, rests_of}
 use Rattle.vm_kernel.proofs.Turning.{leaves_gone, leaves_of, leaves_ran, others_gone, others_ran}
@@ -42,7 +42,6 @@ serve-preserved-else-branch g c =
       few =
           few_both (length c.args.log.now.items) (length c.attempt.new.log.items) (length c.stops.new.log.items) _ _ _
           (few_both (length c.args.log.now.items) (length c.serve.log.items) (length c.attempt.new.log.items) _ _ _ c.serve.invariant.few c.in_ok-source.ensures.few) (c.in_ok-stops.ensures.few c.if-branch.false);
-      marks = let less = c.serve.invariant.marks in let more = c.in_ok-source.ensures.marks in omega (arith, less, more);
       room = λ more had. ((c.in_ok-stops.ensures.room more (serve_spare (c.serve.invariant.room more had) c.in_ok-source.ensures.spare (c.in_ok-source.ensures.room (more + 2) (c.serve.invariant.room more had).has).1)).1).on c.if-branch.false;
       idle = λ none. absurd (front_runs c.serve.self.waits.rows c.in-Some.waiting (ap (λ (z : Parts). queued z.waits.rows) (c.serve.invariant.idle none).0 ∙ none) c.in-Some.ensures.row.0 c.in-Some.ensures.row.1);
       rests = c.in_ok-stops.ensures.rests;
@@ -62,7 +61,6 @@ serve-preserved g c =
     let was = leaves_of g.given.header g.given.past c.args.self.now c.serve.self c.args.log.now.items c.serve.log.items c.serve.invariant.serving c.front.ensures.line in
     record {
       few = few_both (length c.args.log.now.items) (length c.serve.log.items) (length c.attempt.new.log.items) _ _ _ c.serve.invariant.few c.in_ok-source.ensures.few;
-      marks = let less = c.serve.invariant.marks in let more = c.in_ok-source.ensures.marks in omega (arith, less, more);
       room = λ more had. let was_room = c.serve.invariant.room more had in serve_spare was_room c.in_ok-source.ensures.spare (c.in_ok-source.ensures.room (more + 2) was_room.has).1;
       idle = λ none. absurd (front_runs c.serve.self.waits.rows c.in-Some.waiting (ap (λ (z : Parts). queued z.waits.rows) (c.serve.invariant.idle none).0 ∙ none) c.in-Some.ensures.row.0 c.in-Some.ensures.row.1);
       rests = rests_of _ g.given.host _ _ _ c.in_ok-source.ensures.works (attempts_idle _ g.given.host _ _ _ _ _ _ _ c.in_ok-source.ensures.attempts c.serve.invariant.rests.idle);
@@ -79,6 +77,12 @@ serve-preserved g c =
 pub returns-clause-leaves : goal.returns-clause-leaves
 returns-clause-leaves g c = leaves_of g.given.header g.given.past c.args.self.now c.serve.self c.args.log.now.items c.serve.log.items c.serve.invariant.serving c.front.ensures.line
 
+pub returns-in_err-stops-clause-idle : goal.returns-in_err-stops-clause-idle
+returns-in_err-stops-clause-idle g c = λ none. absurd (front_runs c.serve.self.waits.rows c.in-Some.waiting (ap (λ (z : Parts). queued z.waits.rows) (c.serve.invariant.idle none).0 ∙ none) c.in-Some.ensures.row.0 c.in-Some.ensures.row.1)
+
+pub returns-then-branch-clause-idle : goal.returns-then-branch-clause-idle
+returns-then-branch-clause-idle g c = λ none. absurd (front_runs c.serve.self.waits.rows c.in-Some.waiting (ap (λ (z : Parts). queued z.waits.rows) (c.serve.invariant.idle none).0 ∙ none) c.in-Some.ensures.row.0 c.in-Some.ensures.row.1)
+
 pub returns-in_err-stops-clause-room : goal.returns-in_err-stops-clause-room
 returns-in_err-stops-clause-room g c = λ more has some long.
     let was = c.serve.invariant.room more (record { has = has; buffers = some; skip = long }) in
@@ -92,12 +96,11 @@ returns-then-branch-clause-room g c = λ more has some long.
     (refl, (c.in_ok-stops.ensures.room more next).1.off c.if-branch.true)
 
 pub returns-clause-room : goal.returns-clause-room
-returns-clause-room g c = λ more has some long. (refl, marks_room (c.serve.invariant.room more (record { has = has; buffers = some; skip = long })))
+returns-clause-room g c = λ more has some long. (refl, served_room (c.serve.invariant.room more (record { has = has; buffers = some; skip = long })))
 
 pub returns-then-branch-clause-few : goal.returns-then-branch-clause-few
 returns-then-branch-clause-few g c =
     let was = c.serve.invariant.few in
     let run = c.in_ok-source.ensures.few in
-    let less = c.in_ok-source.ensures.marks in
     let two = c.in_ok-stops.ensures.two in
-    omega (arith, was, run, less, two)
+    omega (arith, was, run, two)

@@ -1,6 +1,6 @@
 use Rattle.vm_kernel.proofs.Common.{KeepsOthers, LegalEvents, Rests, claimed, frame_count, length, queued, ℕ, ◌*◌, ◌++◌, ◌+◌, ◌≡◌, ◌≤◌}
 use Rattle.vm_kernel.proofs.Turning.{Serving}
-use Rattle.vm_kernel.specs.Rooms.{ServeRoom, dues, to_run}
+use Rattle.vm_kernel.specs.Rooms.{ServeRoom, dues}
 use Rattle.vm_kernel.specs.Serving.{pages_to_copy}
 use Rattle.vm_kernel.proofs.parts.Parts.serve.Given as goal
 
@@ -15,9 +15,8 @@ invariant-serve g l = record {
   rests : Rests g.given.header g.given.host l.self l.ids (l.log.items ++ g.given.past);
   goes : LegalEvents g.given.header g.given.host g.given.outside g.given.command g.given.past l.fn.log.items l.log.items;
   others : KeepsOthers l.fn.self.waits.queue l.fn.self.waits.rows l.self.waits.rows;
-  room : (more : ℕ) → ServeRoom more l.fn.self l.fn.ids l.fn.log.room → ServeRoom more l.self l.ids l.log.room;
-  few : length l.log.items + dues (to_run l.self.waits.rows) l.self.memory l.ids.marks ≤ length l.fn.log.items + dues (to_run l.fn.self.waits.rows) l.fn.self.memory l.fn.ids.marks;
-  marks : l.ids.marks ≤ l.fn.ids.marks;
+  room : (more : ℕ) → ServeRoom more l.fn.self l.fn.log.room → ServeRoom more l.self l.log.room;
+  few : length l.log.items + dues l.self ≤ length l.fn.log.items + dues l.fn.self;
   idle : queued l.fn.self.waits.rows ≡ 0 → (l.self ≡ l.fn.self) × ((l.ids ≡ l.fn.ids) × (l.log ≡ l.fn.log));
   serving : Serving g.given.header g.given.past l.fn.self l.self l.fn.log.items l.log.items;
 }

@@ -29,4 +29,4 @@ returns-then-not-is_empty-clause-plays g c = Still
 pub returns-in-Freed-clause-few : goal.returns-in-Freed-clause-few
 returns-in-Freed-clause-few g c = λ same.
     let all = c.in_ok-reclaim.ensures in
-    freed_few c.args.ids.now (length c.args.log.now.items) (length c.reclaim.new.log.items) c.requires.1.1.0 (rw c.in-Freed.is at all.leaves) all.reclaimed.waits (all.single c.in-Freed.is)
+    freed_few (length c.args.log.now.items) (length c.reclaim.new.log.items) c.requires.1.1.0 (rw c.in-Freed.is at all.leaves) all.reclaimed.waits (all.single c.in-Freed.is)

@@ -5,7 +5,7 @@ use Rattle.vm_kernel.proofs.Beginning.{Stores, begun_next, begun_ran, begun_work
 use Rattle.vm_kernel.proofs.Served.{three_ok}
 use Rattle.vm_model.specs.declared.event.Event.TheVariants as event
 use Rattle.vm_kernel.proofs.Turning.{quiet_more, restarts_behind}
-use Rattle.vm_kernel.proofs.Composing.{any_ok, begun_spends, few_behind, room_behind, spare_behind, told_behind}
+use Rattle.vm_kernel.proofs.Composing.{any_ok, begun_copies, begun_spends, few_behind, room_behind, spare_behind, told_behind}
 use Rattle.vm_kernel.specs.Rooms.{Spends}
 use Rattle.vm_kernel.proofs.parts.Parts.store.Given as given
 use Rattle.vm_kernel.proofs.parts.Parts.store.Goals as goal
@@ -33,17 +33,17 @@ returns-clause-restarts g c =
     on_ok c.restart.result _ _ (restarts_behind g.given.header g.given.host c.restart.new.self.waits.rows g.given.past c.args.self.now.waits.queue c.begin.new.self.queue c.restart.new.self.waits.queue c.args.log.now.items c.push.new.self.items c.restart.new.log.items c.requires.1.nothing quiet) c.restart.ensures.restarts
 
 -- the beginning takes one event
-begun : (g : given.Over) (c : goal.After-restart g) → Spends 4 4 0 c.args.self.now c.args.ids.now c.args.log.now (record c.args.self.now { waits = c.begin.new.self }) c.args.ids.now c.push.new.self
-begun g c = begun_spends c.args.self.now c.args.ids.now c.begin.new.self c.args.log.now c.push.new.self _ (ap length c.begin.ensures.rows ∙ (length-append c.reserve.new.self.rows _ ∙ ap (λ z. length z + 1) c.reserve.ensures.rows)) c.in_ok-push.ensures.ok c.in_ok-push.ensures.room
+begun : (g : given.Over) (c : goal.After-restart g) → Spends 4 4 0 c.args.self.now c.args.log.now (record c.args.self.now { waits = c.begin.new.self }) c.push.new.self
+begun g c = begun_spends c.args.self.now c.begin.new.self c.args.log.now c.push.new.self _ (ap length c.begin.ensures.rows ∙ (length-append c.reserve.new.self.rows _ ∙ ap (λ z. length z + 1) c.reserve.ensures.rows)) (begun_copies _ _ _ _ c.begin.ensures.rows c.reserve.ensures.rows refl) c.in_ok-push.ensures.ok c.in_ok-push.ensures.room
 
 pub returns-clause-few : goal.returns-clause-few
 returns-clause-few g c =
-    let few = told_behind c.args.self.now (record c.args.self.now { waits = c.begin.new.self }) c.args.ids.now c.args.ids.now c.args.log.now c.push.new.self 4 4 4 (omega arith) (begun g c) in
+    let few = told_behind c.args.self.now (record c.args.self.now { waits = c.begin.new.self }) c.args.log.now c.push.new.self 4 4 4 (omega arith) (begun g c) in
     on_ok c.restart.result _ _ (λ more. few_behind more few) c.restart.ensures.few
 
 pub returns-clause-room : goal.returns-clause-room
 returns-clause-room g c = λ more had access.
-    let runs = c.restart.ensures.room more (room_behind c.args.self.now (record c.args.self.now { waits = c.begin.new.self }) c.args.ids.now c.args.ids.now c.args.log.now c.push.new.self 4 4 more (begun g c) had) in
+    let runs = c.restart.ensures.room more (room_behind c.args.self.now (record c.args.self.now { waits = c.begin.new.self }) c.args.log.now c.push.new.self 4 4 more (begun g c) had) in
     (any_ok c.restart.result _ runs.1, runs.0)
 
 pub returns-in_err-reserve-clause-room : goal.returns-in_err-reserve-clause-room

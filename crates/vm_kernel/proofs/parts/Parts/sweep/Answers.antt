@@ -8,7 +8,7 @@ use Rattle.vm_kernel.proofs.Spending.{spends_both, spends_none}
 use Rattle.vm_kernel.proofs.parts.Parts.sweep.Goals as goal
 
 pub all-init : goal.all-init
-all-init g c = record { sweeps = c.requires; plays = Still; quiet = quiet_none c.args.self.now.waits.queue c.args.log.now.items; ends = none_so_far g.given.header _ (by_address c.args.gone.now) c.args.log.now.items; spends = spends_none c.args.self.now c.args.ids.now c.args.log.now _; buffers = λ has. has; skip = skip_none c.args.self.now }
+all-init g c = record { sweeps = c.requires; plays = Still; quiet = quiet_none c.args.self.now.waits.queue c.args.log.now.items; ends = none_so_far g.given.header _ (by_address c.args.gone.now) c.args.log.now.items; spends = spends_none c.args.self.now c.args.log.now _; buffers = λ has. has; skip = skip_none c.args.self.now }
 
 pub all-preserved : goal.all-preserved
 all-preserved g c =
@@ -17,7 +17,7 @@ all-preserved g c =
       plays = plays_both c.all.invariant.plays c.in_ok-release.ensures.plays;
       quiet = quiet_both c.args.self.now.waits.queue c.all.self.waits.queue c.release.new.self.waits.queue c.args.log.now.items c.all.log.items c.release.new.log.items c.all.invariant.quiet c.in_ok-release.ensures.quiet;
       ends = next_out g.given.header g.given.past (by_address c.args.gone.now) (drop c.all.i (by_address c.args.gone.now)) (drop (c.all.i + 1) (by_address c.args.gone.now)) c.args.log.now.items c.all.log.items c.release.new.log.items c.all.invariant.ends c.in_ok-release.ensures.ends;
-      spends = spends_both c.args.self.now c.all.self c.release.new.self c.args.ids.now c.args.ids.now c.args.ids.now c.args.log.now c.all.log c.release.new.log _ _ _ c.all.invariant.spends c.in_ok-release.ensures.spends;
+      spends = spends_both c.args.self.now c.all.self c.release.new.self c.args.log.now c.all.log c.release.new.log _ _ _ c.all.invariant.spends c.in_ok-release.ensures.spends;
       buffers = λ has. c.in_ok-release.ensures.buffers (c.all.invariant.buffers has);
       skip = skip_both c.args.self.now c.all.self c.release.new.self c.all.invariant.skip c.in_ok-release.ensures.skip;
     }
@@ -27,5 +27,5 @@ returns-clause-quiet g c = c.all.invariant.quiet
 
 pub returns-in_err-release-clause-succeeds : goal.returns-in_err-release-clause-succeeds
 returns-in_err-release-clause-succeeds g c = λ room has.
-    let bad : false ≡ true = c.in_err-release.ensures.succeeds (roomy_on c.args.self.now c.all.self c.args.ids.now c.args.ids.now c.args.log.now c.all.log _ _ c.all.invariant.spends room) (c.all.invariant.buffers has) in
+    let bad : false ≡ true = c.in_err-release.ensures.succeeds (roomy_on c.args.self.now c.all.self c.args.log.now c.all.log _ _ c.all.invariant.spends room) (c.all.invariant.buffers has) in
     absurd (cc)

@@ -12,7 +12,7 @@ invariant-all g l = record {
   plays : Plays g.given.header g.given.past l.fn.log.items (paging l.fn.self) l.log.items (paging l.self);
   quiet : QueueIsStill l.fn.self.waits.queue l.self.waits.queue l.fn.log.items l.log.items;
   ends : EndsSoFar g.given.header (l.fn.log.items ++ g.given.past) (by_address l.gone) (drop l.i (by_address l.gone)) l.fn.log.items l.log.items;
-  spends : Spends (leaving l.fn.self l.ids) 0 (leaving l.self l.ids) l.fn.self l.ids l.fn.log l.self l.ids l.log;
+  spends : Spends (leaving l.fn.self l.ids) 0 (leaving l.self l.ids) l.fn.self l.fn.log l.self l.log;
   buffers : HasBuffers l.fn.self → HasBuffers l.self;
   skip : KeepsSkip l.fn.self l.self;
 }

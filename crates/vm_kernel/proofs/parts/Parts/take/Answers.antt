@@ -65,19 +65,19 @@ cost g c = heeding c.args.message.now c.args.self.now + waking c.in_ok-woken.wok
 cost_few : (g : given.Over) (c : goal.After-restart g) → cost g c ≤ front (word_breadth c.args.message.now) c.args.self.now
 cost_few g c = word_costs c.args.message.now c.in_ok-woken.woken c.args.self.now c.heed.new.self c.args.ids.now (listed_few c.requires.0.matches c.stand_once.ensures) c.in_ok-woken.ensures.dies
 
-all_spends : (g : given.Over) (c : goal.After-restart g) → Spends (cost g c) 0 0 c.args.self.now c.args.ids.now c.args.log.now c.wake.new.self c.args.ids.now c.wake.new.log
+all_spends : (g : given.Over) (c : goal.After-restart g) → Spends (cost g c) 0 0 c.args.self.now c.args.log.now c.wake.new.self c.wake.new.log
 all_spends g c =
-    spends_both c.args.self.now c.heed.new.self c.wake.new.self c.args.ids.now c.args.ids.now c.args.ids.now c.args.log.now c.heed.new.log c.wake.new.log _ _ _
-    (spends_more c.args.self.now c.heed.new.self c.args.ids.now c.args.ids.now c.args.log.now c.heed.new.log (heeding c.args.message.now c.args.self.now) 0 (waking c.in_ok-woken.woken c.heed.new.self c.args.ids.now) c.in_ok-woken.ensures.spends) c.in_ok-wake.ensures.spends
+    spends_both c.args.self.now c.heed.new.self c.wake.new.self c.args.log.now c.heed.new.log c.wake.new.log _ _ _
+    (spends_more c.args.self.now c.heed.new.self c.args.log.now c.heed.new.log (heeding c.args.message.now c.args.self.now) 0 (waking c.in_ok-woken.woken c.heed.new.self c.args.ids.now) c.in_ok-woken.ensures.spends) c.in_ok-wake.ensures.spends
 
 pub returns-clause-few : goal.returns-clause-few
 returns-clause-few g c =
-    let few = told_behind c.args.self.now c.wake.new.self c.args.ids.now c.args.ids.now c.args.log.now c.wake.new.log (cost g c) 0 (front (word_breadth c.args.message.now) c.args.self.now) (cost_few g c) (all_spends g c) in
+    let few = told_behind c.args.self.now c.wake.new.self c.args.log.now c.wake.new.log (cost g c) 0 (front (word_breadth c.args.message.now) c.args.self.now) (cost_few g c) (all_spends g c) in
     on_ok c.restart.result _ _ (λ more. few_behind more few) c.restart.ensures.few
 
 pub returns-clause-room : goal.returns-clause-room
 returns-clause-room g c = λ more had marks has skip asks.
-    let left = room_behind c.args.self.now c.wake.new.self c.args.ids.now c.args.ids.now c.args.log.now c.wake.new.log (cost g c) 0 more (all_spends g c) (more_fewer _ _ (cost g c) 0 more c.args.self.now c.args.ids.now _ had (cost_few g c) (omega arith)) in
+    let left = room_behind c.args.self.now c.wake.new.self c.args.log.now c.wake.new.log (cost g c) 0 more (all_spends g c) (more_fewer _ _ (cost g c) 0 more c.args.self.now _ had (cost_few g c) (omega arith)) in
     let runs = c.restart.ensures.room more left in
     let keeps = ok_has c.restart.result _ runs.0 c.restart.ensures.spare in
     let some = c.in_ok-wake.ensures.enough (λ key is. c.in_ok-woken.ensures.failing key is has) (c.in_ok-woken.ensures.buffers asks has) in
@@ -88,12 +88,12 @@ returns-clause-room g c = λ more had marks has skip asks.
 pub returns-in_err-woken-clause-room : goal.returns-in_err-woken-clause-room
 returns-in_err-woken-clause-room g c = λ more had marks has skip asks.
     let few = word_few c.args.message.now c.args.self.now (listed_few c.requires.0.matches c.stand_once.ensures) in
-    absurd (let bad : false ≡ true = c.in_err-woken.ensures.succeeds (roomy_fewer _ _ _ 0 c.args.self.now c.args.ids.now _ had.tables few (omega arith)) asks marks in cc)
+    absurd (let bad : false ≡ true = c.in_err-woken.ensures.succeeds (roomy_fewer _ _ _ 0 c.args.self.now _ had.tables few (omega arith)) asks marks in cc)
 
 pub returns-in_err-wake-clause-room : goal.returns-in_err-wake-clause-room
 returns-in_err-wake-clause-room g c = λ more had marks has skip asks.
     let told = heeding c.args.message.now c.args.self.now in
     let later = waking c.in_ok-woken.woken c.heed.new.self c.args.ids.now in
     let few = word_costs c.args.message.now c.in_ok-woken.woken c.args.self.now c.heed.new.self c.args.ids.now (listed_few c.requires.0.matches c.stand_once.ensures) c.in_ok-woken.ensures.dies in
-    let room = roomy_on c.args.self.now c.heed.new.self c.args.ids.now c.args.ids.now c.args.log.now c.heed.new.log (told + later) _ (spends_more c.args.self.now c.heed.new.self c.args.ids.now c.args.ids.now c.args.log.now c.heed.new.log told 0 later c.in_ok-woken.ensures.spends) (roomy_fewer _ _ (told + later) 0 c.args.self.now c.args.ids.now _ had.tables few (omega arith)) in
+    let room = roomy_on c.args.self.now c.heed.new.self c.args.log.now c.heed.new.log (told + later) _ (spends_more c.args.self.now c.heed.new.self c.args.log.now c.heed.new.log told 0 later c.in_ok-woken.ensures.spends) (roomy_fewer _ _ (told + later) 0 c.args.self.now _ had.tables few (omega arith)) in
     absurd (let bad : false ≡ true = c.in_err-wake.ensures.succeeds room (λ key is. c.in_ok-woken.ensures.failing key is has) in cc)

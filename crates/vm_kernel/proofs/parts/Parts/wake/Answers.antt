@@ -47,27 +47,27 @@ pub returns-in-Page-clause-quiet : goal.returns-in-Page-clause-quiet
 returns-in-Page-clause-quiet g c = record { queue = c.wake_page.ensures.queue; more = []; told = refl; none = tt }
 
 pub returns-in-Nobody-clause-spends : goal.returns-in-Nobody-clause-spends
-returns-in-Nobody-clause-spends g c = spends_nothing c.args.self.now c.args.ids.now c.args.log.now _ 0
+returns-in-Nobody-clause-spends g c = spends_nothing c.args.self.now c.args.log.now _ 0
 
 pub returns-in-ReadyOf-clause-spends : goal.returns-in-ReadyOf-clause-spends
-returns-in-ReadyOf-clause-spends g c = woken_spends _ c.args.self.now c.args.ids.now c.wake_ready.new.self c.args.log.now (ap length c.wake_ready.ensures.rows ∙ length-map c.args.self.now.waits.rows _)
+returns-in-ReadyOf-clause-spends g c = woken_spends _ c.args.self.now c.wake_ready.new.self c.args.log.now _ c.wake_ready.ensures.rows
 
 pub returns-in-Page-clause-spends : goal.returns-in-Page-clause-spends
-returns-in-Page-clause-spends g c = woken_spends _ c.args.self.now c.args.ids.now c.wake_page.new.self c.args.log.now (ap length c.wake_page.ensures.rows ∙ length-map c.args.self.now.waits.rows _)
+returns-in-Page-clause-spends g c = woken_spends _ c.args.self.now c.wake_page.new.self c.args.log.now _ c.wake_page.ensures.rows
 
 pub returns-in-Fails-clause-spends : goal.returns-in-Fails-clause-spends
 returns-in-Fails-clause-spends g c =
     let same : waking c.args.woken c.args.self.now c.args.ids.now ≡ leaving c.args.self.now c.args.ids.now = ap (λ z. waking z c.args.self.now c.args.ids.now) c.in-Fails.is in
     on_ok c.fail.result _ _
     (λ is.
-    spends_hand c.args.self.now c.fail.new.self c.args.ids.now c.args.ids.now c.args.log.now c.fail.new.log _ 0 (waking c.args.woken c.args.self.now c.args.ids.now)
-    (spends_less c.args.self.now c.fail.new.self c.args.ids.now c.args.ids.now c.args.log.now c.fail.new.log _ _ 0 is (omega arith)) (omega (arith, same)))
+    spends_hand c.args.self.now c.fail.new.self c.args.log.now c.fail.new.log _ 0 (waking c.args.woken c.args.self.now c.args.ids.now)
+    (spends_less c.args.self.now c.fail.new.self c.args.log.now c.fail.new.log _ _ 0 is (omega arith)) (omega (arith, same)))
     c.fail.ensures.spends
 
 pub returns-in-Fails-clause-succeeds : goal.returns-in-Fails-clause-succeeds
 returns-in-Fails-clause-succeeds g c = λ room has.
     let same : waking c.args.woken c.args.self.now c.args.ids.now ≡ leaving c.args.self.now c.args.ids.now = ap (λ z. waking z c.args.self.now c.args.ids.now) c.in-Fails.is in
-    c.fail.ensures.succeeds (roomy_fewer _ 0 (leaving c.args.self.now c.args.ids.now) 0 c.args.self.now c.args.ids.now _ room (omega (arith, same)) (omega arith)) (has c.in-Fails.key c.in-Fails.is)
+    c.fail.ensures.succeeds (roomy_fewer _ 0 (leaving c.args.self.now c.args.ids.now) 0 c.args.self.now _ room (omega (arith, same)) (omega arith)) (has c.in-Fails.key c.in-Fails.is)
 
 pub returns-in-Fails-clause-enough : goal.returns-in-Fails-clause-enough
 returns-in-Fails-clause-enough g c = on_ok c.fail.result _ _ (λ leaves has some. let left = leaves (has c.in-Fails.key c.in-Fails.is) in omega (arith, left)) c.fail.ensures.buffers

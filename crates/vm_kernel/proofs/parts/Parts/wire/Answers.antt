@@ -2,6 +2,7 @@ use Rattle.vm_kernel.proofs.Common.{ap, arith, length, refl}
 use Rattle.vm_kernel.proofs.Playing.{plays_told}
 use Rattle.vm_kernel.proofs.Growing.{on_ok}
 use Rattle.vm_kernel.proofs.Wires.{ran_wire}
+use Rattle.vm_kernel.proofs.Departing.{framed}
 use Rattle.vm_kernel.proofs.Spending.{wired_count}
 use Rattle.vm_kernel.proofs.parts.Parts.wire.Goals as goal
 
@@ -16,7 +17,7 @@ returns-clause-plays g c = on_ok c.tell_wired.result _ _ (λ told. plays_told to
 
 pub returns-clause-spends : goal.returns-clause-spends
 returns-clause-spends g c =
-    let frames = wired_count c.args.self.now.memory.frames c.wire.new.self _ c.wire.result c.wire.ensures.wired in
+    let frames = framed c.args.self.now (wired_count c.args.self.now.memory.frames c.wire.new.self _ c.wire.result c.wire.ensures.wired) in
     on_ok c.tell_wired.result _ _
     (λ told. let one = ap length told in record {
       told = omega (arith, one, frames);
@@ -24,7 +25,6 @@ returns-clause-spends g c =
       rows = omega (arith, frames);
       shadows = omega arith;
       objects = omega arith;
-      marks = omega arith;
     })
     c.tell_wired.ensures.told
 

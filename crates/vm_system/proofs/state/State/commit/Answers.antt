@@ -1,9 +1,7 @@
-use Rattle.std.proofs.lemmas.List.{length-reverse, reverse-append, reverse-reverse}
-use Rattle.std.proofs.Math.Seq.{drop-length, take-length}
-use Rattle.std.specs.Prelude.{drop, take}
-use Rattle.vm_system.proofs.Common.{CanTellAll, Event, HasRoom, List, Listed, Posts, SameHosts, State, [], ap, append_assoc, arith, length, length-append, refl, reverse, subst, sym, ℕ, ◌++◌, ◌+◌, ◌∙◌, ◌∷◌, ◌≡◌}
+use Rattle.std.proofs.lemmas.List.{length-reverse, reverse-reverse}
+use Rattle.std.specs.Prelude.{drop}
+use Rattle.vm_system.proofs.Common.{CanTellAll, Event, HasRoom, List, Listed, Posts, ap, arith, length, refl, reverse, subst, sym, ℕ, ◌+◌, ◌∙◌, ◌∷◌, ◌≡◌}
 use Rattle.vm_system.proofs.Posting.{told, told_at, told_long}
-use Rattle.vm_system.proofs.Roomed.{fewer_room}
 use Rattle.vm_system.proofs.state.State.commit.Goals as goal
 
 pub all-init : goal.all-init

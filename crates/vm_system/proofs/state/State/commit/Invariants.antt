@@ -1,5 +1,5 @@
-use Rattle.std.specs.Prelude.{drop, take}
-use Rattle.vm_system.proofs.Common.{CanTellAll, Event, HasRoom, List, Posts, SameHosts, length, reverse, ℕ, ◌++◌, ◌+◌, ◌≡◌}
+use Rattle.std.specs.Prelude.{drop}
+use Rattle.vm_system.proofs.Common.{CanTellAll, HasRoom, Posts, SameHosts, length, reverse, ℕ, ◌+◌, ◌≡◌}
 use Rattle.vm_system.proofs.Posting.{told}
 use Rattle.vm_system.proofs.state.State.commit.Given as goal
 

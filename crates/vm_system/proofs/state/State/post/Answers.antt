@@ -1,6 +1,6 @@
 use Rattle.vm_system.proofs.Common.{Delivered, Event, Posts, subst, sym, ℕ, ◌∙◌, ◌∷◌}
 use Rattle.vm_system.proofs.Made.{fresh_made, made_sent, numbers_made}
-use Rattle.vm_system.proofs.Posting.{posts_other, posts_sent}
+use Rattle.vm_system.proofs.Posting.{posts_sent}
 use Rattle.vm_system.proofs.state.State.post.Goals as goal
 
 pub deliver-requires-clause-fresh : goal.deliver-requires-clause-fresh

@@ -1,12 +1,20 @@
-use Rattle.std.proofs.Common.{◌≡◌, ◌<◌, None, refl, arith, length-append, [], ◌∷◌}
+use Rattle.std.proofs.Common.{◌≡◌, ◌<◌, ◌++◌, None, refl, arith, length-append, [], ◌∷◌}
 use Rattle.std.specs.Map.{values_of}
 use Rattle.vm_waits.proofs.ByTask.{pushed}
+use Rattle.vm_waits.proofs.Copies.{copies_begun, copies_few}
 use Rattle.vm_waits.proofs.Rows.{counted_push, entry_push}
 use Rattle.vm_waits.proofs.Tables.{lined_begun}
 use Rattle.vm_waits.specs.Waits.{entry, is_again, is_frame}
 use Rattle.vm_waits.specs.declared.waiting.On.TheVariants as on
 use Rattle.vm_waits.specs.declared.waiting.Waiting.{Waiting}
 use Rattle.vm_waits.proofs.waits.Waits.begin.Goals as goal
+
+pub overflow_add-self : goal.overflow_add-self
+overflow_add-self c =
+    let rows = values_of c.self.inside.rows.entries in
+    let w : Waiting = record { task = c.args.task; want = c.args.want; on = on.Again; destination = c.args.destination } in
+    let room : 0 < c.self.inside.room = rw (← c.self.view_is) at c.requires.room in
+    omega (arith, room, c.self.invariant.3.few, c.self.invariant.4, c.copy_count.ensures, copies_few (rows ++ w ∷ []), copies_begun rows w, length-append rows (w ∷ []))
 
 pub invariant_of-self : goal.invariant_of-self
 invariant_of-self c =
@@ -27,6 +35,7 @@ invariant_of-self c =
         queue = omega (arith, room, fits.queue, long);
         few = omega (arith, room, fits.few, long);
       },
+      omega (arith, c.self.invariant.4, c.copy_count.ensures, copies_begun (values_of old.rows.entries) w),
     )
 
 pub returns : goal.returns

@@ -4,6 +4,7 @@ use Rattle.std.specs.Map.{values_of}
 use Rattle.std.specs.Option.{option_copied_mut}
 use Rattle.std.specs.Prelude.{IsSome}
 use Rattle.vm_waits.proofs.ByTask.{lendable, looked_up, written}
+use Rattle.vm_waits.proofs.Copies.{copies_turned}
 use Rattle.vm_waits.proofs.Rows.{counted_turned, counted_within}
 use Rattle.vm_waits.proofs.Tables.{holds_there, is_there, lined_on, puts_turned}
 use Rattle.vm_waits.specs.Waits.{entry, is_again, is_frame, one, turned, with_on}
@@ -40,6 +41,7 @@ invariant_of-self c =
         queue = omega (arith, fits.queue, long, c.push.ensures.capacity);
         few = omega (arith, fits.few, long);
       },
+      c.self.invariant.4 ∙ sym (copies_turned c.args.task.0 on.Frame rows),
     )
 
 pub returns : goal.returns

@@ -3,6 +3,7 @@ use Rattle.std.proofs.lemmas.List.{length-map}
 use Rattle.std.specs.Map.{values_of}
 use Rattle.std.specs.Option.{option_copied_mut}
 use Rattle.vm_waits.proofs.ByTask.{lendable, looked_up, written}
+use Rattle.vm_waits.proofs.Copies.{copies_turned}
 use Rattle.vm_waits.proofs.Rows.{counted_turned}
 use Rattle.vm_waits.proofs.Tables.{lined_off, puts_turned}
 use Rattle.vm_waits.specs.Waits.{entry, is_again, is_frame, one, turned, with_on}
@@ -31,6 +32,7 @@ invariant_of-self c =
         queue = omega (arith, fits.queue, long, c.take_off.ensures.capacity);
         few = omega (arith, fits.few, long);
       },
+      c.self.invariant.4 ∙ sym (copies_turned c.args.task.0 c.args.on rows),
     )
 
 pub returns : goal.returns

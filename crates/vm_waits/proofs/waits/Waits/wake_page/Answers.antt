@@ -1,7 +1,8 @@
-use Rattle.std.proofs.Common.{false, refl, true, arith}
+use Rattle.std.proofs.Common.{◌∙◌, false, refl, sym, true, arith}
 use Rattle.std.proofs.lemmas.List.{length-map}
 use Rattle.std.specs.Map.{values_of}
 use Rattle.vm_waits.proofs.ByTask.{mapped}
+use Rattle.vm_waits.proofs.Copies.{copies_woken}
 use Rattle.vm_waits.proofs.Rows.{counted_woken, woken_keeps}
 use Rattle.vm_waits.proofs.Tables.{lined_woken, page_again, page_frame, waked}
 use Rattle.vm_waits.specs.Waits.{is_again, is_frame, woken, woken_page}
@@ -24,6 +25,7 @@ invariant_of-self c =
         queue = omega (arith, fits.queue, long);
         few = omega (arith, fits.few, long);
       },
+      c.self.invariant.4 ∙ sym (copies_woken (woken_page c.args.key) rows),
     )
 
 pub returns : goal.returns
