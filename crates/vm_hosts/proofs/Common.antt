@@ -1,5 +1,6 @@
 -- All that the proofs of this crate name from below.
-pub use Rattle.std.proofs.Common.{Bool, List, None, Option, Some, [], ap, append-nil, append_assoc, arith, false, get_or, inl, inr, length, length-append, refl, subst, suc, sym, true, zero, ℕ, ◌&&◌, ◌++◌, ◌+◌, ◌<◌, ◌==◌, ◌∙◌, ◌∷◌, ◌≡◌, ◌≢◌, ◌≤◌}
+pub use Rattle.std.proofs.Common.{Bool, List, None, Option, Some, [], ap, append-nil, append_assoc, arith, false, get_or, inl, inr, length, length-append, refl}
+pub use Rattle.std.proofs.Common.{subst, suc, sym, true, zero, ℕ, ◌&&◌, ◌++◌, ◌+◌, ◌<◌, ◌==◌, ◌∙◌, ◌∷◌, ◌≡◌, ◌≢◌, ◌≤◌}
 pub use Rattle.std.proofs.Math.ListN.{length-set, set}
 pub use Rattle.std.proofs.Math.Numerals.{add-one}
 pub use Rattle.std.proofs.lemmas.Bool.Decides.{eqb_tells, nat_tests}
@@ -16,17 +17,19 @@ pub use Rattle.vm_base.specs.declared.ids.HostId.{HostId}
 pub use Rattle.vm_base.specs.declared.ids.ObjectId.{ObjectId}
 pub use Rattle.vm_base.specs.declared.ids.ObjectKind.{ObjectKind}
 pub use Rattle.vm_base.specs.declared.ids.ObjectKind.TheVariants.{Temp}
-pub use Rattle.vm_kernel.proofs.Abroad.{common_of, frames_abroad, nobodys_abroad, nobodys_shut, of_host, prompt_abroad, queue_abroad, rests_abroad, sound_caused, sound_more, waits_here}
-pub use Rattle.vm_kernel.proofs.Done.{done_more}
-pub use Rattle.vm_kernel.proofs.Failing.{paid_more}
-pub use Rattle.vm_kernel.proofs.Growing.{paid_of, suffices}
+pub use Rattle.vm_kernel.proofs.abroad.OthersEvents.{common_of, frames_abroad, nobodys_abroad, nobodys_shut, of_host, prompt_abroad, queue_abroad, rests_abroad}
+pub use Rattle.vm_kernel.proofs.abroad.OthersEvents.{sound_caused, sound_more, waits_here}
+pub use Rattle.vm_kernel.proofs.steps.StillDone.{done_more}
+pub use Rattle.vm_kernel.proofs.controls.WaitersFail.{paid_more}
+pub use Rattle.vm_kernel.proofs.steps.EventsGrow.{paid_of, suffices}
 pub use Rattle.vm_kernel.specs.Abroad.{IsCommon, IsNobodys}
 pub use Rattle.vm_kernel.specs.Begun.{CreatesHere, IsLaundered, IsLined, IsMine, KernelSays, LegalEvents, Passed, Ran, Served, SomeKernelSays, Starts, acts_on}
 pub use Rattle.vm_kernel.specs.Built.{kernel_runs}
 pub use Rattle.vm_kernel.specs.Matches.{IsRanged, Rests, first_ids, host_id}
-pub use Rattle.vm_kernel.proofs.Roomier.{rests_roomier}
+pub use Rattle.vm_kernel.proofs.room.OtherRoom.{rests_roomier}
 pub use Rattle.vm_kernel.specs.declared.breadth.Breadth.{Breadth}
-pub use Rattle.vm_kernel.specs.Rooms.{IsReady as IsReadyOn, ServeRoom, breadth_of, dues, front, full_dues, making, most, rooms_of, to_run, with_rooms, with_rooms_of}
+pub use Rattle.vm_kernel.specs.Rooms.{IsReady as IsReadyOn, ServeRoom, breadth_of, dues, front, full_dues, making, most, rooms_of, to_run, with_rooms}
+pub use Rattle.vm_kernel.specs.Rooms.{with_rooms_of}
 pub use Rattle.vm_kernel.specs.Serving.{HasQueue}
 pub use Rattle.vm_kernel.specs.Taking.{IsAbsencePaid, IsErrorPaid, IsLockPaid}
 pub use Rattle.vm_legal.specs.InTurn.{EndsAll}

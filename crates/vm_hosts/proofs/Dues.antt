@@ -1,6 +1,8 @@
 -- What is still to be told on the hosts, and the room for it.
-use Rattle.vm_hosts.proofs.Common.{Breadth, CanServe, CanServeOn, HostTable, Ids, IsReady, IsReadyOn, List, None, Parts, ServeRoom, Some, [], add-one, ap, arith, dues, front, full_dues, inl, inr, length, most, most_of, one, own_dues, refl, same_Some, set, slice_get, slice_get_within, subst, suc, sum_of_dues, sym, zero, ℕ, ◌+◌, ◌<◌, ◌∙◌, ◌∷◌, ◌≡◌, ◌≤◌}
-use Rattle.vm_kernel.proofs.Composing.{dues_full}
+use Rattle.vm_hosts.proofs.Common.{Breadth, CanServe, CanServeOn, HostTable, Ids, IsReady, IsReadyOn, List, None, Parts, ServeRoom, Some, [], add-one, ap}
+use Rattle.vm_hosts.proofs.Common.{arith, dues, front, full_dues, inl, inr, length, most, most_of, one, own_dues, refl, same_Some, set, slice_get}
+use Rattle.vm_hosts.proofs.Common.{slice_get_within, subst, suc, sum_of_dues, sym, zero, ℕ, ◌+◌, ◌<◌, ◌∙◌, ◌∷◌, ◌≡◌, ◌≤◌}
+use Rattle.vm_kernel.proofs.room.PartsOfStep.{dues_full}
 use Rattle.vm_hosts.proofs.Tables.{put, set_cases}
 
 -- one kernel's
@@ -101,7 +103,8 @@ module _ (hosts : HostTable) (h : ℕ) (new k : Parts) (next : Ids) (at : slice_
       first : (a b : ℕ) → a + b ≤ space → a ≤ space
       first a b fits = omega (arith, fits)
 
-  pub acted_room : (b : Breadth) (events space left : ℕ) → IsReady b events hosts space → ServeRoom (other_dues h hosts.kernels) new left → CanServe (put hosts h new next) left
+  pub acted_room : (b : Breadth) (events space left : ℕ) → IsReady b events hosts space → ServeRoom (other_dues h hosts.kernels) new left
+      → CanServe (put hosts h new next) left
   acted_room b events space left ready room = record {
     each = λ g m found. elim (set_cases hosts.kernels h g new m within found) [
       | inl same ↦ subst CanServeOn same.1 (serve_own (other_dues h hosts.kernels) new left room)
@@ -113,14 +116,16 @@ module _ (hosts : HostTable) (h : ℕ) (new k : Parts) (next : Ids) (at : slice_
       sum_room : (more : ℕ) → dues new + (more + 2) ≤ left → own_dues new + more ≤ left
       sum_room more log = omega (arith, log)
 
-  pub acted_few : (b : Breadth) (events space told last : ℕ) → IsReady b events hosts space → told + dues new ≤ full_dues k + front b k → last ≤ told + sum_of_dues (set hosts.kernels h new) → last ≤ events
+  pub acted_few : (b : Breadth) (events space told last : ℕ) → IsReady b events hosts space → told + dues new ≤ full_dues k + front b k
+      → last ≤ told + sum_of_dues (set hosts.kernels h new) → last ≤ events
   acted_few b events space told last ready few served =
       let sum = sum_set hosts.kernels h new within in
       let others = others_few b hosts.kernels h k at in
       let enough = ready.enough in
       by_sums (other_dues h hosts.kernels) (sum_of_dues (set hosts.kernels h new)) (most_of b hosts.kernels) sum others enough few served
     where
-      by_sums : (more sum all : ℕ) → sum ≡ own_dues new + more → most b k + more ≤ all → all ≤ events → told + dues new ≤ full_dues k + front b k → last ≤ told + sum → last ≤ events
+      by_sums : (more sum all : ℕ) → sum ≡ own_dues new + more → most b k + more ≤ all → all ≤ events → told + dues new ≤ full_dues k + front b k
+          → last ≤ told + sum → last ≤ events
       by_sums more sum all is others enough few served = omega (arith, is, others, enough, few, served)
 
 -- what the hosts from a number on have still to tell
@@ -153,7 +158,8 @@ pub record Serves (total n : ℕ) (hosts : HostTable) (told space : ℕ) : Type 
   pub few : told + dues_from n hosts.kernels ≤ total
 
 pub serves_start : (hosts : HostTable) (told space : ℕ) → CanServe hosts space → Serves (told + sum_of_dues hosts.kernels) 0 hosts told space
-serves_start hosts told space can = record { each = λ h k least found. can.each h k found; room = can.room; few = most_itself (told + sum_of_dues hosts.kernels) }
+serves_start hosts told space can =
+    record { each = λ h k least found. can.each h k found; room = can.room; few = most_itself (told + sum_of_dues hosts.kernels) }
   where
     most_itself : (a : ℕ) → a ≤ a
     most_itself a = omega arith
@@ -163,7 +169,13 @@ module _ (total n : ℕ) (hosts : HostTable) (k : Parts) (told space : ℕ) (at 
   serves_room =
       let can : CanServeOn k = was.each n k (let m : n ≤ n = omega arith in m) at in
       record {
-        has = record { log = log_room (dues_from n hosts.kernels) (dues_from (n + 1) hosts.kernels) (dues_next hosts.kernels n k at) was.room; rows = can.rows; shadows = can.shadows; objects = can.objects };
+        has =
+            record {
+              log = log_room (dues_from n hosts.kernels) (dues_from (n + 1) hosts.kernels) (dues_next hosts.kernels n k at) was.room;
+              rows = can.rows;
+              shadows = can.shadows;
+              objects = can.objects;
+            };
         buffers = can.buffers;
         skip = can.skip;
       }
@@ -197,7 +209,8 @@ most_same b [] h k new at same = refl
 most_same b (x ∷ ks) zero k new at same = ap (λ (z : ℕ). z + most_of b ks) (same ∙ ap (λ (z : Parts). most b z) (sym (same_Some x k at)))
 most_same b (x ∷ ks) (suc h) k new at same = ap (λ (z : ℕ). most b x + z) (most_same b ks h k new at same)
 
-pub ready_same : (b : Breadth) (hosts : HostTable) (h : ℕ) (k new : Parts) (events space : ℕ) → slice_get hosts.kernels h ≡ Some k → (IsReadyOn b k → IsReadyOn b new) → most b new ≡ most b k → IsReady b events hosts space
+pub ready_same : (b : Breadth) (hosts : HostTable) (h : ℕ) (k new : Parts) (events space : ℕ) → slice_get hosts.kernels h ≡ Some k
+    → (IsReadyOn b k → IsReadyOn b new) → most b new ≡ most b k → IsReady b events hosts space
     → IsReady b events (put hosts h new hosts.ids) space
 ready_same b hosts h k new events space at keeps same ready = record {
   each = λ g m found. elim (set_cases hosts.kernels h g new m (slice_get_within hosts.kernels h k at) found) [

@@ -1,5 +1,8 @@
 -- Which files belong to other hosts: those that another kernel knows.
-use Rattle.vm_hosts.proofs.Common.{AllRest, Bool, Event, Header, HostTable, List, None, ObjectRow, Option, Parts, Some, ap, arith, false, home_of, if◌then◌else◌, in_use, inl, inr, is_elsewhere, is_file, is_file_kept, is_file_kind, is_on, is_some, kind_in, kind_of, knows_file, length, named, nat_lt, not, object_at, refl, same_Some, slice_get, subst, sym, true, ℕ, ℕ_discrete, ◌&&◌, ◌+◌, ◌<◌, ◌∙◌, ◌≡◌, ◌≢◌}
+use Rattle.vm_hosts.proofs.Common.{AllRest, Bool, Event, Header, HostTable, List, None, ObjectRow, Option, Parts, Some, ap, arith, false, home_of}
+use Rattle.vm_hosts.proofs.Common.{if◌then◌else◌, in_use, inl, inr, is_elsewhere, is_file, is_file_kept, is_file_kind, is_on, is_some, kind_in, kind_of}
+use Rattle.vm_hosts.proofs.Common.{knows_file, length, named, nat_lt, not, object_at, refl, same_Some, slice_get, subst, sym, true, ℕ, ℕ_discrete, ◌&&◌, ◌+◌}
+use Rattle.vm_hosts.proofs.Common.{◌<◌, ◌∙◌, ◌≡◌, ◌≢◌}
 use Rattle.vm_abroad.specs.Home.{HaveHomes}
 use Rattle.vm_model.specs.Named.{declared}
 use Rattle.vm_model.specs.declared.script.Declared.{Declared}
@@ -27,7 +30,8 @@ file_kind header o = by_number (nat_lt o (named header)) (declared header o)
     by_number false x = refl
 
 -- a file that a host knows is known as one
-knows_same : (header : Header) (o : ℕ) (x : Option ObjectRow) → ((known : ObjectRow) → x ≡ Some known → IsOfKind header o known) → knows_file x ≡ (is_some x && is_file header o)
+knows_same : (header : Header) (o : ℕ) (x : Option ObjectRow) → ((known : ObjectRow) → x ≡ Some known → IsOfKind header o known)
+    → knows_file x ≡ (is_some x && is_file header o)
 knows_same header o None kinds = refl
 knows_same header o (Some known) kinds = ap is_file_kind (known_kind header o known (kinds known refl)) ∙ file_kind header o
 
@@ -43,11 +47,13 @@ module _ (header : Header) (hosts : HostTable) (past : List Event) (o : ℕ) (al
   homeless : HaveHomes header past
   homeless = (common_all header hosts past all).homeless
 
-  knows_at : (g : ℕ) (k : Parts) → slice_get hosts.kernels g ≡ Some k → knows_file (object_at k.memory.objects o) ≡ (is_some (object_at k.memory.objects o) && is_file header o)
+  knows_at : (g : ℕ) (k : Parts) → slice_get hosts.kernels g ≡ Some k
+      → knows_file (object_at k.memory.objects o) ≡ (is_some (object_at k.memory.objects o) && is_file header o)
   knows_at g k found = knows_same header o (object_at k.memory.objects o) (λ known is. (all.rests g k found).matches.kinds.kinds o known is)
 
   -- another host knows it, so it isn't in use on this one
-  pub known_elsewhere : (h g : ℕ) (k : Parts) → slice_get hosts.kernels g ≡ Some k → g ≢ h → knows_file (object_at k.memory.objects o) ≡ true → is_elsewhere header o (Some h) past ≡ true
+  pub known_elsewhere : (h g : ℕ) (k : Parts) → slice_get hosts.kernels g ≡ Some k → g ≢ h → knows_file (object_at k.memory.objects o) ≡ true
+      → is_elsewhere header o (Some h) past ≡ true
   known_elsewhere h g k found apart knows =
       let parts = both_true (is_some (object_at k.memory.objects o)) (is_file header o) (sym (knows_at g k found) ∙ knows) in
       let home : home_of o past ≡ Some g = home_is g (home_of o past) ((all.rests g k found).matches.files o parts.1 ∙ parts.0) in
@@ -57,7 +63,8 @@ module _ (header : Header) (hosts : HostTable) (past : List Event) (o : ℕ) (al
       by_use true used home = absurd (apart (sym (homeless.stay h g o used home)))
       by_use false unused home = refl
 
-  pub none_more : (h n : ℕ) (k : Parts) → slice_get hosts.kernels n ≡ Some k → (n ≢ h → knows_file (object_at k.memory.objects o) ≡ false) → NoneKnows hosts o h n → NoneKnows hosts o h (n + 1)
+  pub none_more : (h n : ℕ) (k : Parts) → slice_get hosts.kernels n ≡ Some k → (n ≢ h → knows_file (object_at k.memory.objects o) ≡ false)
+      → NoneKnows hosts o h n → NoneKnows hosts o h (n + 1)
   none_more h n k at none was g m less apart found = elim (ℕ_discrete g n) [
     | yes same ↦
         let one : Some k ≡ Some m = sym at ∙ (ap (slice_get hosts.kernels) (sym same) ∙ found) in
@@ -76,7 +83,8 @@ module _ (header : Header) (hosts : HostTable) (past : List Event) (o : ℕ) (al
         | no apart ↦
             let known = all.homes o g home in
             let some = kernel_of header hosts past all g known in
-            let here : is_some (object_at some.0.memory.objects o) ≡ true = sym ((all.rests g some.0 some.1).matches.files o file) ∙ (ap (is_on g) home ∙ same_number g) in
+            let here : is_some (object_at some.0.memory.objects o) ≡ true = sym ((all.rests g some.0 some.1).matches.files o file)
+            ∙ (ap (is_on g) home ∙ same_number g) in
             let knows : knows_file (object_at some.0.memory.objects o) ≡ true = knows_at g some.0 some.1 ∙ rw (here, file) refl in
             let bad : false ≡ true = sym (none g some.0 (omega (arith, known, count)) apart some.1) ∙ knows in
             absurd (cc)

@@ -1,10 +1,13 @@
 -- Each host makes room for a step in its tables: what the kernels stand for stays, and what they add is summed up.
-use Rattle.vm_hosts.proofs.Common.{AllQueued, AllRest, Breadth, Event, HasQueue, Header, HostTable, Ids, IsReady, IsReadyOn, List, Parts, Rests, Some, [], add-one, ap, arith, inl, inr, length, length-set, most, most_of, refl, rests_roomier, rooms_of, set, slice_get, slice_get_within, subst, suc, sym, with_rooms, with_rooms_of, zero, ℕ, ◌+◌, ◌<◌, ◌∙◌, ◌∷◌, ◌≡◌, ◌≤◌}
+use Rattle.vm_hosts.proofs.Common.{AllQueued, AllRest, Breadth, Event, HasQueue, Header, HostTable, Ids, IsReady, IsReadyOn, List, Parts, Rests, Some, []}
+use Rattle.vm_hosts.proofs.Common.{add-one, ap, arith, inl, inr, length, length-set, most, most_of, refl, rests_roomier, rooms_of, set, slice_get}
+use Rattle.vm_hosts.proofs.Common.{slice_get_within, subst, suc, sym, with_rooms, with_rooms_of, zero, ℕ, ◌+◌, ◌<◌, ◌∙◌, ◌∷◌, ◌≡◌, ◌≤◌}
 use Rattle.std.specs.Prelude.{Err, Ok, OnErr, Result}
 use Rattle.vm_hosts.proofs.Tables.{put, set_cases}
 
 -- the list of frames that a reclaim passes over is kept for its memory alone
-rests_skip : (header : Header) (h : ℕ) (new old : Parts) (ids : Ids) (past : List Event) → Rests header h old ids past → Rests header h (record old { skip = new.skip }) ids past
+rests_skip : (header : Header) (h : ℕ) (new old : Parts) (ids : Ids) (past : List Event) → Rests header h old ids past
+    → Rests header h (record old { skip = new.skip }) ids past
 rests_skip header h new old ids past was =
     let m = was.matches in
     record {
@@ -40,14 +43,18 @@ rests_skip header h new old ids past was =
     }
 
 -- a kernel with other rooms stands for the same
-rests_rooms : (header : Header) (h : ℕ) (new old : Parts) (ids : Ids) (past : List Event) → new ≡ with_rooms_of new old → Rests header h old ids past → Rests header h new ids past
+rests_rooms : (header : Header) (h : ℕ) (new old : Parts) (ids : Ids) (past : List Event) → new ≡ with_rooms_of new old → Rests header h old ids past
+    → Rests header h new ids past
 rests_rooms header h new old ids past is was =
-    subst (λ (z : Parts). Rests header h z ids past) (sym is) (rests_skip header h new (with_rooms (rooms_of new) old) ids past (rests_roomier header h (rooms_of new) old ids past was))
+    subst (λ (z : Parts). Rests header h z ids past) (sym is) (rests_skip header h new (with_rooms (rooms_of new) old) ids past
+    (rests_roomier header h (rooms_of new) old ids past was))
 
-queue_rooms : (header : Header) (h : ℕ) (new old : Parts) (past : List Event) → new ≡ with_rooms_of new old → HasQueue header h old past → HasQueue header h new past
+queue_rooms : (header : Header) (h : ℕ) (new old : Parts) (past : List Event) → new ≡ with_rooms_of new old → HasQueue header h old past
+    → HasQueue header h new past
 queue_rooms header h new old past is was = subst (λ (z : Parts). HasQueue header h z past) (sym is) was
 
-module _ (hosts : HostTable) (h : ℕ) (new k : Parts) (next : Ids) (at : slice_get hosts.kernels h ≡ Some k) (is : new ≡ with_rooms_of new k) (ids : next ≡ hosts.ids) (header : Header) (past : List Event) where
+module _ (hosts : HostTable) (h : ℕ) (new k : Parts) (next : Ids) (at : slice_get hosts.kernels h ≡ Some k) (is : new ≡ with_rooms_of new k)
+    (ids : next ≡ hosts.ids) (header : Header) (past : List Event) where
   within : h < length hosts.kernels
   within = slice_get_within hosts.kernels h k at
 
@@ -89,7 +96,8 @@ most_step b (x ∷ ks) zero k less = plus_none (most b k)
   where
     plus_none : (a : ℕ) → a + 0 ≡ 0 + a
     plus_none a = omega arith
-most_step b (x ∷ ks) (suc n) k less = plus_more (most b x) (most_below b (suc n) (set ks n k)) (most_below b n ks) (most b k) (most_step b ks n k (omega (arith, less)))
+most_step b (x ∷ ks) (suc n) k less =
+    plus_more (most b x) (most_below b (suc n) (set ks n k)) (most_below b n ks) (most b k) (most_step b ks n k (omega (arith, less)))
   where
     plus_more : (a b c d : ℕ) → b ≡ c + d → a + b ≡ a + c + d
     plus_more a b c d is = omega (arith, is)
@@ -109,10 +117,12 @@ pub record Reserving (b : Breadth) (first : HostTable) (n sum : ℕ) (hosts : Ho
   pub adds : sum ≡ most_below b n hosts.kernels
 
 pub reserving_start : (b : Breadth) (hosts : HostTable) → Reserving b hosts 0 0 hosts
-reserving_start b hosts = record { rests = λ header past all. all; queues = λ header past all queues. queues; each = λ h k less found. absurd (omega arith); adds = refl }
+reserving_start b hosts =
+    record { rests = λ header past all. all; queues = λ header past all queues. queues; each = λ h k less found. absurd (omega arith); adds = refl }
 
 -- one more has tried to
-pub reserving_tried : (b : Breadth) (first hosts : HostTable) (n sum : ℕ) (new k : Parts) → slice_get hosts.kernels n ≡ Some k → new ≡ with_rooms_of new k → Reserving b first n sum hosts
+pub reserving_tried : (b : Breadth) (first hosts : HostTable) (n sum : ℕ) (new k : Parts) → slice_get hosts.kernels n ≡ Some k → new ≡ with_rooms_of new k
+    → Reserving b first n sum hosts
     → ((header : Header) (past : List Event) → AllRest header first past → AllRest header (put hosts n new hosts.ids) past)
     × ((header : Header) (past : List Event) → AllRest header first past → AllQueued header first past → AllQueued header (put hosts n new hosts.ids) past)
 reserving_tried b first hosts n sum new k at is was = (
@@ -120,7 +130,8 @@ reserving_tried b first hosts n sum new k at is was = (
   λ header past all queues. queued_rooms hosts n new k hosts.ids at is refl header past (was.queues header past all queues),
 )
 
-pub reserving_next : (b : Breadth) (first hosts : HostTable) (n sum told after : ℕ) (new k : Parts) → slice_get hosts.kernels n ≡ Some k → new ≡ with_rooms_of new k → IsReadyOn b new → told ≡ most b new → after ≡ sum + told → Reserving b first n sum hosts
+pub reserving_next : (b : Breadth) (first hosts : HostTable) (n sum told after : ℕ) (new k : Parts) → slice_get hosts.kernels n ≡ Some k
+    → new ≡ with_rooms_of new k → IsReadyOn b new → told ≡ most b new → after ≡ sum + told → Reserving b first n sum hosts
     → Reserving b first (n + 1) after (put hosts n new hosts.ids)
 reserving_next b first hosts n sum told after new k at is ready tells adds was =
     let within = slice_get_within hosts.kernels n k at in
@@ -135,9 +146,11 @@ reserving_next b first hosts n sum told after new k at is ready tells adds was =
       adds = adds ∙ (ap (λ (z : ℕ). sum + z) tells ∙ (ap (λ (z : ℕ). z + most b new) was.adds ∙ sym (most_next b hosts.kernels n new within)));
     }
 
-pub reserving_done : (b : Breadth) (first hosts : HostTable) (n sum space : ℕ) → length hosts.kernels ≡ n → sum ≤ space → Reserving b first n sum hosts → IsReady b sum hosts space
+pub reserving_done : (b : Breadth) (first hosts : HostTable) (n sum space : ℕ) → length hosts.kernels ≡ n → sum ≤ space → Reserving b first n sum hosts
+    → IsReady b sum hosts space
 reserving_done b first hosts n sum space all room was =
-    let whole : most_below b n hosts.kernels ≡ most_of b hosts.kernels = subst (λ (z : ℕ). most_below b z hosts.kernels ≡ most_of b hosts.kernels) all (most_all b hosts.kernels) in
+    let whole : most_below b n hosts.kernels ≡ most_of b hosts.kernels = subst (λ (z : ℕ). most_below b z hosts.kernels ≡ most_of b hosts.kernels) all
+    (most_all b hosts.kernels) in
     let is = was.adds in
     record {
       each = λ h k found. was.each h k (let within = slice_get_within hosts.kernels h k found in omega (arith, within, all)) found;
@@ -146,7 +159,8 @@ reserving_done b first hosts n sum space all room was =
     }
 
 -- a number that fits, and room in the log for so many events more
-pub ready_whole : (b : Breadth) (adds events more sum space : ℕ) (hosts : HostTable) → events ≡ adds → sum ≡ events + more → sum ≤ space → ((z : ℕ) → adds ≤ z → IsReady b adds hosts z) → IsReady b events hosts space × (events + more ≤ space)
+pub ready_whole : (b : Breadth) (adds events more sum space : ℕ) (hosts : HostTable) → events ≡ adds → sum ≡ events + more → sum ≤ space
+    → ((z : ℕ) → adds ≤ z → IsReady b adds hosts z) → IsReady b events hosts space × (events + more ≤ space)
 ready_whole b adds events more sum space hosts same is fits ready =
     let within : events + more ≤ space = omega (arith, is, fits) in
     (subst (λ (z : ℕ). IsReady b z hosts space) (sym same) (ready space (omega (arith, within, same))), within)

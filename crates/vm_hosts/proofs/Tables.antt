@@ -1,5 +1,7 @@
 -- Kernels in their table, and what they say of all hosts.
-use Rattle.vm_hosts.proofs.Common.{AllRest, Event, FramesSuffice, Header, HostTable, Ids, IfSome, IsCommon, List, None, Option, Parts, Rests, Some, [], ap, arith, common_of, eqb_tells, frames_used, get_or, inl, inr, length, length-reverse, refl, reverse, same_Some, set, slice_get, slice_get_read, slice_get_within, subst, suc, suffices, sym, true, zero, ℕ, ◌<◌, ◌==◌, ◌∷◌, ◌≡◌, ◌≢◌, ◌≤◌, ◌⊎◌}
+use Rattle.vm_hosts.proofs.Common.{AllRest, Event, FramesSuffice, Header, HostTable, Ids, IfSome, IsCommon, List, None, Option, Parts, Rests, Some, [], ap}
+use Rattle.vm_hosts.proofs.Common.{arith, common_of, eqb_tells, frames_used, get_or, inl, inr, length, length-reverse, refl, reverse, same_Some, set, slice_get}
+use Rattle.vm_hosts.proofs.Common.{slice_get_read, slice_get_within, subst, suc, suffices, sym, true, zero, ℕ, ◌<◌, ◌==◌, ◌∷◌, ◌≡◌, ◌≢◌, ◌≤◌, ◌⊎◌}
 
 pub same_number : (n : ℕ) → (n == n) ≡ true
 same_number n = elim (eqb_tells n n) [ inl same ↦ same.0 | inr apart ↦ absurd (apart.1 refl) ]
@@ -14,7 +16,8 @@ kernel_at (k ∷ ks) (suc h) within = kernel_at ks h (omega arith)
 abbrev pub put : HostTable → ℕ → Parts → Ids → HostTable
 put hosts h k ids = record { kernels = set hosts.kernels h k; ids = ids }
 
-pub set_cases : (ks : List Parts) (h g : ℕ) (k m : Parts) → h < length ks → slice_get (set ks h k) g ≡ Some m → ((g ≡ h) × (k ≡ m)) ⊎ ((g ≢ h) × (slice_get ks g ≡ Some m))
+pub set_cases : (ks : List Parts) (h g : ℕ) (k m : Parts) → h < length ks → slice_get (set ks h k) g ≡ Some m → ((g ≡ h) × (k ≡ m))
+    ⊎ ((g ≢ h) × (slice_get ks g ≡ Some m))
 set_cases [] h g k m within is = absurd (omega arith)
 set_cases (x ∷ ks) zero zero k m within is = inl (refl, same_Some k m is)
 set_cases (x ∷ ks) zero (suc g) k m within is = inr (λ same. omega arith, is)
@@ -25,7 +28,8 @@ set_cases (x ∷ ks) (suc h) (suc g) k m within is = elim (set_cases ks h g k m 
 ]
 
 -- the kernel of a host of the header
-pub kernel_of : (header : Header) (hosts : HostTable) (past : List Event) → AllRest header hosts past → (h : ℕ) → h < length header.frames.items → (k : Parts) × (slice_get hosts.kernels h ≡ Some k)
+pub kernel_of : (header : Header) (hosts : HostTable) (past : List Event) → AllRest header hosts past → (h : ℕ) → h < length header.frames.items → (k : Parts)
+    × (slice_get hosts.kernels h ≡ Some k)
 kernel_of header hosts past all h known = let count = all.count in kernel_at hosts.kernels h (omega (arith, count, known))
 
 -- the kernel that stands at a place
@@ -49,7 +53,8 @@ all_suffice header hosts past all g = by_frames (slice_get (reverse header.frame
         let within = slice_get_within (reverse header.frames.items) g frames is in
         let same = length-reverse header.frames.items in
         let some = kernel_of header hosts past all g (omega (arith, within, same)) in
-        subst (λ (z : Option ℕ). IfSome z (λ most. frames_used header.size g past ≤ most)) is (suffices header g some.0.memory.frames past (all.rests g some.0 some.1).matches.frames)
+        subst (λ (z : Option ℕ). IfSome z (λ most. frames_used header.size g past ≤ most)) is
+        (suffices header g some.0.memory.frames past (all.rests g some.0 some.1).matches.frames)
 
 -- the kernel of a host, which goes by its own number
 pub record Found (header : Header) (hosts : HostTable) (past : List Event) (h : ℕ) (k : Parts) : Type 0 where
@@ -58,7 +63,8 @@ pub record Found (header : Header) (hosts : HostTable) (past : List Event) (h : 
   pub rests : Rests header k.host.0 k hosts.ids past
   pub number : k.host.0 ≡ h
 
-pub found : (header : Header) (hosts : HostTable) (past : List Event) (h : ℕ) (k : Parts) → AllRest header hosts past → h < length header.frames.items → k ≡ get_or hosts.kernels h k → Found header hosts past h k
+pub found : (header : Header) (hosts : HostTable) (past : List Event) (h : ℕ) (k : Parts) → AllRest header hosts past → h < length header.frames.items
+    → k ≡ get_or hosts.kernels h k → Found header hosts past h k
 found header hosts past h k all known read =
     let count = all.count in
     let within : h < length hosts.kernels = omega (arith, count, known) in

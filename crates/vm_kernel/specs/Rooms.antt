@@ -3,6 +3,7 @@ use Rattle.std.specs.Prelude.{ℕ, zero, suc, ◌+◌, ◌*◌, ◌-◌, ◌<◌
 use Rattle.vm_base.specs.declared.ids.PageKey.{PageKey}
 use Rattle.vm_base.specs.Listing.{Listed}
 use Rattle.vm_frames.specs.Frames.{FrameTable, frame_count, free}
+use Rattle.vm_maps.specs.Maps.{rows_in}
 use Rattle.vm_model.specs.declared.command.Command.{Command}
 use Rattle.vm_model.specs.declared.command.Command.TheVariants as command
 use Rattle.vm_model.specs.declared.event.Event.{Event}
@@ -102,7 +103,7 @@ HasBuffers k = returning k + 1 ≤ k.memory.buffers.count
 
 -- how much a command may tell
 abbrev pub breadth_of : Command → Breadth
-breadth_of (command.Fork task child) = breadth.Entries
+breadth_of (command.Fork task child) = breadth.Entries task
 breadth_of (command.Exit task) = breadth.Pages
 breadth_of (command.Deallocate task address bytes) = breadth.Pages
 breadth_of (command.Pageout host count) = breadth.Pages
@@ -115,12 +116,16 @@ word_breadth (message.Lock page count returns flush lock reply) = breadth.Pages
 word_breadth (message.Error page reason) = breadth.Pages
 word_breadth other = breadth.Few
 
--- What is told at most in front of the accesses that are run: some events; a fork makes a task and copies 256 entries; a copy may wait for its pages, and then each frame
+-- what a fork of a task tells and makes at most: it makes a task, and copies each entry
+abbrev pub of_entries : ℕ → Parts → ℕ
+of_entries task k = 1 + 4 * length (rows_in task k.maps)
+
+-- What is told at most in front of the accesses that are run: some events; a fork makes a task and copies entries; a copy may wait for its pages, and then each frame
 -- counts twice; an end takes each page and each control, a pageout reclaims each page, of which a new pager may be told, a lock request may have each page given back,
 -- and an error may end slow copies.
 abbrev pub front : Breadth → Parts → ℕ
 front breadth.Few k = 5
-front breadth.Entries k = 1025
+front (breadth.Entries task) k = of_entries task.0 k
 front breadth.Frames k = 2 * frame_count k.memory.frames + 5
 front breadth.Pages k = 2 * frame_count k.memory.frames + length k.memory.objects.entries + 1
 
@@ -143,7 +148,7 @@ pub record Dies (m : Message) (old new : Parts) : Type 0 where
 -- how many rows of each table that takes, at most
 abbrev pub making : Breadth → Parts → ℕ
 making breadth.Few k = 5
-making breadth.Entries k = 1025
+making (breadth.Entries task) k = of_entries task.0 k
 making breadth.Frames k = 2 * frame_count k.memory.frames + 5
 making breadth.Pages k = 0
 

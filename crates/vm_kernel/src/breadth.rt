@@ -2,6 +2,7 @@
 ghost use Rattle.std.specs.Prelude.{◌≡◌};
 ghost use Rattle.vm_kernel.specs.Rooms.{breadth_of, word_breadth};
 
+use vm_base::TaskId;
 use vm_model::{Command, Message};
 
 /// How much a step may tell on a host in front of the accesses that are run, and so for how much it takes
@@ -11,7 +12,7 @@ pub enum Breadth {
     /// Some events.
     Few,
     /// The entries of a task, which a fork copies.
-    Entries,
+    Entries(TaskId),
     /// Each frame of a host twice: a copy may wait for its pages.
     Frames,
     /// The pages and the controls of a host, which go with a task, a range or a slow copy, or are paged
@@ -25,7 +26,7 @@ impl Breadth {
         ensures { result ≡ breadth_of command.now }
     {
         match command {
-            Command::Fork { .. } => Breadth::Entries,
+            Command::Fork { task, .. } => Breadth::Entries(*task),
             Command::Copy { .. } => Breadth::Frames,
             Command::Exit { .. } | Command::Deallocate { .. } | Command::Pageout { .. } => {
                 Breadth::Pages

@@ -75,7 +75,7 @@ fn skip_page(
 
 impl Parts {
     // Reclaims pages, as many as are asked for or as there are that aren't spared.
-    #[tactic(auto, using(crate::proofs::Playing::plays_still))]
+    #[tactic(auto, using(crate::proofs::lists::ListsAsTold::plays_still))]
     pub fn pageout(&mut self, ids: &Ids, count: u32, log: &mut Events) -> Result<(), NoMemory>
         ghost given: { Doing }
         requires is { given.command ≡ command.Pageout (host_id given.host) count }

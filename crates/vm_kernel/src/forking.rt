@@ -9,7 +9,7 @@ ghost use Rattle.vm_model.specs.declared.command.Command.TheVariants as command;
 ghost use Rattle.vm_kernel.specs.Begun.{Ran, Given, Starts};
 ghost use Rattle.vm_kernel.specs.Forking.{CanCopy, CanShare, EntersCopy, Shares};
 ghost use Rattle.vm_kernel.specs.Plays.{Plays, paging};
-ghost use Rattle.vm_kernel.specs.Rooms.{HasBuffers, HasMore, HasRoom, IsRoomy, IsSkipRoom, KeepsSpare, Spends, dues, front, full_dues, making, to_run};
+ghost use Rattle.vm_kernel.specs.Rooms.{HasBuffers, HasMore, HasRoom, IsRoomy, IsSkipRoom, KeepsSpare, Spends, dues, front, full_dues, making, of_entries, to_run};
 ghost use Rattle.vm_kernel.specs.declared.breadth.Breadth.TheVariants as wide;
 ghost use Rattle.vm_kernel.specs.Turns.{QueueIsStill, Restarted};
 ghost use Rattle.vm_shadow.specs.declared.ids.Ids.{Ids as Numbers};
@@ -37,8 +37,8 @@ impl Parts {
         ensures ran { OnOk result (Ran given.header given.host given.outside (command.Fork task child) given.past self.new ids.new log.new.items) }
         ensures plays { OnOk result (Plays given.header given.past log.old.items (paging self.old) log.new.items (paging self.new)) }
         ensures quiet { OnOk result (QueueIsStill self.old.waits.queue self.new.waits.queue log.old.items log.new.items) }
-        ensures spends { OnOk result (Spends 1025 1025 0 self.old log.old self.new log.new) }
-        ensures err { IsRoomy 1025 1025 self.old log.old.room → OnErr result ((self.new ≡ self.old) × ((ids.new ≡ ids.old) × (log.new.items ≡ log.old.items))) }
+        ensures spends { OnOk result (Spends (of_entries task.0 self.old) (of_entries task.0 self.old) 0 self.old log.old self.new log.new) }
+        ensures err { IsRoomy (of_entries task.0 self.old) (of_entries task.0 self.old) self.old log.old.room → OnErr result ((self.new ≡ self.old) × ((ids.new ≡ ids.old) × (log.new.items ≡ log.old.items))) }
         ensures spare { OnOk result (KeepsSpare self.old self.new) }
     {
         self.maps.add_task(child)?;

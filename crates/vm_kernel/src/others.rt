@@ -15,7 +15,7 @@ ghost use Rattle.vm_kernel.specs.declared.parts.Parts.{Parts};
 
 /// What is no event of a host leaves what its kernel stands for: its parts, its frame queue, and that
 /// nobody of the host waits in vain; nor does it take a frame there.
-#[tactic(auto, using(crate::proofs::Abroad::frames_abroad))]
+#[tactic(auto, using(crate::proofs::abroad::OthersEvents::frames_abroad))]
 pub fn others_leave_the_kernel()
     ensures rests { (header : Header) (outside : Outside) (h : ℕ) (k : Parts) (ids next : Ids) (events past : List Event) → Sound header past → Rests header h k ids past → EachIn (IsAbroad header outside h) events past → IsCommon header next (events ++ past) → Rests header h k next (events ++ past) }
     ensures queue { (header : Header) (outside : Outside) (h : ℕ) (k : Parts) (ids : Ids) (events past : List Event) → Sound header past → Rests header h k ids past → EachIn (IsAbroad header outside h) events past → HasQueue header h k past → HasQueue header h k (events ++ past) }

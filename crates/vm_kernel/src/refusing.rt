@@ -43,7 +43,7 @@ fn is_copy_full(declared: u32, chains: &Chains, ids: &Ids, source: RegionId) -> 
 
 // Whether a fork of these entries makes too many regions, or leaves too few objects for those that are
 // marked. No more sources are marked than entries are copied: which ones is looked up near the limit alone.
-#[tactic(auto, using(crate::proofs::Copied::marks_few))]
+#[tactic(auto, using(crate::proofs::space::CopiesCounted::marks_few))]
 fn makes_too_many(entries: &Entries, chains: &Chains, ids: &Ids) -> bool
     ensures { result ≡ makes_too_many chains.now (by_address entries.now) ids.now }
 {

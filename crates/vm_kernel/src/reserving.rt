@@ -1,16 +1,13 @@
 // Room for a step.
 ghost use Rattle.std.specs.Prelude.{◌≡◌, ◌+◌, ◌<◌, ◌≤◌, ◌^◌, OnOk, length, true, vec_capacity};
-ghost use Rattle.vm_kernel.specs.Rooms.{HasReturns, IsReady, front, full_dues, making, most, returning, with_buffers, with_rooms_of};
+ghost use Rattle.vm_kernel.specs.Rooms.{HasReturns, IsReady, front, full_dues, making, most, of_entries, returning, with_buffers, with_rooms_of};
 ghost use Rattle.vm_kernel.specs.Taking.{is_lock_request};
 ghost use Rattle.vm_parts.specs.Listed.{listed_pages};
 
 use crate::breadth::Breadth;
 use crate::parts::Parts;
-use vm_base::NoMemory;
+use vm_base::{NoMemory, TaskId};
 use vm_model::{Command, Message};
-
-// What a fork tells and makes at most: it makes a task, and copies 256 entries.
-const OF_ENTRIES: u32 = 1025;
 
 // What the other commands tell in front of the accesses that are run, but for pages that go, and what they make.
 const OF_FEW: u32 = 5;
@@ -49,10 +46,21 @@ impl Parts {
         let frames = u64::from(self.memory.frames.count());
         match breadth {
             Breadth::Few => u64::from(OF_FEW),
-            Breadth::Entries => u64::from(OF_ENTRIES),
+            Breadth::Entries(task) => self.of_entries(task),
             Breadth::Frames => 2 * frames + u64::from(OF_FEW),
             Breadth::Pages => 2 * frames + self.memory.objects.count() as u64 + 1,
         }
+    }
+
+    // What a fork of a task tells and makes at most: it makes a task, and copies each entry.
+    fn of_entries(&self, task: TaskId) -> u64
+        ensures entries { result ≡ of_entries task.0 self.now }
+        ensures small { result ≤ 1025 }
+    {
+        if !self.maps.has(task) {
+            return 1;
+        }
+        4 * self.maps.entries(task).len() as u64 + 1
     }
 
     // The most rows that it takes in each table.
@@ -63,7 +71,7 @@ impl Parts {
         let frames = u64::from(self.memory.frames.count());
         match breadth {
             Breadth::Few => u64::from(OF_FEW),
-            Breadth::Entries => u64::from(OF_ENTRIES),
+            Breadth::Entries(task) => self.of_entries(task),
             Breadth::Frames => 2 * frames + u64::from(OF_FEW),
             Breadth::Pages => 0,
         }

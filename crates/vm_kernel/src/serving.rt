@@ -83,7 +83,7 @@ impl Parts {
     }
 
     /// Runs each access again that is to be, in the order in which they began.
-    #[tactic(auto, using(crate::proofs::Playing::plays_still))]
+    #[tactic(auto, using(crate::proofs::lists::ListsAsTold::plays_still))]
     pub fn restart(&mut self, ids: &mut Ids, log: &mut Events) -> Result<(), NoMemory>
         ghost given: { Doing }
         requires works { Works given.header given.host self.old ids.old woken.Nobody (log.old.items ++ given.past) }
@@ -104,7 +104,7 @@ impl Parts {
     }
 
     /// Serves the queue of accesses that want a frame, as far as it goes.
-    #[tactic(auto, using(crate::proofs::Playing::plays_still))]
+    #[tactic(auto, using(crate::proofs::lists::ListsAsTold::plays_still))]
     pub fn serve(&mut self, ids: &mut Ids, log: &mut Events) -> Result<(), NoMemory>
         ghost given: { Doing }
         requires rests { Rests given.header given.host self.old ids.old (log.old.items ++ given.past) }
@@ -129,7 +129,7 @@ impl Parts {
 
     // The front wants a frame and none is free: a page is reclaimed, but not the one that the front is
     // to copy, unless a return is on its way. True where the front has to wait.
-    #[tactic(auto, using(crate::proofs::Playing::plays_still))]
+    #[tactic(auto, using(crate::proofs::lists::ListsAsTold::plays_still))]
     fn stops(
         &mut self,
         ids: &Ids,

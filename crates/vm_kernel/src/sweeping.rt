@@ -19,7 +19,7 @@ use vm_terminate::finish;
 impl Parts {
     // Takes entries that have gone out of the counts, by rising address, and ends each region that
     // has none left.
-    #[tactic(auto, using(crate::proofs::Playing::plays_both, crate::proofs::Playing::plays_still))]
+    #[tactic(auto, using(crate::proofs::lists::ListsAsTold::plays_both, crate::proofs::lists::ListsAsTold::plays_still))]
     pub fn sweep(&mut self, ids: &Ids, gone: &Entries, log: &mut Events) -> Result<(), NoMemory>
         ghost given: { Doing }
         requires { Sweeps given.header given.host given.outside given.command given.past self.old ids.now (by_address gone.now) log.old.items }
@@ -39,7 +39,7 @@ impl Parts {
     }
 
     // Takes one entry out of the counts.
-    #[tactic(auto, using(crate::proofs::Playing::plays_still))]
+    #[tactic(auto, using(crate::proofs::lists::ListsAsTold::plays_still))]
     fn release(
         &mut self,
         ids: &Ids,

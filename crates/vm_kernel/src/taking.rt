@@ -60,7 +60,7 @@ impl Parts {
     }
 
     // Lets those be run again whom an answer wakes, and ends those whose page has failed.
-    #[tactic(auto, using(crate::proofs::Playing::plays_still))]
+    #[tactic(auto, using(crate::proofs::lists::ListsAsTold::plays_still))]
     fn wake(&mut self, ids: &Ids, woken: Woken, log: &mut Events) -> Result<(), NoMemory>
         ghost given: { Doing }
         requires works { Works given.header given.host self.old ids.now woken (log.old.items ++ given.past) }
@@ -95,7 +95,7 @@ impl Parts {
     }
 
     // Ends each access that waits for a page that its pager can't give, and the region that it fills.
-    #[tactic(auto, using(crate::proofs::Playing::plays_still))]
+    #[tactic(auto, using(crate::proofs::lists::ListsAsTold::plays_still))]
     fn fail(&mut self, ids: &Ids, key: PageKey, log: &mut Events) -> Result<(), NoMemory>
         ghost given: { Erring }
         requires page { given.page ≡ key }

@@ -1,5 +1,10 @@
 -- What a pager answers, as events of a step.
-use Rattle.vm_system.proofs.Common.{AllInner, Bool, Device, Down, EachIn, EachOf, Event, FramesSuffice, Header, Held, IsAreaTold, IsConsequence, IsInner, IsNobodys, IsSome, IsToPager, IsWordUp, KeepsShape, LeavesAreas, List, Listed, Message, MomentsIn, None, ObjectId, Ok, Option, OwnBytes, PageNo, PagerAnswer, Put, PutEffects, PutTold, RequestAnswer, ReturnsWhole, SameAreas, SlotTable, Some, Suffice, TellsFault, Told, Up, [], ap, area_name, arith, became, device_failed, devices, error, false, held_at, held_slot, if◌then◌else◌, inl, inr, is_device, is_some, nat_tests, Read, refl, sent_to, slot_in_table, subst, sym, told_of, true, ℕ, ◌++◌, ◌+◌, ◌∙◌, ◌∷◌, ◌≡◌, ◌≤◌, ◌⊎◌}
+use Rattle.vm_system.proofs.Common.{AllInner, Bool, Device, Down, EachIn, EachOf, Event, FramesSuffice, Header, Held, IsAreaTold, IsConsequence, IsInner}
+use Rattle.vm_system.proofs.Common.{IsNobodys, IsSome, IsToPager, IsWordUp, KeepsShape, LeavesAreas, List, Listed, Message, MomentsIn, None, ObjectId, Ok}
+use Rattle.vm_system.proofs.Common.{Option, OwnBytes, PageNo, PagerAnswer, Put, PutEffects, PutTold, RequestAnswer, ReturnsWhole, SameAreas, SlotTable, Some}
+use Rattle.vm_system.proofs.Common.{Suffice, TellsFault, Told, Up, [], ap, area_name, arith, became, device_failed, devices, error, false, held_at, held_slot}
+use Rattle.vm_system.proofs.Common.{if◌then◌else◌, inl, inr, is_device, is_some, nat_tests, Read, refl, sent_to, slot_in_table, subst, sym, told_of, true, ℕ}
+use Rattle.vm_system.proofs.Common.{◌++◌, ◌+◌, ◌∙◌, ◌∷◌, ◌≡◌, ◌≤◌, ◌⊎◌}
 use Rattle.std.proofs.Common.{◌==◌, ◌&&◌}
 use Rattle.pg_slots.specs.declared.answers.Put.TheVariants as put
 use Rattle.pg_slots.specs.declared.slot_row.Held.TheVariants as held
@@ -29,7 +34,8 @@ IsReply by (event.NoSlot object page) = Unit {0}
 IsReply by (event.DeviceFailed who way object page) = who ≡ by
 IsReply by other = ⊥
 
-requested : (size host : ℕ) (object : ObjectId) (control : ℕ) (page : PageNo) (has : Option Held) (events : List Event) → RequestAnswer size host object control page has events → EachOf (IsReply Paging) events
+requested : (size host : ℕ) (object : ObjectId) (control : ℕ) (page : PageNo) (has : Option Held) (events : List Event)
+    → RequestAnswer size host object control page has events → EachOf (IsReply Paging) events
 requested size host object control page None events is = subst (λ (z : List Event). EachOf (IsReply Paging) z) (sym is) (tt, tt)
 requested size host object control page (Some held.Lost) events is = subst (λ (z : List Event). EachOf (IsReply Paging) z) (sym is) (tt, tt)
 requested size host object control page (Some (held.Torn s)) events is = subst (λ (z : List Event). EachOf (IsReply Paging) z) (sym is) (tt, tt)
@@ -41,11 +47,13 @@ told put.Kept object page = tt
 told put.NoSlot object page = (tt, tt)
 told put.Failed object page = (refl, tt)
 
-pub replies : (m : Message) (object : ObjectId) (old new : SlotTable) (events : List Event) → PagerAnswer m object old new events → EachOf (IsReply Paging) events
+pub replies : (m : Message) (object : ObjectId) (old new : SlotTable) (events : List Event) → PagerAnswer m object old new events
+    → EachOf (IsReply Paging) events
 replies (message.Init control size) object old new events a = subst (λ (z : List Event). EachOf (IsReply Paging) z) (sym a.1) (tt, tt)
 replies (message.Create control size) object old new events a = subst (λ (z : List Event). EachOf (IsReply Paging) z) (sym a.1) (tt, tt)
 replies (message.Request control page access) object old new events a = requested old.size old.host object control page (held_at old object.0 page.0) events a.1
-replies (message.Return control page dirty keep bytes) object old new events a = subst (λ (z : List Event). EachOf (IsReply Paging) z) (sym a.told) (told (became events) object page)
+replies (message.Return control page dirty keep bytes) object old new events a =
+    subst (λ (z : List Event). EachOf (IsReply Paging) z) (sym a.told) (told (became events) object page)
 replies (message.Terminate control) object old new events a = subst (λ (z : List Event). EachOf (IsReply Paging) z) (sym a.1) tt
 replies (message.Unlock control page access) object old new events a = subst (λ (z : List Event). EachOf (IsReply Paging) z) (sym a.1) tt
 replies (message.Completed control page count) object old new events a = subst (λ (z : List Event). EachOf (IsReply Paging) z) (sym a.1) tt
@@ -80,7 +88,8 @@ own_one header by (event.DeviceFailed who way object page) past reply = tt
 own_one header by other past reply = absurd reply
 
 -- it takes no frame
-suffice_one : (header : Header) (host : ℕ) (by : Device) (e : Event) (past : List Event) → IsReply by e → Suffice header host past → Suffice header host (e ∷ past)
+suffice_one : (header : Header) (host : ℕ) (by : Device) (e : Event) (past : List Event) → IsReply by e → Suffice header host past
+    → Suffice header host (e ∷ past)
 suffice_one header host by (event.Sent (Down at object control) m) past reply one = one
 suffice_one header host by (event.Sent (Up at object) m) past reply one = absurd reply
 suffice_one header host by (event.NoSlot object page) past reply one = one
@@ -113,15 +122,19 @@ pub reply_own : (header : Header) (by : Device) (events past : List Event) → E
 reply_own header by [] past reply = tt
 reply_own header by (e ∷ events) past reply = (own_one header by e (events ++ past) reply.0, reply_own header by events past reply.1)
 
-reply_last : (header : Header) (by : Device) (events past : List Event) → EachOf (IsReply by) events → FramesSuffice header past → FramesSuffice header (events ++ past)
+reply_last : (header : Header) (by : Device) (events past : List Event) → EachOf (IsReply by) events → FramesSuffice header past
+    → FramesSuffice header (events ++ past)
 reply_last header by [] past reply all = all
-reply_last header by (e ∷ events) past reply all = λ host. suffice_one header host by e (events ++ past) reply.0 (reply_last header by events past reply.1 all host)
+reply_last header by (e ∷ events) past reply all =
+    λ host. suffice_one header host by e (events ++ past) reply.0 (reply_last header by events past reply.1 all host)
 
-pub reply_frames : (header : Header) (by : Device) (events past : List Event) → EachOf (IsReply by) events → FramesSuffice header past → MomentsIn (FramesSuffice header) events past
+pub reply_frames : (header : Header) (by : Device) (events past : List Event) → EachOf (IsReply by) events → FramesSuffice header past
+    → MomentsIn (FramesSuffice header) events past
 reply_frames header by [] past reply all = tt
 reply_frames header by (e ∷ events) past reply all = (reply_last header by (e ∷ events) past reply all, reply_frames header by events past reply.1 all)
 
-pub reply_spares : (by who : Device) (events past : List Event) → is_device who by ≡ false → EachOf (IsReply by) events → devices who (events ++ past) ≡ devices who past
+pub reply_spares : (by who : Device) (events past : List Event) → is_device who by ≡ false → EachOf (IsReply by) events
+    → devices who (events ++ past) ≡ devices who past
 reply_spares by who [] past other reply = refl
 reply_spares by who (e ∷ events) past other reply = spares_one by who e (events ++ past) other reply.0 ∙ reply_spares by who events past other reply.1
 
@@ -130,10 +143,12 @@ pub record Faults (who : Device) (tells : Type 0) (events past : List Event) : T
   pub few : devices who (events ++ past) ≤ devices who past + 1
   pub cause : ((devices who (events ++ past) ≡ devices who past) × (tells → ⊥)) ⊎ ((devices who (events ++ past) ≡ devices who past + 1) × tells)
 
-pub no_fault : (who : Device) (tells : Type 0) (events past : List Event) → devices who (events ++ past) ≡ devices who past → (tells → ⊥) → Faults who tells events past
+pub no_fault : (who : Device) (tells : Type 0) (events past : List Event) → devices who (events ++ past) ≡ devices who past → (tells → ⊥)
+    → Faults who tells events past
 no_fault who tells events past none silent = record { few = omega (arith, none); cause = inl (none, silent) }
 
-pub one_fault : (who : Device) (tells : Type 0) (events past : List Event) → devices who (events ++ past) ≡ devices who past + 1 → tells → Faults who tells events past
+pub one_fault : (who : Device) (tells : Type 0) (events past : List Event) → devices who (events ++ past) ≡ devices who past + 1 → tells
+    → Faults who tells events past
 one_fault who tells events past one told = record { few = omega (arith, one); cause = inr (one, told) }
 
 -- the default pager's
@@ -146,7 +161,8 @@ faults_at events is past same faults = subst (λ (z : List Event). PagingFaults 
 silent_at : (events is past : List Event) → events ≡ is → devices Paging (is ++ past) ≡ devices Paging past → (TellsFault is → ⊥) → PagingFaults events past
 silent_at events is past same none silent = faults_at events is past same (no_fault Paging (TellsFault is) is past none silent)
 
-request_faults : (size host : ℕ) (object : ObjectId) (control : ℕ) (page : PageNo) (has : Option Held) (events past : List Event) → RequestAnswer size host object control page has events → PagingFaults events past
+request_faults : (size host : ℕ) (object : ObjectId) (control : ℕ) (page : PageNo) (has : Option Held) (events past : List Event)
+    → RequestAnswer size host object control page has events → PagingFaults events past
 request_faults size host object control page None events past is = silent_at events _ past is refl (λ t. t)
 request_faults size host object control page (Some held.Lost) events past is = silent_at events _ past is refl (λ t. t)
 request_faults size host object control page (Some (held.Torn s)) events past is = silent_at events _ past is refl (λ t. t)
@@ -160,11 +176,14 @@ told_faults put.Kept object page past = no_fault Paging ⊥ [] past refl (λ t. 
 told_faults put.NoSlot object page past = no_fault Paging ⊥ (told_of put.NoSlot object page) past refl (λ t. t)
 told_faults put.Failed object page past = one_fault Paging (Unit {0}) (told_of put.Failed object page) past refl tt
 
-pub faults : (m : Message) (object : ObjectId) (old new : SlotTable) (events past : List Event) → PagerAnswer m object old new events → Faults Paging (TellsFault events) events past
+pub faults : (m : Message) (object : ObjectId) (old new : SlotTable) (events past : List Event) → PagerAnswer m object old new events
+    → Faults Paging (TellsFault events) events past
 faults (message.Init control size) object old new events past a = silent_at events _ past a.1 refl (λ t. t)
 faults (message.Create control size) object old new events past a = silent_at events _ past a.1 refl (λ t. t)
-faults (message.Request control page access) object old new events past a = request_faults old.size old.host object control page (held_at old object.0 page.0) events past a.1
-faults (message.Return control page dirty keep bytes) object old new events past a = faults_at events (told_of (became events) object page) past a.told (told_faults (became events) object page past)
+faults (message.Request control page access) object old new events past a =
+    request_faults old.size old.host object control page (held_at old object.0 page.0) events past a.1
+faults (message.Return control page dirty keep bytes) object old new events past a =
+    faults_at events (told_of (became events) object page) past a.told (told_faults (became events) object page past)
 faults (message.Terminate control) object old new events past a = silent_at events [] past a.1 refl (λ t. t)
 faults (message.Unlock control page access) object old new events past a = silent_at events [] past a.1 refl (λ t. t)
 faults (message.Completed control page count) object old new events past a = silent_at events [] past a.1 refl (λ t. t)
@@ -188,22 +207,27 @@ same_told before after old new host same is =
 pub own_place : (o p : ℕ) → (o == o && p == p) ≡ true
 own_place o p = grind (arith, nat_tests)
 
-put_told : (p : Put) (object page : ℕ) (bytes : List ℕ) (before after : List ℕ → Told) (old new : SlotTable) → new.host ≡ old.host → PutEffects p object page old new → PutTold (Ok p) before after new (slot_in_table new object page) bytes
+put_told : (p : Put) (object page : ℕ) (bytes : List ℕ) (before after : List ℕ → Told) (old new : SlotTable) → new.host ≡ old.host
+    → PutEffects p object page old new → PutTold (Ok p) before after new (slot_in_table new object page) bytes
     → IsAreaTold before old → IsAreaTold after new
 put_told put.Kept object page bytes before after old new host leaves put is =
     let was = some_of (before (area_name old.host)) is in
-    let at : slot_in_table new object page ≡ Some leaves.0 = ap held_slot (leaves.2.at object page ∙ ap (λ (z : Bool). if z then Some (held.Kept leaves.0) else held_at old object page) (own_place object page)) in
+    let at : slot_in_table new object page ≡ Some leaves.0 = ap held_slot (leaves.2.at object page
+    ∙ ap (λ (z : Bool). if z then Some (held.Kept leaves.0) else held_at old object page) (own_place object page)) in
     let wrote = put leaves.0 at in
     some_is (after (area_name new.host)) _ (wrote.written was.0 (ap (λ (z : ℕ). before (area_name z)) host ∙ was.1))
 put_told put.Failed object page bytes before after old new host leaves put is =
     let was = some_of (before (area_name old.host)) is in
-    let at : slot_in_table new object page ≡ Some leaves.0 = ap held_slot (leaves.2.at object page ∙ ap (λ (z : Bool). if z then Some (held.Torn leaves.0) else held_at old object page) (own_place object page)) in
+    let at : slot_in_table new object page ≡ Some leaves.0 = ap held_slot (leaves.2.at object page
+    ∙ ap (λ (z : Bool). if z then Some (held.Torn leaves.0) else held_at old object page) (own_place object page)) in
     let wrote = put leaves.0 at in
     let now = wrote.failed was.0 (ap (λ (z : ℕ). before (area_name z)) host ∙ was.1) refl in
     some_is (after (area_name new.host)) now.0 now.1
 put_told put.NoSlot object page bytes before after old new host leaves put is = same_told before after old new host put is
 
-pub told_after : (m : Message) (object : ObjectId) (before after : List ℕ → Told) (old new : SlotTable) (events : Listed Event) → KeepsShape old new → PagerAnswer m object old new events.items → LeavesAreas m object new before after (Ok events)
+pub told_after : (m : Message) (object : ObjectId) (before after : List ℕ → Told) (old new : SlotTable) (events : Listed Event) → KeepsShape old new
+    → PagerAnswer m object old new events.items → LeavesAreas m object new before after (Ok events)
     → IsAreaTold before old → IsAreaTold after new
-told_after (message.Return control page dirty keep bytes) object before after old new events shape a leaves is = put_told (became events.items) object.0 page.0 bytes before after old new shape.host a.held leaves is
+told_after (message.Return control page dirty keep bytes) object before after old new events shape a leaves is =
+    put_told (became events.items) object.0 page.0 bytes before after old new shape.host a.held leaves is
 told_after other object before after old new events shape a leaves is = same_told before after old new shape.host leaves is

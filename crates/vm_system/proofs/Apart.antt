@@ -1,5 +1,9 @@
 -- What the pager of one host does leaves those of the others.
-use Rattle.vm_system.proofs.Common.{Bool, Content, Down, EachOf, Event, Header, Held, IsApart, IsAreaTold, IsOrderly, IsOther, IsSome, LeavesAreas, List, Listed, Message, None, ObjectId, Ok, Option, PageNo, PagerAnswer, PagerStands, Put, PutEffects, PutTold, RequestAnswer, SlotTable, SlotsFit, Some, Told, Up, [], ap, area_name, arith, became, content_of, false, false≢true, held_at, held_slot, object_home, if◌then◌else◌, inl, inr, is_heard_elsewhere, last_return, length, named, nat_tests, not, others, others_carry, refl, same_Some, set, slice_get, slot_in_table, subst, suc, sym, told_of, true, zero, ℕ, ◌++◌, ◌<◌, ◌∙◌, ◌∷◌, ◌≡◌, ◌⊎◌}
+use Rattle.vm_system.proofs.Common.{Bool, Content, Down, EachOf, Event, Header, Held, IsApart, IsAreaTold, IsOrderly, IsOther, IsSome, LeavesAreas, List}
+use Rattle.vm_system.proofs.Common.{Listed, Message, None, ObjectId, Ok, Option, PageNo, PagerAnswer, PagerStands, Put, PutEffects, PutTold, RequestAnswer}
+use Rattle.vm_system.proofs.Common.{SlotTable, SlotsFit, Some, Told, Up, [], ap, area_name, arith, became, content_of, false, false≢true, held_at, held_slot}
+use Rattle.vm_system.proofs.Common.{object_home, if◌then◌else◌, inl, inr, is_heard_elsewhere, last_return, length, named, nat_tests, not, others, others_carry}
+use Rattle.vm_system.proofs.Common.{refl, same_Some, set, slice_get, slot_in_table, subst, suc, sym, told_of, true, zero, ℕ, ◌++◌, ◌<◌, ◌∙◌, ◌∷◌, ◌≡◌, ◌⊎◌}
 use Rattle.std.proofs.Common.{◌≢◌, ◌==◌, ◌&&◌, ◌||◌}
 use Rattle.pg_slots.specs.declared.answers.Put.TheVariants as put
 use Rattle.pg_slots.specs.declared.slot_row.Held.TheVariants as held
@@ -28,7 +32,8 @@ or_no false b is = is
 unheard : (h g o p : ℕ) (past : List Event) → h ≢ g → is_heard_elsewhere g o past ≡ false → last_return h o p past ≡ None
 unheard h g o p [] other is = refl
 unheard h g o p (event.Taken (Up at object) m ∷ past) other is =
-    rw (no_part at.0 object.0 h g o (is_heard_elsewhere g o past) other is) (unheard h g o p past other (or_no (not (at.0 == g) && object.0 == o) (is_heard_elsewhere g o past) is))
+    rw (no_part at.0 object.0 h g o (is_heard_elsewhere g o past) other is) (unheard h g o p past other
+    (or_no (not (at.0 == g) && object.0 == o) (is_heard_elsewhere g o past) is))
 unheard h g o p (e ∷ past) other is = unheard h g o p past other is
 
 pub apart_of : (header : Header) (past : List Event) → IsOrderly header past → (h : ℕ) → IsApart header h past
@@ -53,7 +58,8 @@ IsAbout object (event.DeviceFailed who way o page) = o ≡ object
 IsAbout object (event.NoSlot o page) = o ≡ object
 IsAbout object other = ⊥
 
-requested : (size host : ℕ) (object : ObjectId) (control : ℕ) (page : PageNo) (has : Option Held) (events : List Event) → RequestAnswer size host object control page has events → EachOf (IsAbout object) events
+requested : (size host : ℕ) (object : ObjectId) (control : ℕ) (page : PageNo) (has : Option Held) (events : List Event)
+    → RequestAnswer size host object control page has events → EachOf (IsAbout object) events
 requested size host object control page None events is = subst (λ (z : List Event). EachOf (IsAbout object) z) (sym is) (refl, tt)
 requested size host object control page (Some held.Lost) events is = subst (λ (z : List Event). EachOf (IsAbout object) z) (sym is) (refl, tt)
 requested size host object control page (Some (held.Torn s)) events is = subst (λ (z : List Event). EachOf (IsAbout object) z) (sym is) (refl, tt)
@@ -69,7 +75,8 @@ pub about : (m : Message) (object : ObjectId) (old new : SlotTable) (events : Li
 about (message.Init control size) object old new events a = subst (λ (z : List Event). EachOf (IsAbout object) z) (sym a.1) (refl, tt)
 about (message.Create control size) object old new events a = subst (λ (z : List Event). EachOf (IsAbout object) z) (sym a.1) (refl, tt)
 about (message.Request control page access) object old new events a = requested old.size old.host object control page (held_at old object.0 page.0) events a.1
-about (message.Return control page dirty keep bytes) object old new events a = subst (λ (z : List Event). EachOf (IsAbout object) z) (sym a.told) (put_about (became events) object page)
+about (message.Return control page dirty keep bytes) object old new events a =
+    subst (λ (z : List Event). EachOf (IsAbout object) z) (sym a.told) (put_about (became events) object page)
 about (message.Terminate control) object old new events a = subst (λ (z : List Event). EachOf (IsAbout object) z) (sym a.1) tt
 about (message.Unlock control page access) object old new events a = subst (λ (z : List Event). EachOf (IsAbout object) z) (sym a.1) tt
 about (message.Completed control page count) object old new events a = subst (λ (z : List Event). EachOf (IsAbout object) z) (sym a.1) tt
@@ -78,42 +85,52 @@ about other object old new events a = absurd a
 
 -- so no other pager has a part in it
 
-away_one : (g : ℕ) (object : ObjectId) (e : Event) (past : List Event) → IsAbout object e → is_heard_elsewhere g object.0 past ≡ true → is_heard_elsewhere g object.0 (e ∷ past) ≡ true
+away_one : (g : ℕ) (object : ObjectId) (e : Event) (past : List Event) → IsAbout object e → is_heard_elsewhere g object.0 past ≡ true
+    → is_heard_elsewhere g object.0 (e ∷ past) ≡ true
 away_one g object (event.Sent (Down host o control) m) past about away = away
 away_one g object (event.Sent (Up host o) m) past about away = absurd about
 away_one g object (event.DeviceFailed who way o page) past about away = away
 away_one g object (event.NoSlot o page) past about away = away
 away_one g object other past about away = absurd about
 
-away_all : (g : ℕ) (object : ObjectId) (events past : List Event) → EachOf (IsAbout object) events → is_heard_elsewhere g object.0 past ≡ true → is_heard_elsewhere g object.0 (events ++ past) ≡ true
+away_all : (g : ℕ) (object : ObjectId) (events past : List Event) → EachOf (IsAbout object) events → is_heard_elsewhere g object.0 past ≡ true
+    → is_heard_elsewhere g object.0 (events ++ past) ≡ true
 away_all g object [] past about away = away
 away_all g object (e ∷ events) past about away = away_one g object e (events ++ past) about.0 (away_all g object events past about.1 away)
 
-about_other : (header : Header) (g : ℕ) (object : ObjectId) (e : Event) (past : List Event) → IsAbout object e → is_heard_elsewhere g object.0 past ≡ true → IsOther header g e past
+about_other : (header : Header) (g : ℕ) (object : ObjectId) (e : Event) (past : List Event) → IsAbout object e → is_heard_elsewhere g object.0 past ≡ true
+    → IsOther header g e past
 about_other header g object (event.Sent (Down host o control) m) past about away = tt
 about_other header g object (event.Sent (Up host o) m) past about away = absurd about
-about_other header g object (event.DeviceFailed who way o page) past about away = inr (subst (λ (z : ObjectId). is_heard_elsewhere g z.0 past ≡ true) (sym about) away)
+about_other header g object (event.DeviceFailed who way o page) past about away =
+    inr (subst (λ (z : ObjectId). is_heard_elsewhere g z.0 past ≡ true) (sym about) away)
 about_other header g object (event.NoSlot o page) past about away = inr (subst (λ (z : ObjectId). is_heard_elsewhere g z.0 past ≡ true) (sym about) away)
 about_other header g object other past about away = absurd about
 
-apart_one : (header : Header) (g : ℕ) (object : ObjectId) (e : Event) (past : List Event) → IsAbout object e → IsApart header g past → IsApart header g (e ∷ past)
+apart_one : (header : Header) (g : ℕ) (object : ObjectId) (e : Event) (past : List Event) → IsAbout object e → IsApart header g past
+    → IsApart header g (e ∷ past)
 apart_one header g object (event.Sent (Down host o control) m) past about apart = apart
 apart_one header g object (event.Sent (Up host o) m) past about apart = absurd about
 apart_one header g object (event.DeviceFailed who way o page) past about apart = apart
 apart_one header g object (event.NoSlot o page) past about apart = apart
 apart_one header g object other past about apart = absurd about
 
-apart_all : (header : Header) (g : ℕ) (object : ObjectId) (events past : List Event) → EachOf (IsAbout object) events → IsApart header g past → IsApart header g (events ++ past)
+apart_all : (header : Header) (g : ℕ) (object : ObjectId) (events past : List Event) → EachOf (IsAbout object) events → IsApart header g past
+    → IsApart header g (events ++ past)
 apart_all header g object [] past about apart = apart
-apart_all header g object (e ∷ events) past about apart = apart_one header g object e (events ++ past) about.0 (apart_all header g object events past about.1 apart)
+apart_all header g object (e ∷ events) past about apart =
+    apart_one header g object e (events ++ past) about.0 (apart_all header g object events past about.1 apart)
 
-pub others_stand : (header : Header) (g : ℕ) (pager : SlotTable) (object : ObjectId) (events past : List Event) → EachOf (IsAbout object) events → is_heard_elsewhere g object.0 past ≡ true → PagerStands header g pager past
+pub others_stand : (header : Header) (g : ℕ) (pager : SlotTable) (object : ObjectId) (events past : List Event) → EachOf (IsAbout object) events
+    → is_heard_elsewhere g object.0 past ≡ true → PagerStands header g pager past
     → PagerStands header g pager (events ++ past)
 others_stand header g pager object [] past about away stands = stands
 others_stand header g pager object (e ∷ events) past about away stands =
-    others header g pager e (events ++ past) (about_other header g object e (events ++ past) about.0 (away_all g object events past about.1 away)) (others_stand header g pager object events past about.1 away stands)
+    others header g pager e (events ++ past) (about_other header g object e (events ++ past) about.0 (away_all g object events past about.1 away))
+    (others_stand header g pager object events past about.1 away stands)
 
-pub others_fit : (header : Header) (g : ℕ) (pager : SlotTable) (object : ObjectId) (areas : List ℕ → Told) (events past : List Event) → EachOf (IsAbout object) events → is_heard_elsewhere g object.0 past ≡ true → IsApart header g past → IsAreaTold areas pager
+pub others_fit : (header : Header) (g : ℕ) (pager : SlotTable) (object : ObjectId) (areas : List ℕ → Told) (events past : List Event)
+    → EachOf (IsAbout object) events → is_heard_elsewhere g object.0 past ≡ true → IsApart header g past → IsAreaTold areas pager
     → SlotsFit areas pager (content_of header g past) → SlotsFit areas pager (content_of header g (events ++ past))
 others_fit header g pager object areas [] past about away apart told fits = fits
 others_fit header g pager object areas (e ∷ events) past about away apart told fits =
@@ -123,23 +140,28 @@ others_fit header g pager object areas (e ∷ events) past about away apart told
 
 -- nor has any default pager one in what is about a declared object
 
-declared_other : (header : Header) (g : ℕ) (object : ObjectId) (e : Event) (past : List Event) → object.0 < named header → IsAbout object e → IsOther header g e past
+declared_other : (header : Header) (g : ℕ) (object : ObjectId) (e : Event) (past : List Event) → object.0 < named header → IsAbout object e
+    → IsOther header g e past
 declared_other header g object (event.Sent (Down host o control) m) past low about = tt
 declared_other header g object (event.Sent (Up host o) m) past low about = absurd about
 declared_other header g object (event.DeviceFailed who way o page) past low about = inl (subst (λ (z : ObjectId). z.0 < named header) (sym about) low)
 declared_other header g object (event.NoSlot o page) past low about = inl (subst (λ (z : ObjectId). z.0 < named header) (sym about) low)
 declared_other header g object other past low about = absurd about
 
-pub declared_stand : (header : Header) (g : ℕ) (pager : SlotTable) (object : ObjectId) (events past : List Event) → object.0 < named header → EachOf (IsAbout object) events → PagerStands header g pager past → PagerStands header g pager (events ++ past)
+pub declared_stand : (header : Header) (g : ℕ) (pager : SlotTable) (object : ObjectId) (events past : List Event) → object.0 < named header
+    → EachOf (IsAbout object) events → PagerStands header g pager past → PagerStands header g pager (events ++ past)
 declared_stand header g pager object [] past low about stands = stands
 declared_stand header g pager object (e ∷ events) past low about stands =
-    others header g pager e (events ++ past) (declared_other header g object e (events ++ past) low about.0) (declared_stand header g pager object events past low about.1 stands)
+    others header g pager e (events ++ past) (declared_other header g object e (events ++ past) low about.0)
+    (declared_stand header g pager object events past low about.1 stands)
 
-pub declared_fit : (header : Header) (g : ℕ) (pager : SlotTable) (object : ObjectId) (areas : List ℕ → Told) (events past : List Event) → object.0 < named header → EachOf (IsAbout object) events → IsApart header g past → IsAreaTold areas pager
+pub declared_fit : (header : Header) (g : ℕ) (pager : SlotTable) (object : ObjectId) (areas : List ℕ → Told) (events past : List Event)
+    → object.0 < named header → EachOf (IsAbout object) events → IsApart header g past → IsAreaTold areas pager
     → SlotsFit areas pager (content_of header g past) → SlotsFit areas pager (content_of header g (events ++ past))
 declared_fit header g pager object areas [] past low about apart told fits = fits
 declared_fit header g pager object areas (e ∷ events) past low about apart told fits =
-    let over = others_carry header g pager e (events ++ past) areas (declared_other header g object e (events ++ past) low about.0) (apart_all header g object (e ∷ events) past about apart) in
+    let over = others_carry header g pager e (events ++ past) areas (declared_other header g object e (events ++ past) low about.0)
+    (apart_all header g object (e ∷ events) past about apart) in
     over.fits told (declared_fit header g pager object areas events past low about.1 apart told fits)
 
 -- and their areas stay
@@ -152,27 +174,35 @@ other_area h g other same = other (omega (arith, ap (λ (z : List ℕ). last z) 
     last (x ∷ []) = x
     last (x ∷ y ∷ more) = last (y ∷ more)
 
-put_others : (p : Put) (object page : ℕ) (bytes : List ℕ) (before after : List ℕ → Told) (old new : SlotTable) → PutEffects p object page old new → PutTold (Ok p) before after new (slot_in_table new object page) bytes
+put_others : (p : Put) (object page : ℕ) (bytes : List ℕ) (before after : List ℕ → Told) (old new : SlotTable) → PutEffects p object page old new
+    → PutTold (Ok p) before after new (slot_in_table new object page) bytes
     → (name : List ℕ) (was : Option (List ℕ)) → name ≢ area_name new.host → before name ≡ Some was → after name ≡ Some was
 put_others put.Kept object page bytes before after old new leaves wrote name was other is =
-    let at : slot_in_table new object page ≡ Some leaves.0 = ap held_slot (leaves.2.at object page ∙ ap (λ (z : Bool). if z then Some (held.Kept leaves.0) else held_at old object page) (own_place object page)) in
+    let at : slot_in_table new object page ≡ Some leaves.0 = ap held_slot (leaves.2.at object page
+    ∙ ap (λ (z : Bool). if z then Some (held.Kept leaves.0) else held_at old object page) (own_place object page)) in
     (wrote leaves.0 at).others name was other is
 put_others put.Failed object page bytes before after old new leaves wrote name was other is =
-    let at : slot_in_table new object page ≡ Some leaves.0 = ap held_slot (leaves.2.at object page ∙ ap (λ (z : Bool). if z then Some (held.Torn leaves.0) else held_at old object page) (own_place object page)) in
+    let at : slot_in_table new object page ≡ Some leaves.0 = ap held_slot (leaves.2.at object page
+    ∙ ap (λ (z : Bool). if z then Some (held.Torn leaves.0) else held_at old object page) (own_place object page)) in
     (wrote leaves.0 at).others name was other is
 put_others put.NoSlot object page bytes before after old new leaves wrote name was other is = wrote name was is
 
-pub areas_others : (m : Message) (object : ObjectId) (before after : List ℕ → Told) (old new : SlotTable) (events : Listed Event) → PagerAnswer m object old new events.items → LeavesAreas m object new before after (Ok events)
+pub areas_others : (m : Message) (object : ObjectId) (before after : List ℕ → Told) (old new : SlotTable) (events : Listed Event)
+    → PagerAnswer m object old new events.items → LeavesAreas m object new before after (Ok events)
     → (name : List ℕ) (was : Option (List ℕ)) → name ≢ area_name new.host → before name ≡ Some was → after name ≡ Some was
-areas_others (message.Return control page dirty keep bytes) object before after old new events a leaves name was apart is = put_others (became events.items) object.0 page.0 bytes before after old new a.held leaves name was apart is
+areas_others (message.Return control page dirty keep bytes) object before after old new events a leaves name was apart is =
+    put_others (became events.items) object.0 page.0 bytes before after old new a.held leaves name was apart is
 areas_others other object before after old new events a leaves name was apart is = leaves name was is
 
-pub told_still : (pager : SlotTable) (before after : List ℕ → Told) → ((was : Option (List ℕ)) → before (area_name pager.host) ≡ Some was → after (area_name pager.host) ≡ Some was) → IsAreaTold before pager → IsAreaTold after pager
+pub told_still : (pager : SlotTable) (before after : List ℕ → Told)
+    → ((was : Option (List ℕ)) → before (area_name pager.host) ≡ Some was → after (area_name pager.host) ≡ Some was) → IsAreaTold before pager
+    → IsAreaTold after pager
 told_still pager before after stays told =
     let was = some_of (before (area_name pager.host)) told in
     subst (λ (z : Told). IsSome z) (sym (stays was.0 was.1)) refl
 
-pub fits_still : (pager : SlotTable) (content : Content) (before after : List ℕ → Told) → ((was : Option (List ℕ)) → before (area_name pager.host) ≡ Some was → after (area_name pager.host) ≡ Some was) → IsAreaTold before pager
+pub fits_still : (pager : SlotTable) (content : Content) (before after : List ℕ → Told)
+    → ((was : Option (List ℕ)) → before (area_name pager.host) ≡ Some was → after (area_name pager.host) ≡ Some was) → IsAreaTold before pager
     → SlotsFit before pager content → SlotsFit after pager content
 fits_still pager content before after stays told fits =
     let was = some_of (before (area_name pager.host)) told in
@@ -185,7 +215,8 @@ fits_still pager content before after stays told fits =
 
 -- one pager of a list is replaced
 
-pub set_cases : {A : Type 0} (pagers : List A) (h g : ℕ) (new pager : A) → h < length pagers → slice_get (set pagers h new) g ≡ Some pager → ((g ≡ h) × (new ≡ pager)) ⊎ ((g ≢ h) × (slice_get pagers g ≡ Some pager))
+pub set_cases : {A : Type 0} (pagers : List A) (h g : ℕ) (new pager : A) → h < length pagers → slice_get (set pagers h new) g ≡ Some pager
+    → ((g ≡ h) × (new ≡ pager)) ⊎ ((g ≢ h) × (slice_get pagers g ≡ Some pager))
 set_cases [] h g new pager within is = absurd (omega arith)
 set_cases (x ∷ pagers) zero zero new pager within is = inl (refl, same_Some new pager is)
 set_cases (x ∷ pagers) zero (suc g) new pager within is = inr (λ same. omega arith, is)

@@ -1,5 +1,7 @@
 -- Both backings fit the system behind a call where they did in front of it, and go on.
-use Rattle.vm_system.proofs.Common.{ArmedLater, Arming, BackingGoes, BackingWent, BackingsFit, Command, Device, Event, FilesAreKept, FilesCarry, GrowsWithinLimit, Header, LeavesBacking, List, None, Option, Outside, Some, Spares, SparesPaging, State, Told, ap, armed_later_more, armed_later_same, arms, devices, inl, refl, subst, sum_count, ℕ, ◌≡◌}
+use Rattle.vm_system.proofs.Common.{ArmedLater, Arming, BackingGoes, BackingWent, BackingsFit, Command, Device, Event, FilesAreKept, FilesCarry}
+use Rattle.vm_system.proofs.Common.{GrowsWithinLimit, Header, LeavesBacking, List, None, Option, Outside, Some, Spares, SparesPaging, State, Told, ap}
+use Rattle.vm_system.proofs.Common.{armed_later_more, armed_later_same, arms, devices, inl, refl, subst, sum_count, ℕ, ◌≡◌}
 use Rattle.vm_outside.specs.Arming.{ReachesOne, later_reaches_one}
 use Rattle.vm_system.proofs.Beginning.{causes_same}
 use Rattle.vm_system.proofs.Settled.{counted_more}

@@ -1,5 +1,10 @@
 -- A system stands for its history behind the step of a command that takes no message.
-use Rattle.vm_system.proofs.Common.{AllFilesServe, AllInner, AllQueued, AllRest, AllServe, Arming, CanTell, CanTellAll, Channel, Code, Command, Device, DevicesHaveCause, EachOf, Event, FilesAreKept, Header, HostTable, IfOk, IsOrderly, KeepsCanonical, Lawful, LeavesBacking, List, Makes, None, Numbered, OnErr, OnOk, Outside, PagingIsKept, Posts, Prompt, Result, SameHosts, Some, Spares, State, Stretch, SystemStands, Told, Went, [], all_lined, all_nobodys, all_refused, all_suffice, ap, append_assoc, arith, arms, devices, false, get_or, head, inl, inner_both, is_idle, length, none-some, of_both, queued_lined, queued_refused, refl, refusal, same_Some, slice_get, stretch_none, subst, suc, sym, takes_up, took_up, true, zero, ℕ, ◌++◌, ◌<◌, ◌∙◌, ◌∷◌, ◌≡◌}
+use Rattle.vm_system.proofs.Common.{AllFilesServe, AllInner, AllQueued, AllRest, AllServe, Arming, CanTell, CanTellAll, Channel, Code, Command, Device}
+use Rattle.vm_system.proofs.Common.{DevicesHaveCause, EachOf, Event, FilesAreKept, Header, HostTable, IfOk, IsOrderly, KeepsCanonical, Lawful, LeavesBacking}
+use Rattle.vm_system.proofs.Common.{List, Makes, None, Numbered, OnErr, OnOk, Outside, PagingIsKept, Posts, Prompt, Result, SameHosts, Some, Spares, State}
+use Rattle.vm_system.proofs.Common.{Stretch, SystemStands, Told, Went, [], all_lined, all_nobodys, all_refused, all_suffice, ap, append_assoc, arith, arms}
+use Rattle.vm_system.proofs.Common.{devices, false, get_or, head, inl, inner_both, is_idle, length, none-some, of_both, queued_lined, queued_refused, refl}
+use Rattle.vm_system.proofs.Common.{refusal, same_Some, slice_get, stretch_none, subst, suc, sym, takes_up, took_up, true, zero, ℕ, ◌++◌, ◌<◌, ◌∙◌, ◌∷◌, ◌≡◌}
 use Rattle.std.specs.Prelude.{Ok, Err}
 use Rattle.vm_model.specs.declared.event.Device.TheVariants as device
 use Rattle.vm_model.specs.declared.event.Event.TheVariants as event
@@ -30,50 +35,65 @@ pub record IsTold (header : Header) (outside : Outside) (line : ℕ) (events : L
   pub queues : AllQueued header hosts (events ++ event.Line line ∷ s.history.items)
 
 -- what the kernels say behind a line can be told
-pub can_tell : (header : Header) (outside : Outside) (doing : Command) (line : ℕ) (events : List Event) (s : State) → SystemStands header outside s → Stretch header outside doing (event.Line line ∷ s.history.items) events
+pub can_tell : (header : Header) (outside : Outside) (doing : Command) (line : ℕ) (events : List Event) (s : State) → SystemStands header outside s
+    → Stretch header outside doing (event.Line line ∷ s.history.items) events
     → CanTellAll s.size events (event.Line line ∷ s.history.items)
 can_tell header outside doing line events s stands stretch =
     let past = event.Line line ∷ s.history.items in
     subst (λ (z : ℕ). CanTellAll z events past) (sym stands.agrees.size)
     (can_say header outside doing past events (orderly_line header line s.history.items stands.agrees.orderly) stretch.licensed stretch.said stretch.inner)
 
-pub told_said : (header : Header) (outside : Outside) (doing : Command) (line : ℕ) (events : List Event) (hosts : HostTable) (s : State) → SystemStands header outside s → Stretch header outside doing (event.Line line ∷ s.history.items) events
-    → AllRest header hosts (events ++ event.Line line ∷ s.history.items) → AllQueued header hosts (events ++ event.Line line ∷ s.history.items) → IsTold header outside line events hosts s
+pub told_said : (header : Header) (outside : Outside) (doing : Command) (line : ℕ) (events : List Event) (hosts : HostTable) (s : State)
+    → SystemStands header outside s → Stretch header outside doing (event.Line line ∷ s.history.items) events
+    → AllRest header hosts (events ++ event.Line line ∷ s.history.items) → AllQueued header hosts (events ++ event.Line line ∷ s.history.items)
+    → IsTold header outside line events hosts s
 told_said header outside doing line events hosts s stands stretch rests queues =
     let past = event.Line line ∷ s.history.items in
     record {
       inner = stretch.inner;
       spared = spared_said header events past stretch.said;
       silent = others_said header events past stretch.said;
-      lawful = lawful_more header outside doing events past stretch.licensed stretch.own_bytes stretch.inner (lawful_line header outside line s.history.items stands.paid stands.agrees.lawful);
-      orderly = orderly_said header outside doing past events (orderly_line header line s.history.items stands.agrees.orderly) stretch.licensed stretch.said stretch.inner;
+      lawful =
+          lawful_more header outside doing events past stretch.licensed stretch.own_bytes stretch.inner
+          (lawful_line header outside line s.history.items stands.paid stands.agrees.lawful);
+      orderly =
+          orderly_said header outside doing past events (orderly_line header line s.history.items stands.agrees.orderly) stretch.licensed stretch.said
+          stretch.inner;
       rests = rests;
       queues = queues;
     }
 
 -- so can what a file's pager asks, and what the kernels say behind that
 
-can_both : (size : ℕ) (later front past : List Event) → CanTellAll size later (front ++ past) → CanTellAll size front past → CanTellAll size (later ++ front) past
+can_both : (size : ℕ) (later front past : List Event) → CanTellAll size later (front ++ past) → CanTellAll size front past
+    → CanTellAll size (later ++ front) past
 can_both size [] front past all before = before
-can_both size (e ∷ later) front past all before = (subst (λ (z : List Event). CanTell size e z) (sym (append_assoc later front past)) all.0, can_both size later front past all.1 before)
+can_both size (e ∷ later) front past all before =
+    (subst (λ (z : List Event). CanTell size e z) (sym (append_assoc later front past)) all.0, can_both size later front past all.1 before)
 
 -- what the head of a command asks
-pub head_of : (header : Header) (doing : Command) (line : ℕ) (h past asked : List Event) → past ≡ event.Line line ∷ h → head header past doing ≡ Some asked → head header h doing ≡ Some asked
+pub head_of : (header : Header) (doing : Command) (line : ℕ) (h past asked : List Event) → past ≡ event.Line line ∷ h → head header past doing ≡ Some asked
+    → head header h doing ≡ Some asked
 head_of header doing line h past asked front is = sym (head_line header line h doing) ∙ (sym (ap (λ (z : List Event). head header z doing) front) ∙ is)
 
-pub asked_of : (header : Header) (outside : Outside) (doing : Command) (line : ℕ) (s : State) (past asked : List Event) → SystemStands header outside s → InRange header doing → refusal header s.history.items doing ≡ None → is_idle doing ≡ true → past ≡ event.Line line ∷ s.history.items
+pub asked_of : (header : Header) (outside : Outside) (doing : Command) (line : ℕ) (s : State) (past asked : List Event) → SystemStands header outside s
+    → InRange header doing → refusal header s.history.items doing ≡ None → is_idle doing ≡ true → past ≡ event.Line line ∷ s.history.items
     → head header past doing ≡ Some asked → IsAsked header outside doing (event.Line line ∷ s.history.items) asked
 asked_of header outside doing line s past asked stands range accepted idle front is =
     asked_fine header outside doing line s.history.items asked range accepted idle (head_of header doing line s.history.items past asked front is)
 
 -- the hosts stand for what is asked
-pub asked_rests : (header : Header) (outside : Outside) (doing : Command) (line : ℕ) (asked : List Event) (s : State) → SystemStands header outside s → IsAsked header outside doing (event.Line line ∷ s.history.items) asked
+pub asked_rests : (header : Header) (outside : Outside) (doing : Command) (line : ℕ) (asked : List Event) (s : State) → SystemStands header outside s
+    → IsAsked header outside doing (event.Line line ∷ s.history.items) asked
     → AllRest header s.hosts (asked ++ event.Line line ∷ s.history.items)
 asked_rests header outside doing line asked s stands says =
-    all_nobodys header outside doing s.hosts asked (event.Line line ∷ s.history.items) (all_lined header outside doing s.hosts line s.history.items stands.rests) says.controls says.nobodys says.licensed
+    all_nobodys header outside doing s.hosts asked (event.Line line ∷ s.history.items)
+    (all_lined header outside doing s.hosts line s.history.items stands.rests) says.controls says.nobodys says.licensed
 
-pub can_ask : (header : Header) (outside : Outside) (doing : Command) (line : ℕ) (asked events : List Event) (hosts : HostTable) (s : State) → SystemStands header outside s
-    → IsAsked header outside doing (event.Line line ∷ s.history.items) asked → Went header outside doing (event.Line line ∷ s.history.items) asked hosts events → CanTellAll s.size events (event.Line line ∷ s.history.items)
+pub can_ask : (header : Header) (outside : Outside) (doing : Command) (line : ℕ) (asked events : List Event) (hosts : HostTable) (s : State)
+    → SystemStands header outside s
+    → IsAsked header outside doing (event.Line line ∷ s.history.items) asked → Went header outside doing (event.Line line ∷ s.history.items) asked hosts events
+    → CanTellAll s.size events (event.Line line ∷ s.history.items)
 can_ask header outside doing line asked events hosts s stands says went =
     let past = event.Line line ∷ s.history.items in
     let orderly = orderly_line header line s.history.items stands.agrees.orderly in
@@ -82,21 +102,27 @@ can_ask header outside doing line asked events hosts s stands says went =
     subst (λ (z : ℕ). CanTellAll z events past) (sym stands.agrees.size)
     (subst (λ (z : List Event). CanTellAll header.size z past) (sym went.is) (can_both header.size went.more asked past later (says.can orderly)))
 
-pub told_asked : (header : Header) (outside : Outside) (doing : Command) (line : ℕ) (asked events : List Event) (hosts : HostTable) (s : State) → SystemStands header outside s
-    → IsAsked header outside doing (event.Line line ∷ s.history.items) asked → Went header outside doing (event.Line line ∷ s.history.items) asked hosts events → IsTold header outside line events hosts s
+pub told_asked : (header : Header) (outside : Outside) (doing : Command) (line : ℕ) (asked events : List Event) (hosts : HostTable) (s : State)
+    → SystemStands header outside s
+    → IsAsked header outside doing (event.Line line ∷ s.history.items) asked → Went header outside doing (event.Line line ∷ s.history.items) asked hosts events
+    → IsTold header outside line events hosts s
 told_asked header outside doing line asked events hosts s stands says went =
     let past = event.Line line ∷ s.history.items in
     let orderly = orderly_line header line s.history.items stands.agrees.orderly in
     let stretch = went.follows.stretch in
     let more = went.more in
-    let behind : IsOrderly header (more ++ (asked ++ past)) = orderly_said header outside doing (asked ++ past) more (says.orderly orderly) stretch.licensed stretch.said stretch.inner in
+    let behind : IsOrderly header (more ++ (asked ++ past)) = orderly_said header outside doing (asked ++ past) more (says.orderly orderly) stretch.licensed
+    stretch.said stretch.inner in
     let whole : events ++ past ≡ more ++ (asked ++ past) = ap (λ (z : List Event). z ++ past) went.is ∙ append_assoc more asked past in
     record {
       inner = subst AllInner (sym went.is) (inner_both more asked stretch.inner says.inner);
       spared = subst (EachOf IsSpared) (sym went.is) (of_both IsSpared more asked (spared_said header more (asked ++ past) stretch.said) says.spared);
-      silent = subst (EachOf (IsServerOther header)) (sym went.is) (of_both (IsServerOther header) more asked (others_said header more (asked ++ past) stretch.said) says.silent);
+      silent =
+          subst (EachOf (IsServerOther header)) (sym went.is) (of_both (IsServerOther header) more asked (others_said header more (asked ++ past) stretch.said)
+          says.silent);
       lawful = subst (Lawful header outside) (sym whole)
-          (lawful_more header outside doing more (asked ++ past) stretch.licensed stretch.own_bytes stretch.inner (lawful_more header outside doing asked past says.licensed says.own_bytes says.inner
+          (lawful_more header outside doing more (asked ++ past) stretch.licensed stretch.own_bytes stretch.inner
+          (lawful_more header outside doing asked past says.licensed says.own_bytes says.inner
           (lawful_line header outside line s.history.items stands.paid stands.agrees.lawful)));
       orderly = subst (IsOrderly header) (sym whole) behind;
       rests = went.ended.rests;
@@ -104,14 +130,18 @@ told_asked header outside doing line asked events hosts s stands says went =
     }
 
 -- the system stands for what was told
-pub stands_told : (header : Header) (outside : Outside) (line : ℕ) (events : List Event) (hosts : HostTable) (old new : State) → SystemStands header outside old → IsTold header outside line events hosts old
-    → SameHosts (record old { hosts = hosts; log = new.log }) new → Posts new new.history.items → new.history.items ≡ events ++ event.Line line ∷ old.history.items → new.log.items ≡ [] → SystemStands header outside new
+pub stands_told : (header : Header) (outside : Outside) (line : ℕ) (events : List Event) (hosts : HostTable) (old new : State) → SystemStands header outside old
+    → IsTold header outside line events hosts old
+    → SameHosts (record old { hosts = hosts; log = new.log }) new → Posts new new.history.items
+    → new.history.items ≡ events ++ event.Line line ∷ old.history.items → new.log.items ≡ [] → SystemStands header outside new
 stands_told header outside line events hosts old new stands told same posts grown none =
     let h = old.history.items in
     let past = event.Line line ∷ h in
     let agrees = stands.agrees in
-    let serve : AllServe header old.pagers.items (events ++ past) = serve_spared header old.pagers.items events past told.spared (serve_spared header old.pagers.items (event.Line line ∷ []) h (tt, tt) agrees.pagers) in
-    let filed : AllFilesServe header old.files.items (events ++ past) = files_spared header old.files.items events past told.spared (files_spared header old.files.items (event.Line line ∷ []) h (tt, tt) agrees.files) in
+    let serve : AllServe header old.pagers.items (events ++ past) = serve_spared header old.pagers.items events past told.spared
+    (serve_spared header old.pagers.items (event.Line line ∷ []) h (tt, tt) agrees.pagers) in
+    let filed : AllFilesServe header old.files.items (events ++ past) = files_spared header old.files.items events past told.spared
+    (files_spared header old.files.items (event.Line line ∷ []) h (tt, tt) agrees.files) in
     record {
       built = stands.built;
       rests = rw (grown, same.hosts) told.rests;
@@ -121,7 +151,9 @@ stands_told header outside line events hosts old new stands told same posts grow
         declared = same_declared (record old { hosts = hosts; log = new.log }) new same ∙ agrees.declared;
         pagers = rw (grown, same_pagers (record old { hosts = hosts; log = new.log }) new same) serve;
         files = rw (grown, same_files (record old { hosts = hosts; log = new.log }) new same) filed;
-        server = rw (grown, same.server) (server_more header old.server events past told.silent (server_other header old.server (event.Line line) h tt agrees.server));
+        server =
+            rw (grown, same.server) (server_more header old.server events past told.silent
+            (server_other header old.server (event.Line line) h tt agrees.server));
         posts = posts;
         orderly = rw grown told.orderly;
         lawful = rw grown told.lawful;
@@ -133,10 +165,12 @@ stands_told header outside line events hosts old new stands told same posts grow
     }
 
 -- the step of a command is what was told behind the line
-pub makes_told : (header : Header) (outside : Outside) (numbered : Numbered) (events : List Event) (hosts : HostTable) (old new : State) → SystemStands header outside old → IsTold header outside numbered.line events hosts old
+pub makes_told : (header : Header) (outside : Outside) (numbered : Numbered) (events : List Event) (hosts : HostTable) (old new : State)
+    → SystemStands header outside old → IsTold header outside numbered.line events hosts old
     → KeepsCanonical header outside numbered old.history.items (events ++ event.Line numbered.line ∷ old.history.items)
     → (Prompt header old.history.items → Prompt header (events ++ event.Line numbered.line ∷ old.history.items))
-    → SameHosts (record old { hosts = hosts; log = new.log }) new → Posts new new.history.items → new.history.items ≡ events ++ event.Line numbered.line ∷ old.history.items → new.log.items ≡ [] → Makes header outside numbered old new
+    → SameHosts (record old { hosts = hosts; log = new.log }) new → Posts new new.history.items
+    → new.history.items ≡ events ++ event.Line numbered.line ∷ old.history.items → new.log.items ≡ [] → Makes header outside numbered old new
 makes_told header outside numbered events hosts old new stands told legal prompt same posts grown none = record {
   stands = stands_told header outside numbered.line events hosts old new stands told same posts grown none;
   legal = rw grown legal;
@@ -147,14 +181,16 @@ makes_told header outside numbered events hosts old new stands told legal prompt
 
 -- events in which no pager has a part spare the pagers
 
-paging_spared : (header : Header) (outside : Outside) (areas : List ℕ → Told) (events : List Event) (old new : State) → EachOf IsSpared events → new.pagers.items ≡ old.pagers.items → new.history.items ≡ events ++ old.history.items
+paging_spared : (header : Header) (outside : Outside) (areas : List ℕ → Told) (events : List Event) (old new : State) → EachOf IsSpared events
+    → new.pagers.items ≡ old.pagers.items → new.history.items ≡ events ++ old.history.items
     → PagingIsKept header outside areas old → PagingIsKept header outside areas new
 paging_spared header outside areas events old new spared pagers grown kept =
     let h = old.history.items in
     kept_at header outside areas new old.pagers.items (events ++ h) pagers grown (serve_spared header old.pagers.items events h spared kept.pagers) kept.told
     (λ on. fit_same header areas old.pagers.items h (events ++ h) (λ host. content_spared header host events h spared) (kept.fits on))
 
-files_kept : (header : Header) (outside : Outside) (areas : List ℕ → Told) (events : List Event) (old new : State) → EachOf IsSpared events → new.files.items ≡ old.files.items → new.history.items ≡ events ++ old.history.items
+files_kept : (header : Header) (outside : Outside) (areas : List ℕ → Told) (events : List Event) (old new : State) → EachOf IsSpared events
+    → new.files.items ≡ old.files.items → new.history.items ≡ events ++ old.history.items
     → FilesAreKept header outside areas old → FilesAreKept header outside areas new
 files_kept header outside areas events old new spared files grown kept = record {
   files = rw (grown, files) (files_spared header old.files.items events old.history.items spared kept.files);
@@ -163,7 +199,8 @@ files_kept header outside areas events old new spared files grown kept = record 
   kept = rw grown (carry_spared header kept.start areas events old.history.items spared kept.kept);
 }
 
-pub spares_by : (header : Header) (outside : Outside) (events : List Event) (old new : State) → EachOf IsSpared events → new.pagers.items ≡ old.pagers.items → new.files.items ≡ old.files.items → new.history.items ≡ events ++ old.history.items
+pub spares_by : (header : Header) (outside : Outside) (events : List Event) (old new : State) → EachOf IsSpared events → new.pagers.items ≡ old.pagers.items
+    → new.files.items ≡ old.files.items → new.history.items ≡ events ++ old.history.items
     → Spares header outside old new
 spares_by header outside events old new spared pagers files grown = record {
   paging = record {
@@ -178,23 +215,27 @@ spares_by header outside events old new spared pagers files grown = record {
 }
 
 -- so it is with what was told behind a line
-pub spares_told : (header : Header) (outside : Outside) (line : ℕ) (events : List Event) (hosts : HostTable) (old new : State) → IsTold header outside line events hosts old → SameHosts (record old { hosts = hosts; log = new.log }) new
+pub spares_told : (header : Header) (outside : Outside) (line : ℕ) (events : List Event) (hosts : HostTable) (old new : State)
+    → IsTold header outside line events hosts old → SameHosts (record old { hosts = hosts; log = new.log }) new
     → new.history.items ≡ events ++ event.Line line ∷ old.history.items → Spares header outside old new
 spares_told header outside line events hosts old new told same grown =
-    spares_by header outside (events ++ event.Line line ∷ []) old new (of_both IsSpared events (event.Line line ∷ []) told.spared (tt, tt)) (same_pagers (record old { hosts = hosts; log = new.log }) new same) (same_files (record old { hosts = hosts; log = new.log }) new same)
+    spares_by header outside (events ++ event.Line line ∷ []) old new (of_both IsSpared events (event.Line line ∷ []) told.spared (tt, tt))
+    (same_pagers (record old { hosts = hosts; log = new.log }) new same) (same_files (record old { hosts = hosts; log = new.log }) new same)
     (grown ∙ sym (append_assoc events (event.Line line ∷ []) old.history.items))
 
 -- the log is what it was
 
 pub logged : (old new : State) → SameHosts old new → SameHosts (record old { log = new.log }) new
-logged old new same = record { size = same.size; hosts = same.hosts; pagers = same.pagers; declared = same.declared; files = same.files; server = same.server; log = refl }
+logged old new same =
+    record { size = same.size; hosts = same.hosts; pagers = same.pagers; declared = same.declared; files = same.files; server = same.server; log = refl }
 
 empty_log : (header : Header) (outside : Outside) (old new : State) → SystemStands header outside old → SameHosts old new → new.log.items ≡ []
 empty_log header outside old new stands same = rw same.log stands.log
 
 -- the code of a refusal, or nothing, follows the line
 
-pub told_code : (header : Header) (outside : Outside) (doing : Command) (why : Code) (line : ℕ) (s : State) → SystemStands header outside s → IsTold header outside line (event.Refused why ∷ []) s.hosts s
+pub told_code : (header : Header) (outside : Outside) (doing : Command) (why : Code) (line : ℕ) (s : State) → SystemStands header outside s
+    → IsTold header outside line (event.Refused why ∷ []) s.hosts s
 told_code header outside doing why line s stands =
     let past = event.Line line ∷ s.history.items in
     let hosts = stands.built.ranged.hosts in
@@ -209,28 +250,44 @@ told_code header outside doing why line s stands =
     told_said header outside doing line (event.Refused why ∷ []) s.hosts s stands stretch (all_refused header outside doing s.hosts why past rests)
     (queued_refused header outside doing s.hosts why past rests (queued_lined header outside doing s.hosts line s.history.items stands.rests stands.queues))
 
-pub makes_refused : (header : Header) (outside : Outside) (numbered : Numbered) (why : Code) (old new : State) → SystemStands header outside old → refusal header old.history.items numbered.command ≡ Some why → SameHosts old new
+pub makes_refused : (header : Header) (outside : Outside) (numbered : Numbered) (why : Code) (old new : State) → SystemStands header outside old
+    → refusal header old.history.items numbered.command ≡ Some why → SameHosts old new
     → Posts new new.history.items → new.history.items ≡ event.Refused why ∷ event.Line numbered.line ∷ old.history.items → Makes header outside numbered old new
 makes_refused header outside numbered why old new stands refused same posts grown =
-    makes_told header outside numbered (event.Refused why ∷ []) old.hosts old new stands (told_code header outside numbered.command why numbered.line old stands)
+    makes_told header outside numbered (event.Refused why ∷ []) old.hosts old new stands
+    (told_code header outside numbered.command why numbered.line old stands)
     (legal_refused header outside numbered why old.history.items (none_temporary header stands.built.ranged) refused)
-    (λ prompt. prompt_code header why (event.Line numbered.line ∷ old.history.items) (prompt_line header numbered.line old.history.items prompt)) (logged old new same) posts grown (empty_log header outside old new stands same)
+    (λ prompt. prompt_code header why (event.Line numbered.line ∷ old.history.items) (prompt_line header numbered.line old.history.items prompt))
+    (logged old new same) posts grown (empty_log header outside old new stands same)
 
-pub told_none : (header : Header) (outside : Outside) (doing : Command) (line : ℕ) (s : State) → SystemStands header outside s → IsTold header outside line [] s.hosts s
+pub told_none : (header : Header) (outside : Outside) (doing : Command) (line : ℕ) (s : State) → SystemStands header outside s
+    → IsTold header outside line [] s.hosts s
 told_none header outside doing line s stands =
     let h = s.history.items in
-    told_said header outside doing line [] s.hosts s stands (stretch_none header outside doing (event.Line line ∷ h)) (all_lined header outside doing s.hosts line h stands.rests) (queued_lined header outside doing s.hosts line h stands.rests stands.queues)
+    told_said header outside doing line [] s.hosts s stands (stretch_none header outside doing (event.Line line ∷ h))
+    (all_lined header outside doing s.hosts line h stands.rests) (queued_lined header outside doing s.hosts line h stands.rests stands.queues)
 
-pub makes_lined : (header : Header) (outside : Outside) (line count : ℕ) (old new : State) → SystemStands header outside old → SameHosts old new → Posts new new.history.items
+pub makes_lined : (header : Header) (outside : Outside) (line count : ℕ) (old new : State) → SystemStands header outside old → SameHosts old new
+    → Posts new new.history.items
     → new.history.items ≡ event.Line line ∷ old.history.items → Makes header outside (record { line = line; command = command.Settle count }) old new
 makes_lined header outside line count old new stands same posts grown =
-    makes_told header outside (record { line = line; command = command.Settle count }) [] old.hosts old new stands (told_none header outside (command.Settle count) line old stands)
-    (legal_settle header outside line count old.history.items (none_temporary header stands.built.ranged)) (λ prompt. prompt_line header line old.history.items prompt) (logged old new same) posts grown (empty_log header outside old new stands same)
+    makes_told header outside (record { line = line; command = command.Settle count }) [] old.hosts old new stands
+    (told_none header outside (command.Settle count) line old stands)
+    (legal_settle header outside line count old.history.items (none_temporary header stands.built.ranged))
+    (λ prompt. prompt_line header line old.history.items prompt) (logged old new same) posts grown (empty_log header outside old new stands same)
 
 -- parts that are as they were are so behind two calls
 pub same_hosts : (old mid new : State) → SameHosts old mid → SameHosts mid new → SameHosts old new
 same_hosts old mid new one two =
-    record { size = two.size ∙ one.size; hosts = two.hosts ∙ one.hosts; pagers = two.pagers ∙ one.pagers; declared = two.declared ∙ one.declared; files = two.files ∙ one.files; server = two.server ∙ one.server; log = two.log ∙ one.log }
+    record {
+      size = two.size ∙ one.size;
+      hosts = two.hosts ∙ one.hosts;
+      pagers = two.pagers ∙ one.pagers;
+      declared = two.declared ∙ one.declared;
+      files = two.files ∙ one.files;
+      server = two.server ∙ one.server;
+      log = two.log ∙ one.log;
+    }
 
 -- one event more on top of a history
 pub one_more : (e : Event) (h old new : List Event) → old ≡ h → new ≡ e ∷ old → new ≡ e ∷ h
@@ -303,7 +360,8 @@ leaves_armed {B} header who doing history count left old new armed same is = rec
 }
 
 -- only these two arm a backing
-pub arms_none : (who : Device) (doing : Command) → ((count : ℕ) → doing ≡ command.FailFiles count → ⊥) → ((count : ℕ) → doing ≡ command.FailPaging count → ⊥) → arms who doing ≡ None
+pub arms_none : (who : Device) (doing : Command) → ((count : ℕ) → doing ≡ command.FailFiles count → ⊥) → ((count : ℕ) → doing ≡ command.FailPaging count → ⊥)
+    → arms who doing ≡ None
 arms_none device.Files (command.FailFiles count) files paging = absurd (files count refl)
 arms_none device.Paging (command.FailPaging count) files paging = absurd (paging count refl)
 arms_none who other files paging = refl
@@ -315,7 +373,8 @@ arms_refused who header h (command.FailPaging count) why is = absurd (let bad : 
 arms_refused device.Files header h other why is = refl
 arms_refused device.Paging header h other why is = refl
 
-pub settle_refused : (header : Header) (h : List Event) (doing : Command) (why : Code) → refusal header h doing ≡ Some why → (count : ℕ) → doing ≡ command.Settle count → ⊥
+pub settle_refused : (header : Header) (h : List Event) (doing : Command) (why : Code) → refusal header h doing ≡ Some why → (count : ℕ)
+    → doing ≡ command.Settle count → ⊥
 settle_refused header h (command.Settle number) why is count same = let bad : None ≡ Some why = is in absurd (cc)
 settle_refused header h (command.FailFiles number) why is count same = let bad : None ≡ Some why = is in absurd (cc)
 settle_refused header h other why is count same = let bad : None ≡ Some why = subst (λ (z : Command). refusal header h z ≡ Some why) same is in absurd (cc)

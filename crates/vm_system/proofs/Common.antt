@@ -4,7 +4,8 @@ pub use Rattle.pg_default.proofs.Causes.{causes}
 pub use Rattle.pg_default.proofs.Debts.{paid}
 pub use Rattle.pg_default.proofs.Others.{empty, others, others_carry}
 pub use Rattle.pg_default.proofs.Standing.{stands, start}
-pub use Rattle.pg_default.specs.Answers.{AnswerHasCause, IsToPager, LeavesAreas, PagerAnswer, RequestAnswer, ReturnsWhole, SuppliesStored, TellsFault, after_message, became, device_failed, error, sent_to, supply, told_of}
+pub use Rattle.pg_default.specs.Answers.{AnswerHasCause, IsToPager, LeavesAreas, PagerAnswer, RequestAnswer, ReturnsWhole, SuppliesStored, TellsFault}
+pub use Rattle.pg_default.specs.Answers.{after_message, became, device_failed, error, sent_to, supply, told_of}
 pub use Rattle.pg_default.specs.Stands.{IsApart, IsOther, PagerServes, PagerStands, content_of, is_ended, is_heard_elsewhere, taking}
 pub use Rattle.pg_file.specs.Answers.{CleanEvents, FileAnswer, LeavesFile, TellsPage, clean_request}
 pub use Rattle.pg_file.specs.Files.{FileTable, has_lost}
@@ -17,7 +18,9 @@ pub use Rattle.pg_slots.specs.declared.slot_row.Held.{Held}
 pub use Rattle.sms_server.specs.Answers.{AreServerWords, IsServerWord, IsToServer, ServerAnswer}
 pub use Rattle.sms_server.specs.Stands.{MeetsProtocol, ServerServes, ServerStands}
 pub use Rattle.sms_server.specs.Table.{ServerTable}
-pub use Rattle.std.proofs.Common.{Bool, Err, IsErrOf, List, MatchOption, None, Ok, Option, Some, [], ap, append_assoc, arith, cond, false, if◌then◌else◌, inl, inr, length, length-append, nat_le, not, position, refl, rules, subst, suc, sym, take, true, zero, ℕ, ◌++◌, ◌+◌, ◌<◌, ◌∙◌, ◌∷◌, ◌≡◌, ◌≤◌, ◌⊎◌}
+pub use Rattle.std.proofs.Common.{Bool, Err, IsErrOf, List, MatchOption, None, Ok, Option, Some, [], ap, append_assoc, arith, cond, false, if◌then◌else◌, inl}
+pub use Rattle.std.proofs.Common.{inr, length, length-append, nat_le, not, position, refl, rules, subst, suc, sym, take, true, zero, ℕ, ◌++◌, ◌+◌, ◌<◌, ◌∙◌}
+pub use Rattle.std.proofs.Common.{◌∷◌, ◌≡◌, ◌≤◌, ◌⊎◌}
 pub use Rattle.std.proofs.Math.ListN.{length-set, set}
 pub use Rattle.std.proofs.lemmas.Bool.{false≢true, or_left}
 pub use Rattle.std.proofs.lemmas.Bool.Decides.{nat_tests}
@@ -25,7 +28,8 @@ pub use Rattle.std.proofs.lemmas.List.{append-nil}
 pub use Rattle.std.proofs.lemmas.Option.{none-some, same_Some, slice_get-get_or, slice_get_within}
 pub use Rattle.std.proofs.lemmas.Result.{on_err_weaker, on_ok_weaker}
 pub use Rattle.std.specs.List.{AllByRecursion, list_any, position_or_len}
-pub use Rattle.std.specs.Prelude.{IfNone, IfSome, IsSome, OnErr, OnOk, Result, get_or, is_none, is_some, nat_lt, option_map, reverse, slice_get, ◌&&◌, ◌/◌, ◌==◌, ◌||◌, ◌≢◌, IfOk}
+pub use Rattle.std.specs.Prelude.{IfNone, IfSome, IsSome, OnErr, OnOk, Result, get_or, is_none, is_some, nat_lt, option_map, reverse, slice_get, ◌&&◌, ◌/◌}
+pub use Rattle.std.specs.Prelude.{◌==◌, ◌||◌, ◌≢◌, IfOk}
 pub use Rattle.vm_abroad.proofs.Home.{home_stays, homes_next, homes_start, homes_stay, object_stays}
 pub use Rattle.vm_abroad.specs.Home.{HaveHomes, home_of, object_home}
 pub use Rattle.vm_base.specs.Buffers.{BufferStore}
@@ -44,7 +48,7 @@ pub use Rattle.vm_hosts.proofs.Tables.{all_suffice, common_all}
 pub use Rattle.vm_hosts.specs.Hosts.{AllQueued, AllRest, HostTable, IsReady}
 pub use Rattle.vm_kernel.specs.declared.breadth.Breadth.{Breadth}
 pub use Rattle.vm_hosts.specs.Steps.{Began, Going, HostsPart, Step, Stretch, Went}
-pub use Rattle.vm_kernel.proofs.Growing.{paid_of}
+pub use Rattle.vm_kernel.proofs.steps.EventsGrow.{paid_of}
 pub use Rattle.vm_kernel.specs.Abroad.{IsNobodys}
 pub use Rattle.vm_kernel.specs.Begun.{CreatesHere, IsLined, KernelSays, SomeKernelSays}
 pub use Rattle.vm_kernel.specs.Matches.{IsRanged, host_id}
@@ -54,13 +58,15 @@ pub use Rattle.vm_legal.proofs.Groups.{open_of, so_far}
 pub use Rattle.vm_legal.proofs.Inside.{before_more, taken_more, takings_more}
 pub use Rattle.vm_legal.proofs.Locks.{no_request}
 pub use Rattle.vm_legal.proofs.Paying.{lock_more, paid_more}
-pub use Rattle.vm_legal.proofs.Stretched.{each_both, each_whole, inner_both, licensed_both, licensed_front, moment_last, moments_both, moments_whole, of_both, steps_whole}
+pub use Rattle.vm_legal.proofs.Stretched.{each_both, each_whole, inner_both, licensed_both, licensed_front, moment_last, moments_both, moments_whole, of_both}
+pub use Rattle.vm_legal.proofs.Stretched.{steps_whole}
 pub use Rattle.vm_legal.specs.Accesses.{Comes, Copies, Elsewhere, HasPlace, Nowhere, Raises, Waits, WaitsUnlocked, WantsFrame, page_of}
 pub use Rattle.vm_legal.specs.Bytes.{CopiesCurrent, FlatBytes, LoadsCurrent, OwnBytes}
 pub use Rattle.vm_legal.specs.Debts.{IsPaid}
 pub use Rattle.vm_legal.specs.Follows.{IsConsequence, IsDoneSoFar, clean_head, head, take_head}
 pub use Rattle.vm_legal.specs.InTurn.{FollowsInTurn, FollowsSoFarInTurn, IsDoneInTurn, IsGroupInTurn, IsRunInTurn, IsWholeInTurn, IsWholeSoFarInTurn}
-pub use Rattle.vm_legal.specs.Frames.{FramesSuffice, Gives, Suffice, change_where, frames_after, frames_held, frames_used, returns_out, taken_down_change, taken_up_change}
+pub use Rattle.vm_legal.specs.Frames.{FramesSuffice, Gives, Suffice, change_where, frames_after, frames_held, frames_used, returns_out, taken_down_change}
+pub use Rattle.vm_legal.specs.Frames.{taken_up_change}
 pub use Rattle.vm_legal.specs.Homes.{gives_frame}
 pub use Rattle.vm_legal.specs.Legal.{HasOneWriter, Holds, IsAtRest, CanonicalFor}
 pub use Rattle.vm_legal.specs.Licences.{HasCause, MaySendUp, MayTake, ReturnsOn, is_paged, lock_taken, owed, tells, up}
@@ -108,13 +114,16 @@ pub use Rattle.vm_system.specs.Channels.{ChannelTable, channel_number}
 pub use Rattle.vm_system.specs.Keeping.{FilesAreTold, FilesCarry, MayHave}
 pub use Rattle.vm_system.specs.Lawful.{Lawful}
 pub use Rattle.vm_system.specs.Making.{Makes, Spares, SparesFiles, SparesPaging}
-pub use Rattle.vm_system.specs.Orderly.{AllLetters, Ending, EndsLast, HasHeard, HasMade, IsHeard, IsHome, IsHostLetter, IsOrderly, IsSharedWord, IsWordUp, NoEnd, home_for, is_end, is_washed, stands_in, washed_in}
+pub use Rattle.vm_system.specs.Orderly.{AllLetters, Ending, EndsLast, HasHeard, HasMade, IsHeard, IsHome, IsHostLetter, IsOrderly, IsSharedWord, IsWordUp}
+pub use Rattle.vm_system.specs.Orderly.{NoEnd, home_for, is_end, is_washed, stands_in, washed_in}
 pub use Rattle.vm_system.specs.Posts.{MayPost, AreSame, CanSend, CanTell, CanTellAll, HasRoom, HavePagesOf, IsPrepared, IsSent, OnlyRoom, Posts, SameHosts}
 pub use Rattle.vm_system.specs.Refusing.{channel_code, code_at, queue_code}
 pub use Rattle.vm_system.specs.Sends.{AreFresh, Delivered, made_by, opened}
 pub use Rattle.vm_system.specs.Settling.{DevicesCounted, StaysOpen}
-pub use Rattle.vm_system.specs.Stands.{Agrees, AllFilesServe, AllServe, AllTold, AreEmpty, AreNamedApart, AreNumbered, FilesAreKept, IsServable, PagingIsKept, StandsStill, SystemStands}
-pub use Rattle.vm_system.specs.Steps.{DevicesHaveCause, GrowsWithinLimit, HasMore, IsBelowLimit, KeepsCanonical, KeepsOpen, LeavesBacking, CanonicalOpen, MayBegin, arms, devices, is_device, is_idle, is_kept_in, lined, settles, takes_any, takes_up, took_up}
+pub use Rattle.vm_system.specs.Stands.{Agrees, AllFilesServe, AllServe, AllTold, AreEmpty, AreNamedApart, AreNumbered, FilesAreKept, IsServable, PagingIsKept}
+pub use Rattle.vm_system.specs.Stands.{StandsStill, SystemStands}
+pub use Rattle.vm_system.specs.Steps.{DevicesHaveCause, GrowsWithinLimit, HasMore, IsBelowLimit, KeepsCanonical, KeepsOpen, LeavesBacking, CanonicalOpen}
+pub use Rattle.vm_system.specs.Steps.{MayBegin, arms, devices, is_device, is_idle, is_kept_in, lined, settles, takes_any, takes_up, took_up}
 pub use Rattle.vm_system.specs.Takings.{Followed, MayTakeFrom, PagerHasAnswered, TakesStep, Took}
 pub use Rattle.vm_system.specs.declared.state.State.{State}
 pub use Rattle.vm_system.specs.declared.stop.SystemStop.{SystemStop}

@@ -1,5 +1,6 @@
 -- Behind the end of an object nothing is on the way up.
-use Rattle.vm_system.proofs.Common.{Bool, Ending, EndsLast, List, Message, NoEnd, None, Option, Some, [], ap, arith, false, first, if◌then◌else◌, inl, inr, is_end, nat_tests, never, refl, rest, subst, sym, true, without_control, ℕ, ◌++◌, ◌==◌, ◌||◌, ◌∙◌, ◌∷◌, ◌≡◌}
+use Rattle.vm_system.proofs.Common.{Bool, Ending, EndsLast, List, Message, NoEnd, None, Option, Some, [], ap, arith, false, first, if◌then◌else◌, inl, inr}
+use Rattle.vm_system.proofs.Common.{is_end, nat_tests, never, refl, rest, subst, sym, true, without_control, ℕ, ◌++◌, ◌==◌, ◌||◌, ◌∙◌, ◌∷◌, ◌≡◌}
 
 -- messages without an end have none after one more that isn't
 none_more : (q : List Message) (m : Message) → NoEnd q → is_end m ≡ false → NoEnd (q ++ m ∷ [])
@@ -19,7 +20,8 @@ alive : (control : ℕ) (live : Option ℕ) → live ≡ Some control → live �
 alive control live is none = absurd (let bad : Some control ≡ None = sym is ∙ none in cc)
 
 -- a message of the living control that isn't its end
-pub ends_said : (b ended : Bool) (live : Option ℕ) (control : ℕ) (q : List Message) (m : Message) → Ending live ended q → (b ≡ true → live ≡ Some control) → is_end m ≡ false
+pub ends_said : (b ended : Bool) (live : Option ℕ) (control : ℕ) (q : List Message) (m : Message) → Ending live ended q → (b ≡ true → live ≡ Some control)
+    → is_end m ≡ false
     → Ending live ended (if b then q ++ m ∷ [] else q)
 ends_said false ended live control q m old lives is = old
 ends_said true ended live control q m old lives is = record {
@@ -49,7 +51,8 @@ ends_ended true ended live control q m old lives = record {
     gone_is = ap (without_control control) (lives refl) ∙ chosen (control == control) None (Some control) (same control)
 
 -- the first control of an object
-pub ends_created : (b ended : Bool) (live : Option ℕ) (control : ℕ) (q : List Message) (m : Message) → Ending live ended q → (b ≡ true → (q ≡ []) × (ended ≡ false)) → is_end m ≡ false
+pub ends_created : (b ended : Bool) (live : Option ℕ) (control : ℕ) (q : List Message) (m : Message) → Ending live ended q
+    → (b ≡ true → (q ≡ []) × (ended ≡ false)) → is_end m ≡ false
     → Ending (if b then Some control else live) ended (if b then q ++ m ∷ [] else q)
 ends_created false ended live control q m old fresh is = old
 ends_created true ended live control q m old fresh is = record {
@@ -66,7 +69,9 @@ pub ends_taken : (b ended : Bool) (live : Option ℕ) (q : List Message) (m : Me
     → Ending live (if b then is_end m || ended else ended) (if b then rest q else q)
 ends_taken false ended live q m old head = old
 ends_taken true ended live [] m old head = absurd (let bad : None ≡ Some m = head refl in cc)
-ends_taken true ended live (n ∷ q) m old head = subst (λ (x : Message). Ending live (is_end x || ended) q) (same (head refl)) (elim old.last as (λ _. Ending live (is_end n || ended) q) [ inl h ↦ over h.0 h.1 | inr h ↦ more h.0 h.1 ])
+ends_taken true ended live (n ∷ q) m old head =
+    subst (λ (x : Message). Ending live (is_end x || ended) q) (same (head refl))
+    (elim old.last as (λ _. Ending live (is_end n || ended) q) [ inl h ↦ over h.0 h.1 | inr h ↦ more h.0 h.1 ])
   where
     same : Some n ≡ Some m → n ≡ m
     same e = cc

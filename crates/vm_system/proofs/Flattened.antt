@@ -1,5 +1,6 @@
 -- The files hold the flat map: where all was taken, no call of the files has failed, and no control lives.
-use Rattle.std.proofs.Common.{ℕ, ◌≡◌, ◌<◌, ◌≤◌, ◌*◌, ◌==◌, ◌&&◌, ◌||◌, not, inl, inr, Bool, true, false, List, [], ◌∷◌, Option, Some, None, refl, sym, ap, ◌∙◌, arith, if◌then◌else◌, length}
+use Rattle.std.proofs.Common.{ℕ, ◌≡◌, ◌<◌, ◌≤◌, ◌*◌, ◌==◌, ◌&&◌, ◌||◌, not, inl, inr, Bool, true, false, List, [], ◌∷◌, Option, Some, None, refl, sym, ap, ◌∙◌}
+use Rattle.std.proofs.Common.{arith, if◌then◌else◌, length}
 use Rattle.std.proofs.lemmas.Bool.Decides.{nat_tests}
 use Rattle.std.specs.Prelude.{drop, unwrap_or}
 use Rattle.vm_model.specs.declared.command.Numbered.{Numbered}
@@ -43,7 +44,8 @@ never_so : {A : Type 0} → true ≡ false → A
 never_so is = absurd (cc)
 
 -- the paging area fails for temporary objects alone
-paging_fails : (header : Header) (how : Way) (object page : ℕ) (past : List Event) → DeviceFails header device.Paging how object page past → named header ≤ object
+paging_fails : (header : Header) (how : Way) (object page : ℕ) (past : List Event) → DeviceFails header device.Paging how object page past
+    → named header ≤ object
 paging_fails header way.Read object page past c = c.0
 paging_fails header way.Write object page past c = c.0
 
@@ -55,9 +57,11 @@ or_none true b is also = never_so is
 or_none false b is also = also
 
 -- a file's page is lost only where a call of the files has failed
-never_lost : (header : Header) (outside : Outside) (o p : ℕ) (history : List Event) → EachEvent (HasCause header outside) history → is_file header o ≡ true → files_failed history ≡ false → is_lost o p history ≡ false
+never_lost : (header : Header) (outside : Outside) (o p : ℕ) (history : List Event) → EachEvent (HasCause header outside) history → is_file header o ≡ true
+    → files_failed history ≡ false → is_lost o p history ≡ false
 never_lost header outside o p [] caused file fine = refl
-never_lost header outside o p (event.Taken (Up at object) (message.Return control page dirty keep bytes) ∷ past) caused file fine = by (object.0 == o && page.0 == p) (never_lost header outside o p past caused.1 file fine)
+never_lost header outside o p (event.Taken (Up at object) (message.Return control page dirty keep bytes) ∷ past) caused file fine =
+    by (object.0 == o && page.0 == p) (never_lost header outside o p past caused.1 file fine)
   where
     by : (b : Bool) → is_lost o p past ≡ false → (if b then false else is_lost o p past) ≡ false
     by true was = refl
@@ -65,7 +69,8 @@ never_lost header outside o p (event.Taken (Up at object) (message.Return contro
 never_lost header outside o p (event.DeviceFailed device.Files how object page ∷ past) caused file fine = never_so fine
 never_lost header outside o p (event.DeviceFailed device.Paging how object page ∷ past) caused file fine =
     or_none (fails_writing o p (event.DeviceFailed device.Paging how object page)) (is_lost o p past)
-    (by_cause header outside (event.DeviceFailed device.Paging how object page) past caused.0 (λ doing c. writing how (paging_fails header how object.0 page.0 past c)))
+    (by_cause header outside (event.DeviceFailed device.Paging how object page) past caused.0
+    (λ doing c. writing how (paging_fails header how object.0 page.0 past c)))
     (never_lost header outside o p past caused.1 file fine)
   where
     writing : (w : Way) → named header ≤ object.0 → fails_writing o p (event.DeviceFailed device.Paging w object page) ≡ false
@@ -97,7 +102,8 @@ somebody object history = by (home_of object history) refl
     by None is = (0, inl is)
     by (Some host) is = (host, inr is)
 
-pub flat_files : (header : Header) (outside : Outside) (start areas : List ℕ → Told) (run : List Numbered) (h : List Event) → CanonicalOpen header outside run h → EachEvent (CopiesCurrent header outside) h → FilesAreTold header outside start → FilesCarry header start areas h
+pub flat_files : (header : Header) (outside : Outside) (start areas : List ℕ → Told) (run : List Numbered) (h : List Event) → CanonicalOpen header outside run h
+    → EachEvent (CopiesCurrent header outside) h → FilesAreTold header outside start → FilesCarry header start areas h
     → FilesAreFlat header outside start areas h
 flat_files header outside start areas run h legal current told carry = record { beyond = beyond; pages = pages }
   where
@@ -105,20 +111,26 @@ flat_files header outside start areas run h legal current told carry = record { 
     causes = so_far header outside run h (so_far_of header outside run h legal.follows)
 
     beyond : (o : ℕ) (was : Option (List ℕ)) → is_file header o ≡ true → start (name_of header o) ≡ Some was
-        → (now : Option (List ℕ)) × (areas (name_of header o) ≡ Some now) × (drop (declared_pages header o * header.size) (unwrap_or now []) ≡ drop (declared_pages header o * header.size) (unwrap_or was []))
+        → (now : Option (List ℕ)) × (areas (name_of header o) ≡ Some now)
+        × (drop (declared_pages header o * header.size) (unwrap_or now []) ≡ drop (declared_pages header o * header.size) (unwrap_or was []))
     beyond o was file is =
         let kept = carry.kept o was file is in
         let who = somebody o h in
         (kept.0, kept.1, (kept.2 who.0 who.1).beyond (declared_pages header o) (λ p above. none_beyond header outside h causes current who.0 o p file above))
 
     -- the file has what its pager has
-    holds : (host o p : ℕ) (was now : Option (List ℕ)) → is_file header o ≡ true → is_lost o p h ≡ false → IsStartTold header outside o was → FileKept header.size host o was now h → Some (read_at (unwrap_or now []) (p * header.size) header.size) ≡ pager_has header outside host o p h
+    holds : (host o p : ℕ) (was now : Option (List ℕ)) → is_file header o ≡ true → is_lost o p h ≡ false → IsStartTold header outside o was
+        → FileKept header.size host o was now h → Some (read_at (unwrap_or now []) (p * header.size) header.size) ≡ pager_has header outside host o p h
     holds host o p was now file fine at kept =
-        let start_is : start_page header outside o p ≡ read_at (unwrap_or was []) (p * header.size) header.size = ap (λ (files : FilesAtStart). start_in header files o p) at.told ∙ at.page p in
-        let begun : (if is_file header o then Some (start_page header outside o p) else None) ≡ Some (read_at (unwrap_or was []) (p * header.size) header.size) = chosen (is_file header o) (Some (start_page header outside o p)) None file ∙ ap Some start_is in
+        let start_is : start_page header outside o p ≡ read_at (unwrap_or was []) (p * header.size) header.size = ap
+        (λ (files : FilesAtStart). start_in header files o p) at.told ∙ at.page p in
+        let begun : (if is_file header o then Some (start_page header outside o p) else None) ≡ Some
+        (read_at (unwrap_or was []) (p * header.size) header.size) = chosen (is_file header o) (Some (start_page header outside o p)) None file
+        ∙ ap Some start_is in
         kept.page p fine ∙ ap (λ (x : Option (List ℕ)). newer (last_return host o p h) x) (sym begun)
 
-    pages : undelivered h ≡ [] → files_failed h ≡ false → (host o : ℕ) → host < length header.frames.items → MayHave host o h → live_control host o h ≡ None → is_file header o ≡ true → tells header outside o ≡ true → HasFlatPages header outside areas o h
+    pages : undelivered h ≡ [] → files_failed h ≡ false → (host o : ℕ) → host < length header.frames.items → MayHave host o h → live_control host o h ≡ None
+        → is_file header o ≡ true → tells header outside o ≡ true → HasFlatPages header outside areas o h
     pages delivered fine host o inside may none file says =
         let at = told.at o says file in
         let kept = carry.kept o at.0 file at.1 in
@@ -127,8 +139,11 @@ flat_files header outside start areas run h legal current told carry = record { 
           kept.0,
           kept.1,
           λ p less.
-              let away : (page_on header host o p h).here ≡ false = none_here header outside run h (any_cut header outside run h (so_far_of header outside run h legal.follows)) current legal.holds.prompt host o p inside file none in
+              let away : (page_on header host o p h).here ≡ false = none_here header outside run h
+              (any_cut header outside run h (so_far_of header outside run h legal.follows)) current legal.holds.prompt host o p inside file none in
               let has : pager_has header outside host o p h ≡ Some (flat_page header outside o p h) =
-              settled header outside h causes current host o p file silent used less (none_queued (up_port host o) h delivered) (λ here. absurd (let bad : false ≡ true = sym away ∙ here in cc)) in
-              same_bytes (read_at (unwrap_or kept.0 []) (p * header.size) header.size) (flat_page header outside o p h) (holds host o p at.0 kept.0 file (never_lost header outside o p h causes file fine) at.2 (kept.2 host may) ∙ has),
+              settled header outside h causes current host o p file silent used less (none_queued (up_port host o) h delivered)
+              (λ here. absurd (let bad : false ≡ true = sym away ∙ here in cc)) in
+              same_bytes (read_at (unwrap_or kept.0 []) (p * header.size) header.size) (flat_page header outside o p h)
+              (holds host o p at.0 kept.0 file (never_lost header outside o p h causes file fine) at.2 (kept.2 host may) ∙ has),
         )

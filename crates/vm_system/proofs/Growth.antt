@@ -1,5 +1,8 @@
 -- A step makes the history longer, and begins where it may.
-use Rattle.vm_system.proofs.Common.{AllInner, Bool, Device, Event, GrowsWithinLimit, IsBelowLimit, IsInner, List, MayBegin, None, Option, Some, Step, TakesStep, [], ap, append_assoc, arith, before_last_line, before_more, before_step, devices, false, if◌then◌else◌, inl, inr, is_device, length, lined, most_events, refl, steps_whole, subst, sym, takings, takings_more, true, ℕ, ◌++◌, ◌+◌, ◌<◌, ◌∙◌, ◌∷◌, ◌≡◌, ◌≤◌}
+use Rattle.vm_system.proofs.Common.{AllInner, Bool, Device, Event, GrowsWithinLimit, IsBelowLimit, IsInner, List, MayBegin, None, Option, Some, Step, TakesStep}
+use Rattle.vm_system.proofs.Common.{[], ap, append_assoc, arith, before_last_line, before_more, before_step, devices, false, if◌then◌else◌, inl, inr, is_device}
+use Rattle.vm_system.proofs.Common.{length, lined, most_events, refl, steps_whole, subst, sym, takings, takings_more, true, ℕ, ◌++◌, ◌+◌, ◌<◌, ◌∙◌, ◌∷◌, ◌≡◌}
+use Rattle.vm_system.proofs.Common.{◌≤◌}
 use Rattle.vm_model.specs.declared.event.Event.TheVariants as event
 
 -- what stands in front of a line, or of a step, is the same behind events inside it
@@ -46,7 +49,8 @@ grew_taken given line old new step past =
     record {
       more = step.more ++ taken ∷ front.0;
       is = whole ∙ (ap (λ z. step.more ++ taken ∷ z) front.1 ∙ sym (append_assoc step.more (taken ∷ front.0) old));
-      limit = λ below before. subst IsBelowLimit (sym whole) (steps_whole MayBegin step.more (taken ∷ lined line old) step.inner (lined_may line old below before));
+      limit =
+          λ below before. subst IsBelowLimit (sym whole) (steps_whole MayBegin step.more (taken ∷ lined line old) step.inner (lined_may line old below before));
     }
 
 pub step_taken : (given : Step) (new : List Event) → TakesStep given new → before_step new ≡ given.past

@@ -1,5 +1,8 @@
 -- The server hears of a host before it answers it: whoever holds a page, or stands in line for it, has asked for it, from a control that has its channel.
-use Rattle.vm_system.proofs.Common.{Bool, Channel, Down, Event, HasHeard, Header, HostId, IsHeard, IsHostLetter, IsWordUp, List, Message, None, ObjectId, Option, Some, Up, [], ap, arith, false, first, host_id, if◌then◌else◌, inl, inr, is_made, is_shared, length, makes, nat_tests, never, page_part, refl, stands_in, subst, suc, sym, true, zero, ℕ, ◌&&◌, ◌++◌, ◌==◌, ◌||◌, ◌∙◌, ◌∷◌, ◌≡◌, ◌⊎◌, ◌<◌}
+use Rattle.vm_system.proofs.Common.{Bool, Channel, Down, Event, HasHeard, Header, HostId, IsHeard, IsHostLetter, IsWordUp, List, Message, None, ObjectId}
+use Rattle.vm_system.proofs.Common.{Option, Some, Up, [], ap, arith, false, first, host_id, if◌then◌else◌, inl, inr, is_made, is_shared, length, makes}
+use Rattle.vm_system.proofs.Common.{nat_tests, never, page_part, refl, stands_in, subst, suc, sym, true, zero, ℕ, ◌&&◌, ◌++◌, ◌==◌, ◌||◌, ◌∙◌, ◌∷◌, ◌≡◌, ◌⊎◌}
+use Rattle.vm_system.proofs.Common.{◌<◌}
 use Rattle.vm_model.specs.declared.event.Event.TheVariants as event
 use Rattle.vm_model.specs.declared.message.Message.TheVariants as message
 use Rattle.vm_legal.specs.Licences.{ServerSends}
@@ -7,7 +10,9 @@ use Rattle.vm_model.specs.PageLicences.{ReplyCause, SupplyRow, UpgradeRow}
 use Rattle.vm_model.specs.Server.{Wanting, joined, line, stays, trimmed_line, without_request}
 use Rattle.vm_model.specs.Side.{Side, after_done, is_open_to, side, side_after, side_taken_down}
 use Rattle.vm_model.specs.TaskPlace.{means_page, task_host}
-use Rattle.vm_model.specs.Words.{Act, ActEffect, Asking, Copies, Doing, DownWord, Drops, EndsCopy, Ending as EndingWord, Failing, Fails, Lacking, Locking, Nothing, OtherDown, OtherUp, Puts, Readying, Returning, SendsUp, SentDown, StepBegins, Supplying, TakenUp, TakesDown, Unlocking, UpWord, act_if, act_of, down_word, in_range, sent_act_effect, to_others, up_word}
+use Rattle.vm_model.specs.Words.{Act, ActEffect, Asking, Copies, Doing, DownWord, Drops, EndsCopy, Ending as EndingWord, Failing, Fails, Lacking, Locking}
+use Rattle.vm_model.specs.Words.{Nothing, OtherDown, OtherUp, Puts, Readying, Returning, SendsUp, SentDown, StepBegins, Supplying, TakenUp, TakesDown}
+use Rattle.vm_model.specs.Words.{Unlocking, UpWord, act_if, act_of, down_word, in_range, sent_act_effect, to_others, up_word}
 
 -- lines
 
@@ -23,7 +28,8 @@ trimmed : (h g holds : ℕ) (ws : List Wanting) → stands_in h (trimmed_line g 
 trimmed h g holds [] is = is
 trimmed h g holds (w ∷ ws) is = by (stays g holds w) (trimmed h g holds ws) is
   where
-    by : (b : Bool) → (stands_in h (trimmed_line g holds ws) ≡ true → stands_in h ws ≡ true) → stands_in h (if b then w ∷ trimmed_line g holds ws else trimmed_line g holds ws) ≡ true → (w.host == h) || stands_in h ws ≡ true
+    by : (b : Bool) → (stands_in h (trimmed_line g holds ws) ≡ true → stands_in h ws ≡ true)
+        → stands_in h (if b then w ∷ trimmed_line g holds ws else trimmed_line g holds ws) ≡ true → (w.host == h) || stands_in h ws ≡ true
     by true more is = stands_or (w.host == h) (stands_in h (trimmed_line g holds ws)) (stands_in h ws) more is
     by false more is = stands_behind (w.host == h) (stands_in h (trimmed_line g holds ws)) (stands_in h ws) more is
 
@@ -31,7 +37,8 @@ answered : (h g : ℕ) (ws : List Wanting) → stands_in h (without_request g ws
 answered h g [] is = is
 answered h g (w ∷ ws) is = by (w.host == g) w.upgrade (answered h g ws) is
   where
-    by : (b c : Bool) → (stands_in h (without_request g ws) ≡ true → stands_in h ws ≡ true) → stands_in h (if b then (if c then w ∷ without_request g ws else ws) else w ∷ without_request g ws) ≡ true → (w.host == h) || stands_in h ws ≡ true
+    by : (b c : Bool) → (stands_in h (without_request g ws) ≡ true → stands_in h ws ≡ true)
+        → stands_in h (if b then (if c then w ∷ without_request g ws else ws) else w ∷ without_request g ws) ≡ true → (w.host == h) || stands_in h ws ≡ true
     by true true more is = stands_or (w.host == h) (stands_in h (without_request g ws)) (stands_in h ws) more is
     by true false more is = stands_behind (w.host == h) (stands_in h ws) (stands_in h ws) (λ e. e) is
     by false c more is = stands_or (w.host == h) (stands_in h (without_request g ws)) (stands_in h ws) more is
@@ -44,7 +51,8 @@ at_end h [] w is = inr (by (w.host == h) is)
     by false is = is
 at_end h (v ∷ ws) w is = by (v.host == h) (at_end h ws w) is
   where
-    by : (b : Bool) → (stands_in h (ws ++ w ∷ []) ≡ true → (stands_in h ws ≡ true) ⊎ ((w.host == h) ≡ true)) → b || stands_in h (ws ++ w ∷ []) ≡ true → (b || stands_in h ws ≡ true) ⊎ ((w.host == h) ≡ true)
+    by : (b : Bool) → (stands_in h (ws ++ w ∷ []) ≡ true → (stands_in h ws ≡ true) ⊎ ((w.host == h) ≡ true)) → b || stands_in h (ws ++ w ∷ []) ≡ true
+        → (b || stands_in h ws ≡ true) ⊎ ((w.host == h) ≡ true)
     by true more is = inl refl
     by false more is = more is
 
@@ -71,13 +79,16 @@ abbrev pub IsGranted : ℕ → ℕ → ActEffect → List Act → Type 0
 IsGranted size h (SentDown control word) acts = ReplyCause size h control word acts
 IsGranted size h e acts = Unit {0}
 
-joins : (h g : ℕ) (s : Side) (e : ActEffect) (ws : List Wanting) → ((g == h) ≡ true → asks e ≡ false) → stands_in h (joined s g e ws) ≡ true → (stands_in h ws ≡ true) ⊎ (((g == h) ≡ true) × (0 < s.holds))
+joins : (h g : ℕ) (s : Side) (e : ActEffect) (ws : List Wanting) → ((g == h) ≡ true → asks e ≡ false) → stands_in h (joined s g e ws) ≡ true
+    → (stands_in h ws ≡ true) ⊎ (((g == h) ≡ true) × (0 < s.holds))
 joins h g s (TakenUp (Asking asker access)) ws none is =
     elim (at_end h ws (record { host = g; upgrade = false; access = access }) is) [ inl stood ↦ inl stood | inr own ↦ never (sym (none own)) ]
 joins h g s (TakenUp (Unlocking access)) ws none is = by (s.holds == 1) (s.awaits == 0) refl is
   where
-    by : (b c : Bool) → (s.holds == 1) ≡ b → stands_in h (if b && c then ws ++ record { host = g; upgrade = true; access = 3 } ∷ [] else ws) ≡ true → (stands_in h ws ≡ true) ⊎ (((g == h) ≡ true) × (0 < s.holds))
-    by true true one is = elim (at_end h ws (record { host = g; upgrade = true; access = 3 }) is) [ inl stood ↦ inl stood | inr own ↦ inr (own, grind (arith, nat_tests)) ]
+    by : (b c : Bool) → (s.holds == 1) ≡ b → stands_in h (if b && c then ws ++ record { host = g; upgrade = true; access = 3 } ∷ [] else ws) ≡ true
+        → (stands_in h ws ≡ true) ⊎ (((g == h) ≡ true) × (0 < s.holds))
+    by true true one is =
+        elim (at_end h ws (record { host = g; upgrade = true; access = 3 }) is) [ inl stood ↦ inl stood | inr own ↦ inr (own, grind (arith, nat_tests)) ]
     by true false one is = inl is
     by false c one is = inl is
 joins h g s (SentDown control (Supplying lock precious bytes)) ws none is = inl (answered h g ws is)
@@ -118,25 +129,29 @@ heard_taken true s Failing = refl
 heard_taken true s Readying = refl
 heard_taken true s OtherDown = refl
 
-pub granted : (h lock : ℕ) (acts : List Act) (size control : ℕ) (precious : Bool) (bytes : List ℕ) → ReplyCause size h control (Supplying lock precious bytes) acts → stands_in h (line acts) ≡ true
+pub granted : (h lock : ℕ) (acts : List Act) (size control : ℕ) (precious : Bool) (bytes : List ℕ)
+    → ReplyCause size h control (Supplying lock precious bytes) acts → stands_in h (line acts) ≡ true
 granted h lock acts size control precious bytes (heard, plain, free, same, row) = by (first (line acts)) refl row
   where
     by : (w : Option Wanting) → first (line acts) ≡ w → SupplyRow h lock acts w → stands_in h (line acts) ≡ true
     by None is row = absurd row
     by (Some w) is row = in_front h (line acts) w is row.0
 
-pub upgraded : (h : ℕ) (acts : List Act) (size control count returns lock : ℕ) (flush : Bool) → ReplyCause size h control (Locking count returns flush lock false) acts → stands_in h (line acts) ≡ true
+pub upgraded : (h : ℕ) (acts : List Act) (size control count returns lock : ℕ) (flush : Bool)
+    → ReplyCause size h control (Locking count returns flush lock false) acts → stands_in h (line acts) ≡ true
 upgraded h acts size control count returns lock flush (heard, one, none, kept, free, nobody, others, row) = by (first (line acts)) refl row
   where
     by : (w : Option Wanting) → first (line acts) ≡ w → UpgradeRow h w → stands_in h (line acts) ≡ true
     by None is row = absurd row
     by (Some w) is row = in_front h (line acts) w is row.0
 
-own_held : (size h : ℕ) (e : ActEffect) (acts : List Act) → IsGranted size h e acts → asks e ≡ false → 0 < (side_after (side h acts) e).holds → Interested h acts
+own_held : (size h : ℕ) (e : ActEffect) (acts : List Act) → IsGranted size h e acts → asks e ≡ false → 0 < (side_after (side h acts) e).holds
+    → Interested h acts
 own_held size h (TakenUp (Asking asker access)) acts may none is = never (sym none)
 own_held size h (TakenUp (Unlocking access)) acts may none is = inl is
 own_held size h (TakenUp (Returning dirty keep bytes)) acts may none is = inl (held_returned keep (side h acts).holds is)
-own_held size h (TakenUp (Doing control count)) acts may none is = inl (held_done ((side h acts).awaited_control == control) (side h acts).holds (side h acts).awaits is)
+own_held size h (TakenUp (Doing control count)) acts may none is =
+    inl (held_done ((side h acts).awaited_control == control) (side h acts).holds (side h acts).awaits is)
 own_held size h (TakenUp (EndingWord control)) acts may none is = absurd (omega (arith, is))
 own_held size h (TakenUp OtherUp) acts may none is = inl is
 own_held size h (SentDown control (Supplying lock precious bytes)) acts may none is = inr (granted h lock acts size control precious bytes may)
@@ -203,7 +218,8 @@ IsQuiet h a = (a.host == h) ≡ true → asks a.effect ≡ false
 equal : (g h : ℕ) → (g == h) ≡ true → g ≡ h
 equal g h is = grind (arith, nat_tests)
 
-pub holds_before : (size h : ℕ) (a : Act) (acts : List Act) → IsGranted size a.host a.effect acts → IsQuiet h a → 0 < (side h (a ∷ acts)).holds → Interested h acts
+pub holds_before : (size h : ℕ) (a : Act) (acts : List Act) → IsGranted size a.host a.effect acts → IsQuiet h a → 0 < (side h (a ∷ acts)).holds
+    → Interested h acts
 holds_before size h a acts may quiet is = by (a.host == h) refl is
   where
     by : (b : Bool) → (a.host == h) ≡ b → 0 < (side_after (side h acts) (if b then a.effect else to_others a.effect)).holds → Interested h acts
@@ -319,10 +335,12 @@ unasked p m none = by (up_word p m) none
     by OtherUp none = refl
 
 -- what the server may say of an object it may say of each page
-said_down : (header : Header) (host o p control : ℕ) (m : Message) (past : List Event) → ServerSends header host o control m past → ReplyCause header.size host control (down_word p m) (page_part header.size o p past)
+said_down : (header : Header) (host o p control : ℕ) (m : Message) (past : List Event) → ServerSends header host o control m past
+    → ReplyCause header.size host control (down_word p m) (page_part header.size o p past)
 said_down header host o p control (message.Supply page lock precious bytes) past may = by (page.0 == p) refl
   where
-    by : (b : Bool) → (page.0 == p) ≡ b → ReplyCause header.size host control (if b then Supplying lock precious bytes else OtherDown) (page_part header.size o p past)
+    by : (b : Bool) → (page.0 == p) ≡ b → ReplyCause header.size host control (if b then Supplying lock precious bytes else OtherDown)
+        (page_part header.size o p past)
     by true is = subst (λ (q : ℕ). ReplyCause header.size host control (Supplying lock precious bytes) (page_part header.size o q past)) (equal page.0 p is) may
     by false is = tt
 said_down header host o p control (message.Lock page count returns flush lock reply) past may = by (in_range p page.0 count) refl
@@ -331,7 +349,8 @@ said_down header host o p control (message.Lock page count returns flush lock re
     one true may = may.1
     one false may = may.1
 
-    by : (b : Bool) → in_range p page.0 count ≡ b → ReplyCause header.size host control (if b then Locking count returns flush lock reply else OtherDown) (page_part header.size o p past)
+    by : (b : Bool) → in_range p page.0 count ≡ b → ReplyCause header.size host control (if b then Locking count returns flush lock reply else OtherDown)
+        (page_part header.size o p past)
     by true is =
         let single = one reply may in
         let same : page.0 ≡ p = grind (arith, nat_tests) in
@@ -346,7 +365,8 @@ first_act [] = record { host = 0; effect = Nothing }
 first_act (a ∷ acts) = a
 
 -- an act that asks for nothing
-kept : (header : Header) (h o p : ℕ) (e : Event) (past : List Event) (a : Act) → page_part header.size o p (e ∷ past) ≡ a ∷ page_part header.size o p past → IsGranted header.size a.host a.effect (page_part header.size o p past) → IsQuiet h a
+kept : (header : Header) (h o p : ℕ) (e : Event) (past : List Event) (a : Act) → page_part header.size o p (e ∷ past) ≡ a ∷ page_part header.size o p past
+    → IsGranted header.size a.host a.effect (page_part header.size o p past) → IsQuiet h a
     → HasHeard header h o p past → HasHeard header h o p (e ∷ past)
 kept header h o p e past a is may quiet old = record {
   holder = λ holds. again (holds_before header.size h a acts may quiet (subst (λ (z : List Act). 0 < (side h z).holds) is holds));
@@ -365,20 +385,27 @@ kept header h o p e past a is may quiet old = record {
 
     again : Interested h acts → IsHeard header h o p (e ∷ past)
     again interested =
-        let heard_of = was interested in
-        (heard_of.0, subst (λ (k : ℕ). is_made (Down (host_id h) (record { 0 = o }) k) (e ∷ past) ≡ true) (sym heard) (made_more (Down (host_id h) (record { 0 = o }) (side h acts).heard) e past heard_of.1))
+        let heard_of = was interested in (
+          heard_of.0,
+          subst (λ (k : ℕ). is_made (Down (host_id h) (record { 0 = o }) k) (e ∷ past) ≡ true) (sym heard)
+              (made_more (Down (host_id h) (record { 0 = o }) (side h acts).heard) e past heard_of.1),
+        )
 
 -- no pager has a part in the event
 mute : (header : Header) (h o p : ℕ) (e : Event) (past : List Event) → IsMute e → HasHeard header h o p past → HasHeard header h o p (e ∷ past)
-mute header h o p e past silent old = one (plain_act header.size o p (λ task. task_host task past) (λ task address. means_page header.size o p task address past) (λ host object page. (side host (page_part header.size object page past)).bytes) e silent)
+mute header h o p e past silent old =
+    one (plain_act header.size o p (λ task. task_host task past) (λ task address. means_page header.size o p task address past)
+    (λ host object page. (side host (page_part header.size object page past)).bytes) e silent)
   where
     one : IsPlain (first_act (page_part header.size o p (e ∷ past))).effect → HasHeard header h o p (e ∷ past)
     one plain =
         let a = first_act (page_part header.size o p (e ∷ past)) in
-        kept header h o p e past a refl (plain_granted header.size a.host a.effect (page_part header.size o p past) plain) (λ own. plain_quiet h a.effect plain) old
+        kept header h o p e past a refl (plain_granted header.size a.host a.effect (page_part header.size o p past) plain) (λ own. plain_quiet h a.effect plain)
+        old
 
 -- a request names a control whose channel was made
-asked_from : (size : ℕ) (made : ℕ → Bool) (p control access : ℕ) (m : Message) → up_word p m ≡ Asking control access → IsWordUp size made m → made control ≡ true
+asked_from : (size : ℕ) (made : ℕ → Bool) (p control access : ℕ) (m : Message) → up_word p m ≡ Asking control access → IsWordUp size made m
+    → made control ≡ true
 asked_from size made p control access (message.Request from page wanted) is word = by (page.0 == p) is
   where
     by : (b : Bool) → (if b then Asking from wanted else OtherUp) ≡ Asking control access → made control ≡ true
@@ -402,16 +429,20 @@ asked_from size made p control access (message.Completed from page count) is wor
 asked_from size made p control access (message.Terminate from) is word = absurd (let bad : EndingWord from ≡ Asking control access = is in cc)
 asked_from size made p control access m is word = absurd (let bad : OtherUp ≡ Asking control access = is in cc)
 
-taken_act : (header : Header) (host : HostId) (object : ObjectId) (m : Message) (past : List Event) (o p : ℕ) (effect : ActEffect) → (if object.0 == o then TakenUp (up_word p m) else StepBegins) ≡ effect
+taken_act : (header : Header) (host : HostId) (object : ObjectId) (m : Message) (past : List Event) (o p : ℕ) (effect : ActEffect)
+    → (if object.0 == o then TakenUp (up_word p m) else StepBegins) ≡ effect
     → page_part header.size o p (event.Taken (Up host object) m ∷ past) ≡ record { host = host.0; effect = effect } ∷ page_part header.size o p past
 taken_act header host object m past o p effect is = ap (λ (z : ActEffect). record { host = host.0; effect = z } ∷ page_part header.size o p past) is
 
-heard_of_asking : (h control access : ℕ) (acts : List Act) (g : ℕ) → (g == h) ≡ true → (side h (record { host = g; effect = TakenUp (Asking control access) } ∷ acts)).heard ≡ control
+heard_of_asking : (h control access : ℕ) (acts : List Act) (g : ℕ) → (g == h) ≡ true
+    → (side h (record { host = g; effect = TakenUp (Asking control access) } ∷ acts)).heard ≡ control
 heard_of_asking h control access acts g own = rw own refl
 
 -- a word of a host is taken
-word_heard : (header : Header) (host : HostId) (object : ObjectId) (m : Message) (past : List Event) → IsHostLetter header past (record { channel = Up host object; message = m }) → (h o p : ℕ) → HasHeard header h o p past
-    → (object.0 == o) ≡ true → (w : UpWord) → up_word p m ≡ w → page_part header.size o p (event.Taken (Up host object) m ∷ past) ≡ record { host = host.0; effect = TakenUp w } ∷ page_part header.size o p past
+word_heard : (header : Header) (host : HostId) (object : ObjectId) (m : Message) (past : List Event)
+    → IsHostLetter header past (record { channel = Up host object; message = m }) → (h o p : ℕ) → HasHeard header h o p past
+    → (object.0 == o) ≡ true → (w : UpWord) → up_word p m ≡ w
+    → page_part header.size o p (event.Taken (Up host object) m ∷ past) ≡ record { host = host.0; effect = TakenUp w } ∷ page_part header.size o p past
     → (b : Bool) → (host.0 == h) ≡ b → HasHeard header h o p (event.Taken (Up host object) m ∷ past)
 word_heard header host object m past letter h o p old here (Asking control access) said is true own = record { holder = λ holds. now; waiter = λ stands. now }
   where
@@ -435,7 +466,8 @@ word_heard header host object m past letter h o p old here (Asking control acces
       subst (λ (k : ℕ). is_made (Down (host_id h) (record { 0 = o }) k) (e ∷ past) ≡ true) (sym at) named,
     )
 word_heard header host object m past letter h o p old here (Asking control access) said is false own =
-    kept header h o p (event.Taken (Up host object) m) past (record { host = host.0; effect = TakenUp (Asking control access) }) is tt (λ same. never (sym own ∙ same)) old
+    kept header h o p (event.Taken (Up host object) m) past (record { host = host.0; effect = TakenUp (Asking control access) }) is tt
+    (λ same. never (sym own ∙ same)) old
 word_heard header host object m past letter h o p old here (Unlocking access) said is b own =
     kept header h o p (event.Taken (Up host object) m) past (record { host = host.0; effect = TakenUp (Unlocking access) }) is tt (λ same. refl) old
 word_heard header host object m past letter h o p old here (Returning dirty keep bytes) said is b own =
@@ -444,10 +476,12 @@ word_heard header host object m past letter h o p old here (Doing control count)
     kept header h o p (event.Taken (Up host object) m) past (record { host = host.0; effect = TakenUp (Doing control count) }) is tt (λ same. refl) old
 word_heard header host object m past letter h o p old here (EndingWord control) said is b own =
     kept header h o p (event.Taken (Up host object) m) past (record { host = host.0; effect = TakenUp (EndingWord control) }) is tt (λ same. refl) old
-word_heard header host object m past letter h o p old here OtherUp said is b own = kept header h o p (event.Taken (Up host object) m) past (record { host = host.0; effect = TakenUp OtherUp }) is tt (λ same. refl) old
+word_heard header host object m past letter h o p old here OtherUp said is b own =
+    kept header h o p (event.Taken (Up host object) m) past (record { host = host.0; effect = TakenUp OtherUp }) is tt (λ same. refl) old
 
 -- a message of a host is taken
-taken : (header : Header) (host : HostId) (object : ObjectId) (m : Message) (past : List Event) → IsHostLetter header past (record { channel = Up host object; message = m }) → (h o p : ℕ) → HasHeard header h o p past
+taken : (header : Header) (host : HostId) (object : ObjectId) (m : Message) (past : List Event)
+    → IsHostLetter header past (record { channel = Up host object; message = m }) → (h o p : ℕ) → HasHeard header h o p past
     → HasHeard header h o p (event.Taken (Up host object) m ∷ past)
 taken header host object m past letter h o p old = by (object.0 == o) refl
   where
@@ -455,19 +489,27 @@ taken header host object m past letter h o p old = by (object.0 == o) refl
     effect b = if b then TakenUp (up_word p m) else StepBegins
 
     by : (b : Bool) → (object.0 == o) ≡ b → HasHeard header h o p (event.Taken (Up host object) m ∷ past)
-    by true here = word_heard header host object m past letter h o p old here (up_word p m) refl (taken_act header host object m past o p (TakenUp (up_word p m)) (ap effect here)) (host.0 == h) refl
-    by false there = kept header h o p (event.Taken (Up host object) m) past (record { host = host.0; effect = StepBegins }) (taken_act header host object m past o p StepBegins (ap effect there)) tt (λ own. refl) old
+    by true here =
+        word_heard header host object m past letter h o p old here (up_word p m) refl
+        (taken_act header host object m past o p (TakenUp (up_word p m)) (ap effect here)) (host.0 == h) refl
+    by false there =
+        kept header h o p (event.Taken (Up host object) m) past (record { host = host.0; effect = StepBegins })
+        (taken_act header host object m past o p StepBegins (ap effect there)) tt (λ own. refl) old
 
 -- a message of a pager is sent
-sent : (header : Header) (host : HostId) (object : ObjectId) (control : ℕ) (m : Message) (past : List Event) → (is_shared header object.0 ≡ true → ServerSends header host.0 object.0 control m past) → (h o p : ℕ) → is_shared header o ≡ true
+sent : (header : Header) (host : HostId) (object : ObjectId) (control : ℕ) (m : Message) (past : List Event)
+    → (is_shared header object.0 ≡ true → ServerSends header host.0 object.0 control m past) → (h o p : ℕ) → is_shared header o ≡ true
     → HasHeard header h o p past → HasHeard header h o p (event.Sent (Down host object control) m ∷ past)
 sent header host object control m past may h o p shared old =
-    kept header h o p (event.Sent (Down host object control) m) past (act_if (object.0 == o) host.0 (SentDown control (down_word p m))) refl (granted_at (object.0 == o) refl) (λ own. quiet_at (object.0 == o)) old
+    kept header h o p (event.Sent (Down host object control) m) past (act_if (object.0 == o) host.0 (SentDown control (down_word p m))) refl
+    (granted_at (object.0 == o) refl) (λ own. quiet_at (object.0 == o)) old
   where
-    granted_at : (b : Bool) → (object.0 == o) ≡ b → IsGranted header.size host.0 (if b then SentDown control (down_word p m) else Nothing) (page_part header.size o p past)
+    granted_at : (b : Bool) → (object.0 == o) ≡ b → IsGranted header.size host.0 (if b then SentDown control (down_word p m) else Nothing)
+        (page_part header.size o p past)
     granted_at true here =
         let same = equal object.0 o here in
-        said_down header host.0 o p control m past (subst (λ (n : ℕ). ServerSends header host.0 n control m past) same (may (subst (λ (n : ℕ). is_shared header n ≡ true) (sym same) shared)))
+        said_down header host.0 o p control m past (subst (λ (n : ℕ). ServerSends header host.0 n control m past) same
+        (may (subst (λ (n : ℕ). is_shared header n ≡ true) (sym same) shared)))
     granted_at false there = tt
 
     quiet_at : (b : Bool) → asks (if b then SentDown control (down_word p m) else Nothing) ≡ false
@@ -475,7 +517,9 @@ sent header host object control m past may h o p shared old =
     quiet_at false = refl
 
 -- whatever happens, the server has heard of whom it answers
-pub heard_next : (header : Header) (e : Event) (past : List Event) → Heeds header e past → ((h o p : ℕ) → is_shared header o ≡ true → HasHeard header h o p past) → (h o p : ℕ) → is_shared header o ≡ true → HasHeard header h o p (e ∷ past)
+pub heard_next : (header : Header) (e : Event) (past : List Event) → Heeds header e past
+    → ((h o p : ℕ) → is_shared header o ≡ true → HasHeard header h o p past) → (h o p : ℕ) → is_shared header o ≡ true → HasHeard header h o p (e ∷ past)
 heard_next header (event.Taken (Up host object) m) past letter old h o p shared = taken header host object m past letter h o p (old h o p shared)
-heard_next header (event.Sent (Down host object control) m) past may old h o p shared = sent header host object control m past may h o p shared (old h o p shared)
+heard_next header (event.Sent (Down host object control) m) past may old h o p shared =
+    sent header host object control m past may h o p shared (old h o p shared)
 heard_next header e past heeds old h o p shared = mute header h o p e past tt (old h o p shared)

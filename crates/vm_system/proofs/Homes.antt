@@ -1,5 +1,8 @@
 -- Only the pager of the host of an object's region hears of the object.
-use Rattle.vm_system.proofs.Common.{Bool, Event, Header, HostId, IsHome, List, Message, None, ObjectId, Option, Some, Up, ap, arith, false, home_for, home_of, home_stays, if◌then◌else◌, inl, inr, is_heard_elsewhere, is_file, is_made, is_paged, named, nat_lt, nat_tests, never, none-some, object_home, object_stays, refl, same_Some, subst, sym, true, up, ℕ, ◌&&◌, ◌==◌, ◌||◌, ◌∙◌, ◌∷◌, ◌≡◌, ◌≢◌, ◌≤◌, ◌<◌, ◌⊎◌, EachEvent, HasCause, HaveHomes, Outside, homes_next, homes_start, []}
+use Rattle.vm_system.proofs.Common.{Bool, Event, Header, HostId, IsHome, List, Message, None, ObjectId, Option, Some, Up, ap, arith, false, home_for, home_of}
+use Rattle.vm_system.proofs.Common.{home_stays, if◌then◌else◌, inl, inr, is_heard_elsewhere, is_file, is_made, is_paged, named, nat_lt, nat_tests, never}
+use Rattle.vm_system.proofs.Common.{none-some, object_home, object_stays, refl, same_Some, subst, sym, true, up, ℕ, ◌&&◌, ◌==◌, ◌||◌, ◌∙◌, ◌∷◌, ◌≡◌, ◌≢◌, ◌≤◌}
+use Rattle.vm_system.proofs.Common.{◌<◌, ◌⊎◌, EachEvent, HasCause, HaveHomes, Outside, homes_next, homes_start, []}
 use Rattle.std.specs.Prelude.{not}
 use Rattle.vm_model.specs.declared.event.Event.TheVariants as event
 use Rattle.vm_legal.proofs.Served.{later_paged}
@@ -47,18 +50,22 @@ for_stays header h o e past is = by (nat_lt o (named header)) is
     by false is = object_stays o h e past is
 
 -- an object that has no home, or this one, had no other before
-before : (h o : ℕ) (e : Event) (past : List Event) → (object_home o (e ∷ past) ≡ None) ⊎ (object_home o (e ∷ past) ≡ Some h) → (object_home o past ≡ None) ⊎ (object_home o past ≡ Some h)
+before : (h o : ℕ) (e : Event) (past : List Event) → (object_home o (e ∷ past) ≡ None) ⊎ (object_home o (e ∷ past) ≡ Some h) → (object_home o past ≡ None)
+    ⊎ (object_home o past ≡ Some h)
 before h o e past home = by (object_home o past) refl home
   where
-    by : (was : Option ℕ) → object_home o past ≡ was → (object_home o (e ∷ past) ≡ None) ⊎ (object_home o (e ∷ past) ≡ Some h) → (object_home o past ≡ None) ⊎ (object_home o past ≡ Some h)
+    by : (was : Option ℕ) → object_home o past ≡ was → (object_home o (e ∷ past) ≡ None) ⊎ (object_home o (e ∷ past) ≡ Some h) → (object_home o past ≡ None)
+        ⊎ (object_home o past ≡ Some h)
     by None is home = inl is
     by (Some g) is (inl none) = absurd (none-some g (sym none ∙ object_stays o g e past is))
     by (Some g) is (inr here) = inr (is ∙ sym (object_stays o g e past is) ∙ here)
 
 -- no pager hears of an object, and a channel is made on the host of its region alone
-pub home_kept : (header : Header) (h o : ℕ) (e : Event) (past : List Event) → IsHome header h o past → (is_paged header o ≡ true → is_made (up h o) (e ∷ past) ≡ true → home_for header o past ≡ Some h)
+pub home_kept : (header : Header) (h o : ℕ) (e : Event) (past : List Event) → IsHome header h o past
+    → (is_paged header o ≡ true → is_made (up h o) (e ∷ past) ≡ true → home_for header o past ≡ Some h)
     → is_heard_elsewhere h o (e ∷ past) ≡ is_heard_elsewhere h o past → IsHome header h o (e ∷ past)
-home_kept header h o e past old made same = record { made = λ paged is. for_stays header h o e past (made paged is); own = λ temporary home. same ∙ old.own temporary (before h o e past home) }
+home_kept header h o e past old made same =
+    record { made = λ paged is. for_stays header h o e past (made paged is); own = λ temporary home. same ∙ old.own temporary (before h o e past home) }
 
 other_host : (a h n o : ℕ) → (not (a == h) && n == o) ≡ true → a ≢ h
 other_host a h n o is = grind (arith, nat_tests)
@@ -70,21 +77,28 @@ elsewhere : (a g n : ℕ) → g ≢ a → (not (a == g) && n == n) ≡ true
 elsewhere a g n other = grind (arith, nat_tests)
 
 -- a pager hears of an object of its own host
-pub home_taken : (header : Header) (host : HostId) (object : ObjectId) (m : Message) (past : List Event) (h o : ℕ) → IsHome header h o past → (is_paged header object.0 ≡ true → home_for header object.0 past ≡ Some host.0)
+pub home_taken : (header : Header) (host : HostId) (object : ObjectId) (m : Message) (past : List Event) (h o : ℕ) → IsHome header h o past
+    → (is_paged header object.0 ≡ true → home_for header object.0 past ≡ Some host.0)
     → IsHome header h o (event.Taken (Up host object) m ∷ past)
 home_taken header host object m past h o old here =
-    record { made = λ paged is. for_stays header h o (event.Taken (Up host object) m) past (old.made paged is); own = λ temporary home. by temporary (not (host.0 == h) && object.0 == o) refl (before h o (event.Taken (Up host object) m) past home) }
+    record {
+      made = λ paged is. for_stays header h o (event.Taken (Up host object) m) past (old.made paged is);
+      own = λ temporary home. by temporary (not (host.0 == h) && object.0 == o) refl (before h o (event.Taken (Up host object) m) past home);
+    }
   where
     its : named header ≤ o → (not (host.0 == h) && object.0 == o) ≡ true → object_home o past ≡ Some host.0
     its temporary is =
         let same : object.0 ≡ o = same_object host.0 h object.0 o is in
-        sym (home_temporary header o past temporary) ∙ subst (λ (n : ℕ). home_for header n past ≡ Some host.0) same (here (subst (λ (n : ℕ). is_paged header n ≡ true) (sym same) (later_paged header o temporary)))
+        sym (home_temporary header o past temporary) ∙ subst (λ (n : ℕ). home_for header n past ≡ Some host.0) same
+        (here (subst (λ (n : ℕ). is_paged header n ≡ true) (sym same) (later_paged header o temporary)))
 
-    by : named header ≤ o → (b : Bool) → (not (host.0 == h) && object.0 == o) ≡ b → (object_home o past ≡ None) ⊎ (object_home o past ≡ Some h) → b || is_heard_elsewhere h o past ≡ false
+    by : named header ≤ o → (b : Bool) → (not (host.0 == h) && object.0 == o) ≡ b → (object_home o past ≡ None) ⊎ (object_home o past ≡ Some h)
+        → b || is_heard_elsewhere h o past ≡ false
     by temporary false is home = old.own temporary home
     by temporary true is (inl none) = absurd (none-some host.0 (sym none ∙ its temporary is))
     by temporary true is (inr own) = absurd (other_host host.0 h object.0 o is (same_Some host.0 h (sym (its temporary is) ∙ own)))
 
 -- it is another host's for all other pagers
-pub elsewhere_taken : (host : HostId) (object : ObjectId) (m : Message) (past : List Event) (g : ℕ) → g ≢ host.0 → is_heard_elsewhere g object.0 (event.Taken (Up host object) m ∷ past) ≡ true
+pub elsewhere_taken : (host : HostId) (object : ObjectId) (m : Message) (past : List Event) (g : ℕ) → g ≢ host.0
+    → is_heard_elsewhere g object.0 (event.Taken (Up host object) m ∷ past) ≡ true
 elsewhere_taken host object m past g other = ap (λ (b : Bool). b || is_heard_elsewhere g object.0 past) (elsewhere host.0 g object.0 other)

@@ -1,5 +1,7 @@
 -- A history stays lawful with each part of a step, and in what is no matter of the server it stands for it as before.
-use Rattle.vm_system.proofs.Common.{AllInner, AllInTurn, AllServed, Channel, Command, Down, EachEvent, EachIn, EachOf, Event, HasCause, Header, IsPaid, Lawful, LicensedInTurn, List, Message, ObjectId, Outside, OwnBytes, ServerStands, ServerTable, SomeKernelSays, Up, [], each_whole, false, is_shared, steps_whole, subst, sym, ◌++◌, ◌∷◌, ◌≡◌, ℕ}
+use Rattle.vm_system.proofs.Common.{AllInner, AllInTurn, AllServed, Channel, Command, Down, EachEvent, EachIn, EachOf, Event, HasCause, Header, IsPaid, Lawful}
+use Rattle.vm_system.proofs.Common.{LicensedInTurn, List, Message, ObjectId, Outside, OwnBytes, ServerStands, ServerTable, SomeKernelSays, Up, [], each_whole}
+use Rattle.vm_system.proofs.Common.{false, is_shared, steps_whole, subst, sym, ◌++◌, ◌∷◌, ◌≡◌, ℕ}
 use Rattle.vm_model.specs.declared.command.Command.TheVariants as command
 use Rattle.vm_model.specs.declared.event.Event.TheVariants as event
 use Rattle.sms_server.specs.Stands.{IsOther as IsServerOther}
@@ -10,11 +12,14 @@ use Rattle.vm_legal.specs.InTurn.{AllRecalled}
 
 -- the history
 
-causes_more : (header : Header) (outside : Outside) (doing : Command) (events past : List Event) → AllInTurn header outside doing events past → EachEvent (HasCause header outside) past → EachEvent (HasCause header outside) (events ++ past)
+causes_more : (header : Header) (outside : Outside) (doing : Command) (events past : List Event) → AllInTurn header outside doing events past
+    → EachEvent (HasCause header outside) past → EachEvent (HasCause header outside) (events ++ past)
 causes_more header outside doing [] past licences old = old
-causes_more header outside doing (e ∷ events) past licences old = ((doing, cause_of header outside doing e (events ++ past) licences.0.0), causes_more header outside doing events past licences.1 old)
+causes_more header outside doing (e ∷ events) past licences old =
+    ((doing, cause_of header outside doing e (events ++ past) licences.0.0), causes_more header outside doing events past licences.1 old)
 
-pub lawful_more : (header : Header) (outside : Outside) (doing : Command) (events past : List Event) → AllInTurn header outside doing events past → EachIn (OwnBytes header) events past → AllInner events → Lawful header outside past
+pub lawful_more : (header : Header) (outside : Outside) (doing : Command) (events past : List Event) → AllInTurn header outside doing events past
+    → EachIn (OwnBytes header) events past → AllInner events → Lawful header outside past
     → Lawful header outside (events ++ past)
 lawful_more header outside doing events past licences own inner old = record {
   causes = causes_more header outside doing events past licences old.causes;
@@ -22,14 +27,16 @@ lawful_more header outside doing events past licences own inner old = record {
   paid = steps_whole (IsPaid header) events past inner old.paid;
 }
 
-pub lawful_line : (header : Header) (outside : Outside) (line : ℕ) (past : List Event) → IsPaid header past → Lawful header outside past → Lawful header outside (event.Line line ∷ past)
+pub lawful_line : (header : Header) (outside : Outside) (line : ℕ) (past : List Event) → IsPaid header past → Lawful header outside past
+    → Lawful header outside (event.Line line ∷ past)
 lawful_line header outside line past paid old = record {
   causes = ((command.Settle 0, tt), old.causes);
   own_bytes = (tt, old.own_bytes);
   paid = (paid, old.paid);
 }
 
-pub lawful_taken : (header : Header) (outside : Outside) (doing : Command) (channel : Channel) (m : Message) (past : List Event) → LicensedInTurn header outside doing (event.Taken channel m) past → IsPaid header past → Lawful header outside past
+pub lawful_taken : (header : Header) (outside : Outside) (doing : Command) (channel : Channel) (m : Message) (past : List Event)
+    → LicensedInTurn header outside doing (event.Taken channel m) past → IsPaid header past → Lawful header outside past
     → Lawful header outside (event.Taken channel m ∷ past)
 lawful_taken header outside doing channel m past licence paid old = record {
   causes = ((doing, licence.0), old.causes);
@@ -39,15 +46,19 @@ lawful_taken header outside doing channel m past licence paid old = record {
 
 -- the server
 
-pub server_more : (header : Header) (table : ServerTable) (events past : List Event) → EachOf (IsServerOther header) events → ServerStands header table past → ServerStands header table (events ++ past)
+pub server_more : (header : Header) (table : ServerTable) (events past : List Event) → EachOf (IsServerOther header) events → ServerStands header table past
+    → ServerStands header table (events ++ past)
 server_more header table [] past other stands = stands
-server_more header table (e ∷ events) past other stands = server_other header table e (events ++ past) other.0 (server_more header table events past other.1 stands)
+server_more header table (e ∷ events) past other stands =
+    server_other header table e (events ++ past) other.0 (server_more header table events past other.1 stands)
 
-pub served_more : (header : Header) (events past : List Event) → EachOf (IsServerOther header) events → AllServed header past → AllServed header (events ++ past)
+pub served_more : (header : Header) (events past : List Event) → EachOf (IsServerOther header) events → AllServed header past
+    → AllServed header (events ++ past)
 served_more header [] past other served = served
 served_more header (e ∷ events) past other served = served_other header e (events ++ past) other.0 (served_more header events past other.1 served)
 
-pub recalled_more : (header : Header) (events past : List Event) → EachOf (IsServerOther header) events → AllRecalled header past → AllRecalled header (events ++ past)
+pub recalled_more : (header : Header) (events past : List Event) → EachOf (IsServerOther header) events → AllRecalled header past
+    → AllRecalled header (events ++ past)
 recalled_more header [] past other recalled = recalled
 recalled_more header (e ∷ events) past other recalled = recalled_other header e (events ++ past) other.0 (recalled_more header events past other.1 recalled)
 
@@ -60,7 +71,8 @@ other_about header object (event.DeviceFailed who way o page) plain about = tt
 other_about header object (event.NoSlot o page) plain about = tt
 other_about header object other plain about = absurd about
 
-pub others_about : (header : Header) (object : ObjectId) (events : List Event) → is_shared header object.0 ≡ false → EachOf (IsAbout object) events → EachOf (IsServerOther header) events
+pub others_about : (header : Header) (object : ObjectId) (events : List Event) → is_shared header object.0 ≡ false → EachOf (IsAbout object) events
+    → EachOf (IsServerOther header) events
 others_about header object [] plain about = tt
 others_about header object (e ∷ events) plain about = (other_about header object e plain about.0, others_about header object events plain about.1)
 

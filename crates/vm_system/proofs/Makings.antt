@@ -1,5 +1,8 @@
 -- Channels are made with the controls of their objects.
-use Rattle.vm_system.proofs.Common.{Bool, Down, Event, HasMade, HostId, IsWordUp, List, Message, None, ObjectId, Option, PageNo, Some, Up, [], arith, false, first, host_id, if◌then◌else◌, inl, inr, is_end, is_ended, is_made, known_after, known_control, last_control, live_control, nat_tests, never, queue, refl, rest, subst, sym, true, up, without_control, ℕ, ◌&&◌, ◌+◌, ◌++◌, ◌<◌, ◌==◌, ◌||◌, ◌∙◌, ◌∷◌, ◌≡◌, ◌⊎◌}
+use Rattle.vm_system.proofs.Common.{Bool, Down, Event, HasMade, HostId, IsWordUp, List, Message, None, ObjectId, Option, PageNo, Some, Up, [], arith, false}
+use Rattle.vm_system.proofs.Common.{first, host_id, if◌then◌else◌, inl, inr, is_end, is_ended, is_made, known_after, known_control, last_control, live_control}
+use Rattle.vm_system.proofs.Common.{nat_tests, never, queue, refl, rest, subst, sym, true, up, without_control, ℕ, ◌&&◌, ◌+◌, ◌++◌, ◌<◌, ◌==◌, ◌||◌, ◌∙◌, ◌∷◌}
+use Rattle.vm_system.proofs.Common.{◌≡◌, ◌⊎◌}
 use Rattle.vm_model.specs.declared.event.Event.TheVariants as event
 use Rattle.vm_model.specs.declared.message.Message.TheVariants as message
 
@@ -25,19 +28,48 @@ pub record Facts (live : Option ℕ) (last : ℕ) (ended : Bool) (q : List Messa
 
 -- of an object on a host
 abbrev FactsAt : ℕ → ℕ → List Event → Type 0
-FactsAt h o past = Facts (live_control h o past) (last_control h o past) (is_ended h o past) (queue (up h o) past) (is_made (up h o) past) (λ k. is_made (Down (host_id h) (record { 0 = o }) k) past) (known_control h o past)
+FactsAt h o past =
+    Facts (live_control h o past) (last_control h o past) (is_ended h o past) (queue (up h o) past) (is_made (up h o) past)
+    (λ k. is_made (Down (host_id h) (record { 0 = o }) k) past) (known_control h o past)
 
 facts_of : (h o : ℕ) (past : List Event) → HasMade h o past → FactsAt h o past
-facts_of h o past made = record { live_made = made.live; never_made = made.never; begun = made.ended; quiet = made.quiet; unmade = made.unmade; unknown = made.unknown; told = made.known }
+facts_of h o past made =
+    record {
+      live_made = made.live;
+      never_made = made.never;
+      begun = made.ended;
+      quiet = made.quiet;
+      unmade = made.unmade;
+      unknown = made.unknown;
+      told = made.known;
+    }
 
 has_made : (h o : ℕ) (past : List Event) → FactsAt h o past → HasMade h o past
-has_made h o past facts = record { live = facts.live_made; never = facts.never_made; ended = facts.begun; quiet = facts.quiet; unmade = facts.unmade; unknown = facts.unknown; known = facts.told }
+has_made h o past facts =
+    record {
+      live = facts.live_made;
+      never = facts.never_made;
+      ended = facts.begun;
+      quiet = facts.quiet;
+      unmade = facts.unmade;
+      unknown = facts.unknown;
+      known = facts.told;
+    }
 
 -- a message of a living control
-facts_said : (b : Bool) (live now : Option ℕ) (last control : ℕ) (ended : Bool) (q : List Message) (m : Message) (port : Bool) (down : ℕ → Bool) (known : Option ℕ) → Facts live last ended q port down known
+facts_said : (b : Bool) (live now : Option ℕ) (last control : ℕ) (ended : Bool) (q : List Message) (m : Message) (port : Bool) (down : ℕ → Bool)
+    (known : Option ℕ) → Facts live last ended q port down known
     → (b ≡ true → live ≡ Some control) → ((k : ℕ) → now ≡ Some k → live ≡ Some k) → Facts now last ended (if b then q ++ m ∷ [] else q) port down known
 facts_said false live now last control ended q m port down known old lives fewer =
-    record { live_made = λ k at. old.live_made k (fewer k at); never_made = old.never_made; begun = old.begun; quiet = old.quiet; unmade = old.unmade; unknown = old.unknown; told = old.told }
+    record {
+      live_made = λ k at. old.live_made k (fewer k at);
+      never_made = old.never_made;
+      begun = old.begun;
+      quiet = old.quiet;
+      unmade = old.unmade;
+      unknown = old.unknown;
+      told = old.told;
+    }
 facts_said true live now last control ended q m port down known old lives fewer = record {
   live_made = λ k at. old.live_made k (fewer k at);
   never_made = old.never_made;
@@ -49,13 +81,16 @@ facts_said true live now last control ended q m port down known old lives fewer 
 }
 
 -- the next control of an object
-facts_opened : (a b : Bool) (live : Option ℕ) (last control : ℕ) (ended : Bool) (q : List Message) (m : Message) (port : Bool) (down : ℕ → Bool) (known : Option ℕ) → Facts live last ended q port down known
+facts_opened : (a b : Bool) (live : Option ℕ) (last control : ℕ) (ended : Bool) (q : List Message) (m : Message) (port : Bool) (down : ℕ → Bool)
+    (known : Option ℕ) → Facts live last ended q port down known
     → ((a && b) ≡ true → control ≡ last + 1)
-    → Facts (if a && b then Some control else live) (if a && b then control else last) ended (if a && b then q ++ m ∷ [] else q) ((a && b) || port) (λ k. (a && (b && k == control)) || down k) known
+    → Facts (if a && b then Some control else live) (if a && b then control else last) ended (if a && b then q ++ m ∷ [] else q) ((a && b) || port)
+    (λ k. (a && (b && k == control)) || down k) known
 facts_opened false b live last control ended q m port down known old next = old
 facts_opened true false live last control ended q m port down known old next = old
 facts_opened true true live last control ended q m port down known old next = record {
-  live_made = λ k at. (refl, subst (λ (n : ℕ). (n == control) || down n ≡ true) (inner k at) (subst (λ (x : Bool). x || down control ≡ true) (sym (own control)) refl));
+  live_made =
+      λ k at. (refl, subst (λ (n : ℕ). (n == control) || down n ≡ true) (inner k at) (subst (λ (x : Bool). x || down control ≡ true) (sym (own control)) refl));
   never_made = λ zero. absurd (some zero);
   begun = λ gone zero. some zero;
   quiet = λ none. never (sym none);
@@ -103,8 +138,10 @@ known_by (message.Terminate control) was k at = inr (fewer true control was k at
 known_by other was k at = inr at
 
 -- the first message is taken
-facts_taken : (b : Bool) (live : Option ℕ) (last : ℕ) (ended : Bool) (q : List Message) (m : Message) (port : Bool) (down : ℕ → Bool) (known : Option ℕ) → Facts live last ended q port down known
-    → (b ≡ true → first q ≡ Some m) → (b ≡ true → (k : ℕ) → known_after m None ≡ Some k → down k ≡ true) → Facts live last (if b then is_end m || ended else ended) (if b then rest q else q) port down (if b then known_after m known else known)
+facts_taken : (b : Bool) (live : Option ℕ) (last : ℕ) (ended : Bool) (q : List Message) (m : Message) (port : Bool) (down : ℕ → Bool) (known : Option ℕ)
+    → Facts live last ended q port down known
+    → (b ≡ true → first q ≡ Some m) → (b ≡ true → (k : ℕ) → known_after m None ≡ Some k → down k ≡ true)
+    → Facts live last (if b then is_end m || ended else ended) (if b then rest q else q) port down (if b then known_after m known else known)
 facts_taken false live last ended q m port down known old head word = old
 facts_taken true live last ended q m port down known old head word = record {
   live_made = old.live_made;
@@ -134,63 +171,92 @@ ended_is h o host object m past = one (host.0 == h && object.0 == o) (is_ended h
     one false e = refl
 
 -- the control of an object is its number's
-pub of_number : (host : HostId) (object : ObjectId) (h o control : ℕ) (past : List Event) → live_control host.0 object.0 past ≡ Some control → (host.0 == h && object.0 == o) ≡ true → live_control h o past ≡ Some control
+pub of_number : (host : HostId) (object : ObjectId) (h o control : ℕ) (past : List Event) → live_control host.0 object.0 past ≡ Some control
+    → (host.0 == h && object.0 == o) ≡ true → live_control h o past ≡ Some control
 of_number host object h o control past lives is = at_place (λ a n. live_control a n past ≡ Some control) host.0 object.0 h o is lives
 
-pub made_requested : (host : HostId) (object : ObjectId) (control access : ℕ) (page : PageNo) (past : List Event) (h o : ℕ) → HasMade h o past → live_control host.0 object.0 past ≡ Some control
+pub made_requested : (host : HostId) (object : ObjectId) (control access : ℕ) (page : PageNo) (past : List Event) (h o : ℕ) → HasMade h o past
+    → live_control host.0 object.0 past ≡ Some control
     → HasMade h o (event.Sent (Up host object) (message.Request control page access) ∷ past)
 made_requested host object control access page past h o made lives = has_made h o (event.Sent (Up host object) (message.Request control page access) ∷ past)
-    (facts_said (host.0 == h && object.0 == o) (live_control h o past) (live_control h o past) (last_control h o past) control (is_ended h o past) (queue (up h o) past) (message.Request control page access) (is_made (up h o) past)
-    (λ k. is_made (Down (host_id h) (record { 0 = o }) k) past) (known_control h o past) (facts_of h o past made) (of_number host object h o control past lives) (λ k at. at))
+    (facts_said (host.0 == h && object.0 == o) (live_control h o past) (live_control h o past) (last_control h o past) control (is_ended h o past)
+    (queue (up h o) past) (message.Request control page access) (is_made (up h o) past)
+    (λ k. is_made (Down (host_id h) (record { 0 = o }) k) past) (known_control h o past) (facts_of h o past made) (of_number host object h o control past lives)
+    (λ k at. at))
 
-pub made_unlocked : (host : HostId) (object : ObjectId) (control access : ℕ) (page : PageNo) (past : List Event) (h o : ℕ) → HasMade h o past → live_control host.0 object.0 past ≡ Some control
+pub made_unlocked : (host : HostId) (object : ObjectId) (control access : ℕ) (page : PageNo) (past : List Event) (h o : ℕ) → HasMade h o past
+    → live_control host.0 object.0 past ≡ Some control
     → HasMade h o (event.Sent (Up host object) (message.Unlock control page access) ∷ past)
 made_unlocked host object control access page past h o made lives = has_made h o (event.Sent (Up host object) (message.Unlock control page access) ∷ past)
-    (facts_said (host.0 == h && object.0 == o) (live_control h o past) (live_control h o past) (last_control h o past) control (is_ended h o past) (queue (up h o) past) (message.Unlock control page access) (is_made (up h o) past)
-    (λ k. is_made (Down (host_id h) (record { 0 = o }) k) past) (known_control h o past) (facts_of h o past made) (of_number host object h o control past lives) (λ k at. at))
+    (facts_said (host.0 == h && object.0 == o) (live_control h o past) (live_control h o past) (last_control h o past) control (is_ended h o past)
+    (queue (up h o) past) (message.Unlock control page access) (is_made (up h o) past)
+    (λ k. is_made (Down (host_id h) (record { 0 = o }) k) past) (known_control h o past) (facts_of h o past made) (of_number host object h o control past lives)
+    (λ k at. at))
 
-pub made_completed : (host : HostId) (object : ObjectId) (control count : ℕ) (page : PageNo) (past : List Event) (h o : ℕ) → HasMade h o past → live_control host.0 object.0 past ≡ Some control
+pub made_completed : (host : HostId) (object : ObjectId) (control count : ℕ) (page : PageNo) (past : List Event) (h o : ℕ) → HasMade h o past
+    → live_control host.0 object.0 past ≡ Some control
     → HasMade h o (event.Sent (Up host object) (message.Completed control page count) ∷ past)
 made_completed host object control count page past h o made lives = has_made h o (event.Sent (Up host object) (message.Completed control page count) ∷ past)
-    (facts_said (host.0 == h && object.0 == o) (live_control h o past) (live_control h o past) (last_control h o past) control (is_ended h o past) (queue (up h o) past) (message.Completed control page count) (is_made (up h o) past)
-    (λ k. is_made (Down (host_id h) (record { 0 = o }) k) past) (known_control h o past) (facts_of h o past made) (of_number host object h o control past lives) (λ k at. at))
+    (facts_said (host.0 == h && object.0 == o) (live_control h o past) (live_control h o past) (last_control h o past) control (is_ended h o past)
+    (queue (up h o) past) (message.Completed control page count) (is_made (up h o) past)
+    (λ k. is_made (Down (host_id h) (record { 0 = o }) k) past) (known_control h o past) (facts_of h o past made) (of_number host object h o control past lives)
+    (λ k at. at))
 
-pub made_returned : (host : HostId) (object : ObjectId) (control : ℕ) (page : PageNo) (dirty keep : Bool) (bytes : List ℕ) (past : List Event) (h o : ℕ) → HasMade h o past → live_control host.0 object.0 past ≡ Some control
+pub made_returned : (host : HostId) (object : ObjectId) (control : ℕ) (page : PageNo) (dirty keep : Bool) (bytes : List ℕ) (past : List Event) (h o : ℕ)
+    → HasMade h o past → live_control host.0 object.0 past ≡ Some control
     → HasMade h o (event.Sent (Up host object) (message.Return control page dirty keep bytes) ∷ past)
-made_returned host object control page dirty keep bytes past h o made lives = has_made h o (event.Sent (Up host object) (message.Return control page dirty keep bytes) ∷ past)
-    (facts_said (host.0 == h && object.0 == o) (live_control h o past) (live_control h o past) (last_control h o past) control (is_ended h o past) (queue (up h o) past) (message.Return control page dirty keep bytes) (is_made (up h o) past)
-    (λ k. is_made (Down (host_id h) (record { 0 = o }) k) past) (known_control h o past) (facts_of h o past made) (of_number host object h o control past lives) (λ k at. at))
+made_returned host object control page dirty keep bytes past h o made lives =
+    has_made h o (event.Sent (Up host object) (message.Return control page dirty keep bytes) ∷ past)
+    (facts_said (host.0 == h && object.0 == o) (live_control h o past) (live_control h o past) (last_control h o past) control (is_ended h o past)
+    (queue (up h o) past) (message.Return control page dirty keep bytes) (is_made (up h o) past)
+    (λ k. is_made (Down (host_id h) (record { 0 = o }) k) past) (known_control h o past) (facts_of h o past made) (of_number host object h o control past lives)
+    (λ k at. at))
 
-pub made_terminated : (host : HostId) (object : ObjectId) (control : ℕ) (past : List Event) (h o : ℕ) → HasMade h o past → live_control host.0 object.0 past ≡ Some control
+pub made_terminated : (host : HostId) (object : ObjectId) (control : ℕ) (past : List Event) (h o : ℕ) → HasMade h o past
+    → live_control host.0 object.0 past ≡ Some control
     → HasMade h o (event.Sent (Up host object) (message.Terminate control) ∷ past)
 made_terminated host object control past h o made lives = has_made h o (event.Sent (Up host object) (message.Terminate control) ∷ past)
-    (facts_said (host.0 == h && object.0 == o) (live_control h o past) (live_control h o (event.Sent (Up host object) (message.Terminate control) ∷ past)) (last_control h o past) control (is_ended h o past) (queue (up h o) past) (message.Terminate control) (is_made (up h o) past)
-    (λ k. is_made (Down (host_id h) (record { 0 = o }) k) past) (known_control h o past) (facts_of h o past made) (of_number host object h o control past lives) (fewer (host.0 == h && object.0 == o) control (live_control h o past)))
+    (facts_said (host.0 == h && object.0 == o) (live_control h o past) (live_control h o (event.Sent (Up host object) (message.Terminate control) ∷ past))
+    (last_control h o past) control (is_ended h o past) (queue (up h o) past) (message.Terminate control) (is_made (up h o) past)
+    (λ k. is_made (Down (host_id h) (record { 0 = o }) k) past) (known_control h o past) (facts_of h o past made) (of_number host object h o control past lives)
+    (fewer (host.0 == h && object.0 == o) control (live_control h o past)))
 
 -- the channel of a new control is made, and the one up
 
-pub made_created : (host : HostId) (object : ObjectId) (control size : ℕ) (past : List Event) (h o : ℕ) → HasMade h o past → control ≡ last_control host.0 object.0 past + 1
+pub made_created : (host : HostId) (object : ObjectId) (control size : ℕ) (past : List Event) (h o : ℕ) → HasMade h o past
+    → control ≡ last_control host.0 object.0 past + 1
     → HasMade h o (event.Sent (Up host object) (message.Create control size) ∷ past)
 made_created host object control size past h o made next = has_made h o (event.Sent (Up host object) (message.Create control size) ∷ past)
     (subst (λ (x : Bool). Opened x (o == object.0)) (same_test host.0 h) (subst (λ (y : Bool). Opened (host.0 == h) y) (same_test object.0 o)
-    (facts_opened (host.0 == h) (object.0 == o) (live_control h o past) (last_control h o past) control (is_ended h o past) (queue (up h o) past) (message.Create control size) (is_made (up h o) past)
-    (λ k. is_made (Down (host_id h) (record { 0 = o }) k) past) (known_control h o past) (facts_of h o past made) (λ is. at_place (λ a n. control ≡ last_control a n past + 1) host.0 object.0 h o is next))))
+    (facts_opened (host.0 == h) (object.0 == o) (live_control h o past) (last_control h o past) control (is_ended h o past) (queue (up h o) past)
+    (message.Create control size) (is_made (up h o) past)
+    (λ k. is_made (Down (host_id h) (record { 0 = o }) k) past) (known_control h o past) (facts_of h o past made)
+    (λ is. at_place (λ a n. control ≡ last_control a n past + 1) host.0 object.0 h o is next))))
   where
     Opened : Bool → Bool → Type 0
-    Opened x y = Facts (if host.0 == h && object.0 == o then Some control else live_control h o past) (if host.0 == h && object.0 == o then control else last_control h o past) (is_ended h o past)
-        (if host.0 == h && object.0 == o then queue (up h o) past ++ (message.Create control size) ∷ [] else queue (up h o) past) ((x && y) || is_made (up h o) past)
+    Opened x y =
+        Facts (if host.0 == h && object.0 == o then Some control else live_control h o past)
+        (if host.0 == h && object.0 == o then control else last_control h o past) (is_ended h o past)
+        (if host.0 == h && object.0 == o then queue (up h o) past ++ (message.Create control size) ∷ [] else queue (up h o) past)
+        ((x && y) || is_made (up h o) past)
         (λ k. (x && (y && k == control)) || is_made (Down (host_id h) (record { 0 = o }) k) past) (known_control h o past)
 
-pub made_opened : (host : HostId) (object : ObjectId) (control size : ℕ) (past : List Event) (h o : ℕ) → HasMade h o past → control ≡ last_control host.0 object.0 past + 1
+pub made_opened : (host : HostId) (object : ObjectId) (control size : ℕ) (past : List Event) (h o : ℕ) → HasMade h o past
+    → control ≡ last_control host.0 object.0 past + 1
     → HasMade h o (event.Sent (Up host object) (message.Init control size) ∷ past)
 made_opened host object control size past h o made next = has_made h o (event.Sent (Up host object) (message.Init control size) ∷ past)
     (subst (λ (x : Bool). Opened x (o == object.0)) (same_test host.0 h) (subst (λ (y : Bool). Opened (host.0 == h) y) (same_test object.0 o)
-    (facts_opened (host.0 == h) (object.0 == o) (live_control h o past) (last_control h o past) control (is_ended h o past) (queue (up h o) past) (message.Init control size) (is_made (up h o) past)
-    (λ k. is_made (Down (host_id h) (record { 0 = o }) k) past) (known_control h o past) (facts_of h o past made) (λ is. at_place (λ a n. control ≡ last_control a n past + 1) host.0 object.0 h o is next))))
+    (facts_opened (host.0 == h) (object.0 == o) (live_control h o past) (last_control h o past) control (is_ended h o past) (queue (up h o) past)
+    (message.Init control size) (is_made (up h o) past)
+    (λ k. is_made (Down (host_id h) (record { 0 = o }) k) past) (known_control h o past) (facts_of h o past made)
+    (λ is. at_place (λ a n. control ≡ last_control a n past + 1) host.0 object.0 h o is next))))
   where
     Opened : Bool → Bool → Type 0
-    Opened x y = Facts (if host.0 == h && object.0 == o then Some control else live_control h o past) (if host.0 == h && object.0 == o then control else last_control h o past) (is_ended h o past)
-        (if host.0 == h && object.0 == o then queue (up h o) past ++ (message.Init control size) ∷ [] else queue (up h o) past) ((x && y) || is_made (up h o) past)
+    Opened x y =
+        Facts (if host.0 == h && object.0 == o then Some control else live_control h o past)
+        (if host.0 == h && object.0 == o then control else last_control h o past) (is_ended h o past)
+        (if host.0 == h && object.0 == o then queue (up h o) past ++ (message.Init control size) ∷ [] else queue (up h o) past)
+        ((x && y) || is_made (up h o) past)
         (λ k. (x && (y && k == control)) || is_made (Down (host_id h) (record { 0 = o }) k) past) (known_control h o past)
 
 -- what a kernel says of a control that it tells of
@@ -200,15 +266,20 @@ word_known size made (message.Create control bytes) word k at = subst (λ (n : �
 word_known size made (message.Terminate control) word k at = absurd (let bad : None ≡ Some k = at in cc)
 word_known size made other word k at = absurd (let bad : None ≡ Some k = at in cc)
 
-pub made_taken : (host : HostId) (object : ObjectId) (m : Message) (size : ℕ) (past : List Event) (h o : ℕ) → HasMade h o past → first (queue (Up host object) past) ≡ Some m
+pub made_taken : (host : HostId) (object : ObjectId) (m : Message) (size : ℕ) (past : List Event) (h o : ℕ) → HasMade h o past
+    → first (queue (Up host object) past) ≡ Some m
     → IsWordUp size (λ control. is_made (Down host object control) past) m → HasMade h o (event.Taken (Up host object) m ∷ past)
 made_taken host object m size past h o made head word = has_made h o (event.Taken (Up host object) m ∷ past)
-    (subst (λ (x : Bool). Facts (live_control h o past) (last_control h o past) x (if host.0 == h && object.0 == o then rest (queue (up h o) past) else queue (up h o) past) (is_made (up h o) past)
-    (λ k. is_made (Down (host_id h) (record { 0 = o }) k) past) (if host.0 == h && object.0 == o then known_after m (known_control h o past) else known_control h o past))
+    (subst (λ (x : Bool). Facts (live_control h o past) (last_control h o past) x
+    (if host.0 == h && object.0 == o then rest (queue (up h o) past) else queue (up h o) past) (is_made (up h o) past)
+    (λ k. is_made (Down (host_id h) (record { 0 = o }) k) past) (if host.0 == h && object.0 == o then known_after m (known_control h o past) else known_control
+    h o past))
     (sym (ended_is h o host object m past))
-    (facts_taken (host.0 == h && object.0 == o) (live_control h o past) (last_control h o past) (is_ended h o past) (queue (up h o) past) m (is_made (up h o) past) (λ k. is_made (Down (host_id h) (record { 0 = o }) k) past)
+    (facts_taken (host.0 == h && object.0 == o) (live_control h o past) (last_control h o past) (is_ended h o past) (queue (up h o) past) m
+    (is_made (up h o) past) (λ k. is_made (Down (host_id h) (record { 0 = o }) k) past)
     (known_control h o past) (facts_of h o past made) (λ is. at_place (λ a n. first (queue (up a n) past) ≡ Some m) host.0 object.0 h o is head)
-    (λ is k at. at_place (λ a n. is_made (Down (host_id a) (record { 0 = n }) k) past ≡ true) host.0 object.0 h o is (word_known size (λ control. is_made (Down host object control) past) m word k at))))
+    (λ is k at. at_place (λ a n. is_made (Down (host_id a) (record { 0 = n }) k) past ≡ true) host.0 object.0 h o is
+    (word_known size (λ control. is_made (Down host object control) past) m word k at))))
 
 -- the event is no message to a pager, and none that a pager takes
 abbrev pub LeavesControls : Event → Type 0
@@ -219,9 +290,12 @@ LeavesControls other = Unit {0}
 pub made_kept : (e : Event) (past : List Event) (h o : ℕ) → LeavesControls e → HasMade h o past → HasMade h o (e ∷ past)
 made_kept (event.Sent (Up host object) m) past h o leaves was = absurd leaves
 made_kept (event.Taken (Up host object) m) past h o leaves was = absurd leaves
-made_kept (event.Sent (Down host object control) m) past h o leaves was = record { live = was.live; never = was.never; ended = was.ended; quiet = was.quiet; unmade = was.unmade; unknown = was.unknown; known = was.known }
-made_kept (event.Taken (Down host object control) m) past h o leaves was = record { live = was.live; never = was.never; ended = was.ended; quiet = was.quiet; unmade = was.unmade; unknown = was.unknown; known = was.known }
-made_kept e past h o leaves was = record { live = was.live; never = was.never; ended = was.ended; quiet = was.quiet; unmade = was.unmade; unknown = was.unknown; known = was.known }
+made_kept (event.Sent (Down host object control) m) past h o leaves was =
+    record { live = was.live; never = was.never; ended = was.ended; quiet = was.quiet; unmade = was.unmade; unknown = was.unknown; known = was.known }
+made_kept (event.Taken (Down host object control) m) past h o leaves was =
+    record { live = was.live; never = was.never; ended = was.ended; quiet = was.quiet; unmade = was.unmade; unknown = was.unknown; known = was.known }
+made_kept e past h o leaves was =
+    record { live = was.live; never = was.never; ended = was.ended; quiet = was.quiet; unmade = was.unmade; unknown = was.unknown; known = was.known }
 
 pub made_none : (h o : ℕ) → HasMade h o []
 made_none h o = record {

@@ -14,13 +14,16 @@ all_carried header outside s stands =
       shared_are_carried header outside h lawful.causes lawful.own_bytes lawful.paid stands.paid stands.served,
     )
 
-waits_for_frames : (header : Header) (outside : Outside) (s : State) → SystemStands header outside s → Prompt header s.history.items → WaitsForFrames header s.history.items
+waits_for_frames : (header : Header) (outside : Outside) (s : State) → SystemStands header outside s → Prompt header s.history.items
+    → WaitsForFrames header s.history.items
 waits_for_frames header outside s stands prompt = λ delivered.
     let lawful = stands.agrees.lawful in
-    nobody_waits header outside s.history.items (none_temporary header stands.built.ranged) lawful.causes lawful.own_bytes lawful.paid stands.paid stands.served prompt delivered
+    nobody_waits header outside s.history.items (none_temporary header stands.built.ranged) lawful.causes lawful.own_bytes lawful.paid stands.paid stands.served
+    prompt delivered
 
 -- behind a step, or behind several
-pub left_at_rest : (header : Header) (outside : Outside) (old : List Event) (new : State) → SystemStands header outside new → (Prompt header old → Prompt header new.history.items) → LeavesAtRest header old new.history.items
+pub left_at_rest : (header : Header) (outside : Outside) (old : List Event) (new : State) → SystemStands header outside new
+    → (Prompt header old → Prompt header new.history.items) → LeavesAtRest header old new.history.items
 left_at_rest header outside old new stands prompt = record {
   carried = all_carried header outside new stands;
   prompt = prompt;

@@ -1,5 +1,9 @@
 -- A step takes its memory in front: nothing but room changes, and where memory is wanting nothing is done.
-use Rattle.vm_system.proofs.Common.{AllQueued, AllRest, ArmedLater, Arming, Breadth, Channel, ChannelId, Command, Event, HasRoom, Header, HostTable, IsReady, IsSent, List, Listed, Makes, MayTakeFrom, Message, None, Numbered, ObjectId, OnErr, OnlyRoom, Option, Outside, Result, SameHosts, ServerStands, ServerTable, Some, Spares, StandsStill, State, Step, SystemStands, [], all_lined, ap, arith, last_control, lined, live_control, marked_regions, named, next_object, next_region, object_home, refl, region_of, slice_get, subst, sym, ℕ, ◌++◌, ◌+◌, ◌∙◌, ◌∷◌, ◌≡◌, ◌≤◌}
+use Rattle.vm_system.proofs.Common.{AllQueued, AllRest, ArmedLater, Arming, Breadth, Channel, ChannelId, Command, Event, HasRoom, Header, HostTable, IsReady}
+use Rattle.vm_system.proofs.Common.{IsSent, List, Listed, Makes, MayTakeFrom, Message, None, Numbered, ObjectId, OnErr, OnlyRoom, Option, Outside, Result}
+use Rattle.vm_system.proofs.Common.{SameHosts, ServerStands, ServerTable, Some, Spares, StandsStill, State, Step, SystemStands, [], all_lined, ap, arith}
+use Rattle.vm_system.proofs.Common.{last_control, lined, live_control, marked_regions, named, next_object, next_region, object_home, refl, region_of, slice_get}
+use Rattle.vm_system.proofs.Common.{subst, sym, ℕ, ◌++◌, ◌+◌, ◌∙◌, ◌∷◌, ◌≡◌, ◌≤◌}
 use Rattle.sms_server.specs.Answers.{most_told}
 use Rattle.sms_server.specs.Table.{IsSameTable}
 use Rattle.vm_ports.specs.Ports.{queue as queue_on}
@@ -62,7 +66,8 @@ roomed_files s t same = rw same.files refl
 pub spares_roomed : (header : Header) (outside : Outside) (s t : State) → OnlyRoom s t → Spares header outside s t
 spares_roomed header outside s t same = same_all header outside s t (roomed_pagers s t same) (roomed_files s t same) same.history
 
-pub may_roomed : (given : Step) (line : Option ℕ) (number : ChannelId) (channel : Channel) (s t : State) → MayTakeFrom given line number channel s → OnlyRoom s t → MayTakeFrom given line number channel t
+pub may_roomed : (given : Step) (line : Option ℕ) (number : ChannelId) (channel : Channel) (s t : State) → MayTakeFrom given line number channel s
+    → OnlyRoom s t → MayTakeFrom given line number channel t
 may_roomed given line number channel s t may same = record {
   stands = stands_roomed given.header given.outside s t same may.stands;
   past = may.past ∙ ap (λ (z : List Event). lined line z) (sym same.history);
@@ -73,14 +78,16 @@ may_roomed given line number channel s t may same = record {
 
 -- so is a server that has more memory at hand
 
-pub server_same : (header : Header) (old new : ServerTable) (past : List Event) → IsSameTable old new → ServerStands header old past → ServerStands header new past
+pub server_same : (header : Header) (old new : ServerTable) (past : List Event) → IsSameTable old new → ServerStands header old past
+    → ServerStands header new past
 server_same header old new past same stands = record {
   size = same.size ∙ stands.size;
   pages = λ o p shared. same_stands header.size _ _ _ (same.pages o p).directory (stands.pages o p shared);
   heard = λ o p shared h. (same.pages o p).heard h ∙ stands.heard o p shared h;
 }
 
-pub stands_server : (header : Header) (outside : Outside) (s t : State) (table : ServerTable) → t ≡ record s { server = table } → IsSameTable s.server table → SystemStands header outside s → SystemStands header outside t
+pub stands_server : (header : Header) (outside : Outside) (s t : State) (table : ServerTable) → t ≡ record s { server = table } → IsSameTable s.server table
+    → SystemStands header outside s → SystemStands header outside t
 stands_server header outside s t table is same stands =
     let agrees = stands.agrees in
     let posts = agrees.posts in
@@ -104,7 +111,8 @@ stands_server header outside s t table is same stands =
       log = stands.log;
     })
 
-pub may_server : (given : Step) (line : Option ℕ) (number : ChannelId) (channel : Channel) (s t : State) (table : ServerTable) → t ≡ record s { server = table } → MayTakeFrom given line number channel s → IsSameTable s.server table
+pub may_server : (given : Step) (line : Option ℕ) (number : ChannelId) (channel : Channel) (s t : State) (table : ServerTable) → t ≡ record s { server = table }
+    → MayTakeFrom given line number channel s → IsSameTable s.server table
     → MayTakeFrom given line number channel t
 may_server given line number channel s t table is may same = record {
   stands = stands_server given.header given.outside s t table is same may.stands;
@@ -116,7 +124,8 @@ may_server given line number channel s t table is may same = record {
 
 -- so is one whose hosts and log are others, that stand for the same
 
-pub stands_kept : (header : Header) (outside : Outside) (s : State) (hosts : HostTable) (log : Listed Event) → SystemStands header outside s → AllRest header hosts s.history.items → AllQueued header hosts s.history.items → log.items ≡ []
+pub stands_kept : (header : Header) (outside : Outside) (s : State) (hosts : HostTable) (log : Listed Event) → SystemStands header outside s
+    → AllRest header hosts s.history.items → AllQueued header hosts s.history.items → log.items ≡ []
     → SystemStands header outside (record s { hosts = hosts; log = log })
 stands_kept header outside s hosts log stands rests queues none =
     let agrees = stands.agrees in
@@ -150,7 +159,8 @@ homes_unlined line past o = by (region_for o past)
     by None = refl
     by (Some region) = refl
 
-module _ (header : Header) (outside : Outside) (doing : Command) (hosts new : HostTable) (line : ℕ) (past : List Event) (all : AllRest header hosts past) (later : AllRest header new (event.Line line ∷ past)) where
+module _ (header : Header) (outside : Outside) (doing : Command) (hosts new : HostTable) (line : ℕ) (past : List Event) (all : AllRest header hosts past)
+    (later : AllRest header new (event.Line line ∷ past)) where
   marks_unlined : marked_regions header (event.Line line ∷ past) ≡ marked_regions header past
   marks_unlined =
       let before = common_all header hosts past all in
@@ -168,7 +178,9 @@ module _ (header : Header) (outside : Outside) (doing : Command) (hosts new : Ho
         declared = m.declared;
         fits = m.fits;
         tasks = m.tasks;
-        regions = subst (λ (n : ℕ). HasRegions k.chains k.memory.objects new.ids (λ r. region_of header r past) (λ o. backing_of header o past) (next_region header past) (next_object header past) n) marks_unlined m.regions;
+        regions =
+            subst (λ (n : ℕ). HasRegions k.chains k.memory.objects new.ids (λ r. region_of header r past) (λ o. backing_of header o past)
+            (next_region header past) (next_object header past) n) marks_unlined m.regions;
         kinds = m.kinds;
         homes = m.homes;
         files = m.files;
@@ -176,7 +188,9 @@ module _ (header : Header) (outside : Outside) (doing : Command) (hosts new : Ho
         shared = m.shared;
         pages = m.pages;
         uses = m.uses;
-        controls = subst (λ (home : ℕ → Option ℕ). HasControls (named header) h k.memory.objects (λ o. last_control h o past) (λ o. live_control h o past) (λ o. is_ready h o past) home) (λ i o. homes_unlined line past o i) m.controls;
+        controls =
+            subst (λ (home : ℕ → Option ℕ). HasControls (named header) h k.memory.objects (λ o. last_control h o past) (λ o. live_control h o past)
+            (λ o. is_ready h o past) home) (λ i o. homes_unlined line past o i) m.controls;
         homeless = common.homeless;
         settled = common.settled;
         replied = common.replied;
@@ -185,7 +199,8 @@ module _ (header : Header) (outside : Outside) (doing : Command) (hosts new : Ho
       }
 
   rests_unlined : (h : ℕ) (k : Parts) → Rests header h k new.ids (event.Line line ∷ past) → Rests header h k new.ids past
-  rests_unlined h k r = record { matches = matches_unlined h k r.matches; used = r.used; referred = r.referred; waits = r.waits; order = r.order; idle = r.idle }
+  rests_unlined h k r =
+      record { matches = matches_unlined h k r.matches; used = r.used; referred = r.referred; waits = r.waits; order = r.order; idle = r.idle }
 
   pub all_unlined : AllRest header new past
   all_unlined = record {
@@ -201,7 +216,8 @@ module _ (header : Header) (outside : Outside) (doing : Command) (hosts new : Ho
   queued_unlined queued = queued
 
 -- what a step makes of a system with more room it makes of the system
-pub makes_roomed : (header : Header) (outside : Outside) (numbered : Numbered) (s t new : State) → t.history.items ≡ s.history.items → Makes header outside numbered t new → Makes header outside numbered s new
+pub makes_roomed : (header : Header) (outside : Outside) (numbered : Numbered) (s t new : State) → t.history.items ≡ s.history.items
+    → Makes header outside numbered t new → Makes header outside numbered s new
 makes_roomed header outside numbered s t new same makes = record {
   stands = makes.stands;
   legal = rw (sym same) makes.legal;
@@ -220,7 +236,8 @@ fewer_room n m s less room = record {
 }
 
 -- the hosts' room is there still, where hosts and log are as they were
-pub ready_still : (breadth : Breadth) (most : ℕ) (s t : State) → t.hosts ≡ s.hosts → t.log ≡ s.log → IsReady breadth most s.hosts s.log.room → IsReady breadth most t.hosts t.log.room
+pub ready_still : (breadth : Breadth) (most : ℕ) (s t : State) → t.hosts ≡ s.hosts → t.log ≡ s.log → IsReady breadth most s.hosts s.log.room
+    → IsReady breadth most t.hosts t.log.room
 ready_still breadth most s t hosts log ready = rw (hosts, log) ready
 
 -- behind the taking and its line there is room for the rest
@@ -238,7 +255,8 @@ pub behind_all : (most : ℕ) (s t : State) → HasRoom (most + 2) s → LeavesR
 behind_all most s t room less = less_room 2 most (most + 2) s t (omega arith) room less
 
 -- and behind what a pager answers there is room for what the hosts do
-pub behind_answers : (most more long : ℕ) (s t : State) → long ≤ more → HasRoom (most + more) s → ((n : ℕ) → HasRoom (n + long) s → HasRoom n t) → HasRoom most t
+pub behind_answers : (most more long : ℕ) (s t : State) → long ≤ more → HasRoom (most + more) s → ((n : ℕ) → HasRoom (n + long) s → HasRoom n t)
+    → HasRoom most t
 behind_answers most more long s t few room less = less most (fewer_room (most + long) (most + more) s (omega (arith, few)) room)
 
 pub room_for : (most more n : ℕ) (s : State) → n ≤ more → HasRoom (most + more) s → HasRoom n s
@@ -249,8 +267,10 @@ pub still_armed : (l r m s : ℕ) → ArmedLater l r m s → m ≡ l → s ≡ r
 still_armed l r m s later same = grind arith
 
 -- parts that are as they were stand for what they stood for
-pub still_alike : (header : Header) (outside : Outside) (s t u : State) → StandsStill header outside s t → u.size ≡ t.size → u.hosts ≡ t.hosts → u.pagers.items ≡ t.pagers.items → u.declared.items ≡ t.declared.items → u.files.items ≡ t.files.items
-    → u.server ≡ t.server → u.ports ≡ t.ports → u.channels ≡ t.channels → u.buffers ≡ t.buffers → u.history ≡ t.history → u.log ≡ t.log → StandsStill header outside s u
+pub still_alike : (header : Header) (outside : Outside) (s t u : State) → StandsStill header outside s t → u.size ≡ t.size → u.hosts ≡ t.hosts
+    → u.pagers.items ≡ t.pagers.items → u.declared.items ≡ t.declared.items → u.files.items ≡ t.files.items
+    → u.server ≡ t.server → u.ports ≡ t.ports → u.channels ≡ t.channels → u.buffers ≡ t.buffers → u.history ≡ t.history → u.log ≡ t.log
+    → StandsStill header outside s u
 still_alike header outside s t u still size hosts pagers declared files server ports channels buffers history log =
     let stands = still.0 in
     let agrees = stands.agrees in
@@ -285,20 +305,26 @@ still_alike header outside s t u still size hosts pagers declared files server p
 
 -- a server that has more memory at hand is all that has changed
 
-pub still_server : (header : Header) (outside : Outside) (s u : State) → u ≡ record s { server = u.server } → SystemStands header outside s → IsSameTable s.server u.server → StandsStill header outside s u
+pub still_server : (header : Header) (outside : Outside) (s u : State) → u ≡ record s { server = u.server } → SystemStands header outside s
+    → IsSameTable s.server u.server → StandsStill header outside s u
 still_server header outside s u is stands same = (stands_server header outside s u u.server is same stands, ap (λ (z : State). z.history.items) is)
 
 pub spares_server : (header : Header) (outside : Outside) (s u : State) → u ≡ record s { server = u.server } → Spares header outside s u
-spares_server header outside s u is = same_all header outside s u (ap (λ (z : State). z.pagers.items) is) (ap (λ (z : State). z.files.items) is) (ap (λ (z : State). z.history.items) is)
+spares_server header outside s u is =
+    same_all header outside s u (ap (λ (z : State). z.pagers.items) is) (ap (λ (z : State). z.files.items) is) (ap (λ (z : State). z.history.items) is)
 
 -- the answer to the first message has no more events than were foretold
-pub shared_few : (given : Step) (line : Option ℕ) (number : ChannelId) (channel : Channel) (object : ObjectId) (index : ℕ) (m : Message) (most long : ℕ) (s u t : State) → MayTakeFrom given line number channel s → MayTakeFrom given line number channel t
-    → u ≡ record s { server = u.server } → t.ports.letters ≡ u.ports.letters → t.history.items ≡ u.history.items → t.server ≡ u.server → slice_get (queue_on number.0 t.ports.letters) 0 ≡ Some index → (c : Channel) × IsSent t.history.items index c m
-    → ((i : ℕ) (c : Channel) (n : Message) → slice_get (queue_on number.0 s.ports.letters) 0 ≡ Some i → IsSent s.history.items i c n → most ≡ most_told object.0 n u.server) → long ≤ most_told object.0 m t.server → long ≤ most
+pub shared_few : (given : Step) (line : Option ℕ) (number : ChannelId) (channel : Channel) (object : ObjectId) (index : ℕ) (m : Message) (most long : ℕ)
+    (s u t : State) → MayTakeFrom given line number channel s → MayTakeFrom given line number channel t
+    → u ≡ record s { server = u.server } → t.ports.letters ≡ u.ports.letters → t.history.items ≡ u.history.items → t.server ≡ u.server
+    → slice_get (queue_on number.0 t.ports.letters) 0 ≡ Some index → (c : Channel) × IsSent t.history.items index c m
+    → ((i : ℕ) (c : Channel) (n : Message) → slice_get (queue_on number.0 s.ports.letters) 0 ≡ Some i → IsSent s.history.items i c n
+    → most ≡ most_told object.0 n u.server) → long ≤ most_told object.0 m t.server → long ≤ most
 shared_few given line number channel object index m most long s u t may any is letters history server head read told few =
     let before : t.ports.letters ≡ s.ports.letters = letters ∙ ap (λ (z : State). z.ports.letters) is in
     let items : t.history.items ≡ s.history.items = history ∙ ap (λ (z : State). z.history.items) is in
-    let first : slice_get (queue_on number.0 s.ports.letters) 0 ≡ Some index = subst (λ (z : List (Posted ℕ)). slice_get (queue_on number.0 z) 0 ≡ Some index) before head in
+    let first : slice_get (queue_on number.0 s.ports.letters) 0 ≡ Some index = subst (λ (z : List (Posted ℕ)). slice_get (queue_on number.0 z) 0 ≡ Some index)
+    before head in
     let sent : IsSent s.history.items index read.0 m = subst (λ (z : List Event). IsSent z index read.0 m) items read.1 in
     let same : most_told object.0 m t.server ≡ most_told object.0 m u.server = ap (λ (z : ServerTable). most_told object.0 m z) server in
     let is_most = told index read.0 m first sent in
@@ -306,13 +332,24 @@ shared_few given line number channel object index m most long s u t may any is l
 
 -- a line, and the log behind it
 
-pub line_and_log : (t : State) (hosts : HostTable) (log : Listed Event) (told new : State) → SameHosts (record t { hosts = hosts; log = log }) told → SameHosts (record told { log = new.log }) new → SameHosts (record t { hosts = hosts; log = new.log }) new
+pub line_and_log : (t : State) (hosts : HostTable) (log : Listed Event) (told new : State) → SameHosts (record t { hosts = hosts; log = log }) told
+    → SameHosts (record told { log = new.log }) new → SameHosts (record t { hosts = hosts; log = new.log }) new
 line_and_log t hosts log told new one two =
-    record { size = two.size ∙ one.size; hosts = two.hosts ∙ one.hosts; pagers = two.pagers ∙ one.pagers; declared = two.declared ∙ one.declared; files = two.files ∙ one.files; server = two.server ∙ one.server; log = refl }
+    record {
+      size = two.size ∙ one.size;
+      hosts = two.hosts ∙ one.hosts;
+      pagers = two.pagers ∙ one.pagers;
+      declared = two.declared ∙ one.declared;
+      files = two.files ∙ one.files;
+      server = two.server ∙ one.server;
+      log = refl;
+    }
 
-pub line_then_log : (line : ℕ) (events : List Event) (t told new : State) → told.history.items ≡ event.Line line ∷ t.history.items → told.log.items ≡ events → new.history.items ≡ told.log.items ++ told.history.items
+pub line_then_log : (line : ℕ) (events : List Event) (t told new : State) → told.history.items ≡ event.Line line ∷ t.history.items → told.log.items ≡ events
+    → new.history.items ≡ told.log.items ++ told.history.items
     → new.history.items ≡ events ++ event.Line line ∷ t.history.items
-line_then_log line events t told new lined logged grown = grown ∙ ap (λ (z : List Event). z ++ told.history.items) logged ∙ ap (λ (z : List Event). events ++ z) lined
+line_then_log line events t told new lined logged grown =
+    grown ∙ ap (λ (z : List Event). z ++ told.history.items) logged ∙ ap (λ (z : List Event). events ++ z) lined
 
 pub tells_line : (most long : ℕ) (t told : State) → long ≤ most → HasRoom (most + 1) t → LeavesRoom 1 t told → HasRoom long told
 tells_line most long t told few room less = less_room 1 long (most + 1) t told (omega (arith, few)) room less
@@ -321,24 +358,29 @@ pub tells_asked : (most long : ℕ) (t told : State) → long ≤ most + 1 → H
 tells_asked most long t told few room less = less_room 1 long (most + 2) t told (omega (arith, few)) room less
 
 -- with one event in the log there is room for those of the hosts
-pub ready_put : (breadth : Breadth) (most : ℕ) (hosts : HostTable) (old new : ℕ) → IsReady breadth most hosts old → most + 2 ≤ old → old ≤ new + 1 → IsReady breadth most hosts new
+pub ready_put : (breadth : Breadth) (most : ℕ) (hosts : HostTable) (old new : ℕ) → IsReady breadth most hosts old → most + 2 ≤ old → old ≤ new + 1
+    → IsReady breadth most hosts new
 ready_put breadth most hosts old new ready room less = record { each = ready.each; enough = ready.enough; room = omega (arith, room, less) }
 
 -- where the hosts took nothing, they stand for what they stood for
-pub still_taken : (given : Step) (line : Option ℕ) (number : ChannelId) (channel : Channel) (t : State) (hosts : HostTable) (log : Listed Event) → MayTakeFrom given line number channel t → AllRest given.header hosts given.past
+pub still_taken : (given : Step) (line : Option ℕ) (number : ChannelId) (channel : Channel) (t : State) (hosts : HostTable) (log : Listed Event)
+    → MayTakeFrom given line number channel t → AllRest given.header hosts given.past
     → AllQueued given.header hosts given.past → log.items ≡ [] → SystemStands given.header given.outside (record t { hosts = hosts; log = log })
 still_taken given None number channel t hosts log may rests queues none =
-    stands_kept given.header given.outside t hosts log may.stands (subst (λ (z : List Event). AllRest given.header hosts z) may.past rests) (subst (λ (z : List Event). AllQueued given.header hosts z) may.past queues) none
+    stands_kept given.header given.outside t hosts log may.stands (subst (λ (z : List Event). AllRest given.header hosts z) may.past rests)
+    (subst (λ (z : List Event). AllQueued given.header hosts z) may.past queues) none
 still_taken given (Some line) number channel t hosts log may rests queues none =
     let h = t.history.items in
     let stands = may.stands in
     let lined : AllRest given.header hosts (event.Line line ∷ h) = subst (λ (z : List Event). AllRest given.header hosts z) may.past rests in
     let queued : AllQueued given.header hosts (event.Line line ∷ h) = subst (λ (z : List Event). AllQueued given.header hosts z) may.past queues in
-    stands_kept given.header given.outside t hosts log stands (all_unlined given.header given.outside given.command t.hosts hosts line h stands.rests lined) (queued_unlined given.header given.outside given.command t.hosts hosts line h stands.rests lined queued) none
+    stands_kept given.header given.outside t hosts log stands (all_unlined given.header given.outside given.command t.hosts hosts line h stands.rests lined)
+    (queued_unlined given.header given.outside given.command t.hosts hosts line h stands.rests lined queued) none
 
 -- making room for events alone
 
-pub only_reserved : (s t : State) → SameHosts s t → t.history.items ≡ s.history.items → t.channels.made ≡ s.channels.made → t.ports.channels ≡ s.ports.channels → t.ports.letters ≡ s.ports.letters → t.buffers.size ≡ s.buffers.size → OnlyRoom s t
+pub only_reserved : (s t : State) → SameHosts s t → t.history.items ≡ s.history.items → t.channels.made ≡ s.channels.made → t.ports.channels ≡ s.ports.channels
+    → t.ports.letters ≡ s.ports.letters → t.buffers.size ≡ s.buffers.size → OnlyRoom s t
 only_reserved s t same items made numbers letters buffers = record {
   rests = λ header past rests. rw same.hosts rests;
   queues = λ header past rests queues. rw same.hosts queues;
@@ -355,16 +397,19 @@ only_reserved s t same items made numbers letters buffers = record {
   server = same.server;
 }
 
-pub still_reserved : (header : Header) (outside : Outside) (s t : State) → SameHosts s t → t.history.items ≡ s.history.items → t.channels.made ≡ s.channels.made → t.ports.channels ≡ s.ports.channels → t.ports.letters ≡ s.ports.letters
+pub still_reserved : (header : Header) (outside : Outside) (s t : State) → SameHosts s t → t.history.items ≡ s.history.items → t.channels.made ≡ s.channels.made
+    → t.ports.channels ≡ s.ports.channels → t.ports.letters ≡ s.ports.letters
     → t.buffers.size ≡ s.buffers.size → SystemStands header outside s → StandsStill header outside s t
-still_reserved header outside s t same items made numbers letters buffers stands = still_roomed header outside s t (only_reserved s t same items made numbers letters buffers) stands
+still_reserved header outside s t same items made numbers letters buffers stands =
+    still_roomed header outside s t (only_reserved s t same items made numbers letters buffers) stands
 
 -- what is so anyway is so where a call failed
 pub on_err : {A B P : Type 0} (r : Result A B) → P → OnErr r P
 on_err (Ok x) p = tt
 on_err (Err e) p = p
 
-pub still_of : (header : Header) (outside : Outside) (s u : State) → SystemStands header outside u → u.history.items ≡ s.history.items → StandsStill header outside s u
+pub still_of : (header : Header) (outside : Outside) (s u : State) → SystemStands header outside u → u.history.items ≡ s.history.items
+    → StandsStill header outside s u
 still_of header outside s u stands same = (stands, same)
 
 pub arming_kept : {B : Type 0} (old new : Arming B) → ArmedLater old.left old.reached new.left new.reached → new.left ≡ old.left → KeepsArming old new

@@ -1,5 +1,8 @@
 -- What the laws of shared memory say of a system's history, and of the server that stands for it.
-use Rattle.vm_system.proofs.Common.{BeforeSteps, NoneIsTemporary, Bool, EachEvent, EachMoment, Event, HasCause, HasOneWriter, Header, IsPaid, List, MeetsProtocol, Message, ObjectId, Outside, OwnBytes, [], arith, false, is_shared, named, nat_lt, nat_tests, never, page_part, queue, refl, subst, sym, true, up, up_word, ℕ, ◌∷◌, ◌≡◌, first, if◌then◌else◌, AllServed, IsRanged, ap, kind_of, ◌≤◌, ◌==◌, ◌≢◌, ◌∙◌}
+use Rattle.vm_system.proofs.Common.{BeforeSteps, NoneIsTemporary, Bool, EachEvent, EachMoment, Event, HasCause, HasOneWriter, Header, IsPaid, List}
+use Rattle.vm_system.proofs.Common.{MeetsProtocol, Message, ObjectId, Outside, OwnBytes, [], arith, false, is_shared, named, nat_lt, nat_tests, never}
+use Rattle.vm_system.proofs.Common.{page_part, queue, refl, subst, sym, true, up, up_word, ℕ, ◌∷◌, ◌≡◌, first, if◌then◌else◌, AllServed, IsRanged, ap, kind_of}
+use Rattle.vm_system.proofs.Common.{◌≤◌, ◌==◌, ◌≢◌, ◌∙◌}
 use Rattle.vm_base.specs.declared.ids.ObjectKind.TheVariants as kinds
 use Rattle.vm_legal.specs.Outside.{kind_in}
 use Rattle.vm_model.proofs.Names.{each_declared}
@@ -32,14 +35,19 @@ undeclared header o ranged is = by (nat_lt o (named header)) refl
     by false high = grind (arith, nat_tests, high)
 
 -- a shared page has one writer at every moment
-pub writers : (header : Header) (outside : Outside) (history : List Event) → EachEvent (HasCause header outside) history → EachEvent (OwnBytes header) history → EachMoment (HasOneWriter header) history
+pub writers : (header : Header) (outside : Outside) (history : List Event) → EachEvent (HasCause header outside) history → EachEvent (OwnBytes header) history
+    → EachMoment (HasOneWriter header) history
 writers header outside [] causes own = λ g h o p shared apart. one_writer header outside [] causes own h g o p shared (λ same. apart (sym same))
-writers header outside (e ∷ past) causes own =
-    (λ g h o p shared apart. one_writer header outside (e ∷ past) causes own h g o p shared (λ same. apart (sym same)), writers header outside past causes.1 own.1)
+writers header outside (e ∷ past) causes own = (
+  λ g h o p shared apart. one_writer header outside (e ∷ past) causes own h g o p shared (λ same. apart (sym same)),
+  writers header outside past causes.1 own.1,
+)
 
 -- a message about a shared object is what its server is promised
-pub protocol_met : (header : Header) (outside : Outside) (h : ℕ) (object : ObjectId) (m : Message) (past : List Event) → is_shared header object.0 ≡ true → EachEvent (HasCause header outside) past → EachEvent (OwnBytes header) past
-    → BeforeSteps (IsPaid header) past → first (queue (up h object.0) past) ≡ Some m → (p : ℕ) → MeetsProtocol h (up_word p m) (page_part header.size object.0 p past)
+pub protocol_met : (header : Header) (outside : Outside) (h : ℕ) (object : ObjectId) (m : Message) (past : List Event) → is_shared header object.0 ≡ true
+    → EachEvent (HasCause header outside) past → EachEvent (OwnBytes header) past
+    → BeforeSteps (IsPaid header) past → first (queue (up h object.0) past) ≡ Some m → (p : ℕ)
+    → MeetsProtocol h (up_word p m) (page_part header.size object.0 p past)
 protocol_met header outside h object (message.Request control page access) past shared causes own paid head p = by (page.0 == p) refl
   where
     by : (b : Bool) → (page.0 == p) ≡ b → MeetsProtocol h (if b then Asking control access else OtherUp) (page_part header.size object.0 p past)

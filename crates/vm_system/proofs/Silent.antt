@@ -1,5 +1,8 @@
 -- What holds at the end of a step doesn't change with a line, or with the code of a refusal.
-use Rattle.vm_system.proofs.Common.{AReady, Access, AllInner, AllRest, AnAnswer, AnUnlock, Awaits, Bool, Code, Comes, Copies, Elsewhere, Event, HasPlace, Header, HostIsFull, HostTable, IsExhausted, IsPaid, IsSource, List, None, NoneInVain, Nowhere, Prompt, Raises, Waits, WaitsForPager, WaitsUnlocked, WantsFrame, common_all, inl, inr, is_store, owed, page_of, paid_of, refl, ℕ, ◌++◌, ◌∷◌, ◌≡◌, [], Some, false, true, ap, is_some}
+use Rattle.vm_system.proofs.Common.{AReady, Access, AllInner, AllRest, AnAnswer, AnUnlock, Awaits, Bool, Code, Comes, Copies, Elsewhere, Event, HasPlace}
+use Rattle.vm_system.proofs.Common.{Header, HostIsFull, HostTable, IsExhausted, IsPaid, IsSource, List, None, NoneInVain, Nowhere, Prompt, Raises, Waits}
+use Rattle.vm_system.proofs.Common.{WaitsForPager, WaitsUnlocked, WantsFrame, common_all, inl, inr, is_store, owed, page_of, paid_of, refl, ℕ, ◌++◌, ◌∷◌, ◌≡◌}
+use Rattle.vm_system.proofs.Common.{[], Some, false, true, ap, is_some}
 use Rattle.vm_legal.proofs.Exhausted.{exhausted_still}
 use Rattle.vm_model.specs.declared.event.Event.TheVariants as event
 use Rattle.vm_base.specs.declared.ids.HostId.{HostId}
@@ -14,32 +17,44 @@ use Rattle.vm_legal.specs.InTurn.{NoneSleeps}
 
 -- the accesses that wait, and what they wait for
 
-abbrev waits_line : (header : Header) (task : ℕ) (access : Access) (line : ℕ) (h : List Event) → Waits header task access h → Waits header task access (event.Line line ∷ h)
-waits_line header task access line h w = record { waits = w.waits; at = record { host = w.at.host; entry = w.at.entry; lives = w.at.lives; found = w.at.found }; left = w.left }
+abbrev waits_line : (header : Header) (task : ℕ) (access : Access) (line : ℕ) (h : List Event) → Waits header task access h
+    → Waits header task access (event.Line line ∷ h)
+waits_line header task access line h w =
+    record { waits = w.waits; at = record { host = w.at.host; entry = w.at.entry; lives = w.at.lives; found = w.at.found }; left = w.left }
 
-abbrev waits_of_line : (header : Header) (task : ℕ) (access : Access) (line : ℕ) (h : List Event) → Waits header task access (event.Line line ∷ h) → Waits header task access h
-waits_of_line header task access line h w = record { waits = w.waits; at = record { host = w.at.host; entry = w.at.entry; lives = w.at.lives; found = w.at.found }; left = w.left }
+abbrev waits_of_line : (header : Header) (task : ℕ) (access : Access) (line : ℕ) (h : List Event) → Waits header task access (event.Line line ∷ h)
+    → Waits header task access h
+waits_of_line header task access line h w =
+    record { waits = w.waits; at = record { host = w.at.host; entry = w.at.entry; lives = w.at.lives; found = w.at.found }; left = w.left }
 
-place_line : (header : Header) (region page object object_page : ℕ) (line : ℕ) (h : List Event) → HasPlace header region page object object_page h → HasPlace header region page object object_page (event.Line line ∷ h)
-place_line header region page object object_page line h is = record { top = is.top; top_page = is.top_page; steps = is.steps; is_top = is.is_top; leads = is.leads }
+place_line : (header : Header) (region page object object_page : ℕ) (line : ℕ) (h : List Event) → HasPlace header region page object object_page h
+    → HasPlace header region page object object_page (event.Line line ∷ h)
+place_line header region page object object_page line h is =
+    record { top = is.top; top_page = is.top_page; steps = is.steps; is_top = is.is_top; leads = is.leads }
 
-comes_line : (header : Header) (host region page object object_page : ℕ) (line : ℕ) (h : List Event) → Comes header host region page object object_page h → Comes header host region page object object_page (event.Line line ∷ h)
-comes_line header host region page object object_page line h is = record { top = is.top; top_page = is.top_page; steps = is.steps; is_top = is.is_top; walks = is.walks }
+comes_line : (header : Header) (host region page object object_page : ℕ) (line : ℕ) (h : List Event) → Comes header host region page object object_page h
+    → Comes header host region page object object_page (event.Line line ∷ h)
+comes_line header host region page object object_page line h is =
+    record { top = is.top; top_page = is.top_page; steps = is.steps; is_top = is.is_top; walks = is.walks }
 
-wants_line : (header : Header) (host task : ℕ) (access : Access) (region page : ℕ) (line : ℕ) (h : List Event) → WantsFrame header host task access region page h → WantsFrame header host task access region page (event.Line line ∷ h)
+wants_line : (header : Header) (host task : ℕ) (access : Access) (region page : ℕ) (line : ℕ) (h : List Event)
+    → WantsFrame header host task access region page h → WantsFrame header host task access region page (event.Line line ∷ h)
 wants_line header host task access region page line h (Nowhere top top_page steps is sinks) = Nowhere top top_page steps is sinks
 wants_line header host task access region page line h (Elsewhere object object_page comes away unasked may ready) =
     Elsewhere object object_page (comes_line header host region page object object_page line h comes) away unasked may ready
 wants_line header host task access region page line h (Copies object object_page comes here address bytes to is) =
     Copies object object_page (comes_line header host region page object object_page line h comes) here address bytes to is
-wants_line header host task access region page line h (Raises top top_page steps object object_page is walks here store) = Raises top top_page steps object object_page is walks here store
+wants_line header host task access region page line h (Raises top top_page steps object object_page is walks here store) =
+    Raises top top_page steps object object_page is walks here store
 
-awaits_line : (header : Header) (host : ℕ) (store : Bool) (object page : ℕ) (line : ℕ) (h : List Event) → Awaits header host store object page h → Awaits header host store object page (event.Line line ∷ h)
+awaits_line : (header : Header) (host : ℕ) (store : Bool) (object page : ℕ) (line : ℕ) (h : List Event) → Awaits header host store object page h
+    → Awaits header host store object page (event.Line line ∷ h)
 awaits_line header host store object page line h (AnAnswer asked) = AnAnswer asked
 awaits_line header host store object page line h (AReady control live unready) = AReady control live unready
 awaits_line header host store object page line h (AnUnlock here named unlocking) = AnUnlock here named unlocking
 
-for_pager_line : (header : Header) (host task : ℕ) (access : Access) (line : ℕ) (h : List Event) → WaitsForPager header host task access h → WaitsForPager header host task access (event.Line line ∷ h)
+for_pager_line : (header : Header) (host task : ℕ) (access : Access) (line : ℕ) (h : List Event) → WaitsForPager header host task access h
+    → WaitsForPager header host task access (event.Line line ∷ h)
 for_pager_line header host task access line h is = record {
   waits = waits_line header task access line h is.waits;
   on_host = is.on_host;
@@ -49,7 +64,8 @@ for_pager_line header host task access line h is = record {
   what = awaits_line header host (is_store access) is.object is.page line h is.what;
 }
 
-unlocked_line : (header : Header) (host object page : ℕ) (line : ℕ) (h : List Event) → WaitsUnlocked header host object page h → WaitsUnlocked header host object page (event.Line line ∷ h)
+unlocked_line : (header : Header) (host object page : ℕ) (line : ℕ) (h : List Event) → WaitsUnlocked header host object page h
+    → WaitsUnlocked header host object page (event.Line line ∷ h)
 unlocked_line header host object page line h is = record {
   task = is.task;
   access = is.access;
@@ -61,7 +77,8 @@ unlocked_line header host object page line h is = record {
   unlocking = is.unlocking;
 }
 
-source_line : (header : Header) (host object page : ℕ) (line : ℕ) (h : List Event) → IsSource header host object page h → IsSource header host object page (event.Line line ∷ h)
+source_line : (header : Header) (host object page : ℕ) (line : ℕ) (h : List Event) → IsSource header host object page h
+    → IsSource header host object page (event.Line line ∷ h)
 source_line header host object page line h is = record {
   task = is.task;
   access = is.access;
@@ -71,12 +88,15 @@ source_line header host object page line h is = record {
   wants = wants_line header host is.task is.access is.waits.at.entry.region.0 (page_of header is.task is.access h is.waits.at.entry) line h is.wants;
 }
 
-exhausted_line : (header : Header) (host : ℕ) (line : ℕ) (h : List Event) → IsExhausted header host h h → IsExhausted header host (event.Line line ∷ h) (event.Line line ∷ h)
+exhausted_line : (header : Header) (host : ℕ) (line : ℕ) (h : List Event) → IsExhausted header host h h
+    → IsExhausted header host (event.Line line ∷ h) (event.Line line ∷ h)
 exhausted_line header host line h =
-    exhausted_still header host h (event.Line line ∷ h) (λ o p here. here) (λ o p. unlocked_line header host o p line h) (λ o p. source_line header host o p line h)
+    exhausted_still header host h (event.Line line ∷ h) (λ o p here. here) (λ o p. unlocked_line header host o p line h)
+    (λ o p. source_line header host o p line h)
 
 full_line : (header : Header) (host : ℕ) (line : ℕ) (h : List Event) → HostIsFull header host h → HostIsFull header host (event.Line line ∷ h)
-full_line header host line h is = record { none = is.none; why = elim (is.why) [ inl out ↦ inl out | inr exhausted ↦ inr (exhausted_line header host line h exhausted) ] }
+full_line header host line h is =
+    record { none = is.none; why = elim (is.why) [ inl out ↦ inl out | inr exhausted ↦ inr (exhausted_line header host line h exhausted) ] }
 
 not_in_vain_line : (header : Header) (host : ℕ) (line : ℕ) (h : List Event) → NoneInVain header host h → NoneInVain header host (event.Line line ∷ h)
 not_in_vain_line header host line h none task access waits on = elim (none task access (waits_of_line header task access line h waits) on) [
@@ -88,7 +108,13 @@ pub prompt_line : (header : Header) (line : ℕ) (h : List Event) → Prompt hea
 prompt_line header line h prompt host below = record {
   leads = λ task access waits on. waits_line header task access line h ((prompt host below).leads task access waits on);
   waits = not_in_vain_line header host line h (prompt host below).waits;
-  swept = let swept = (prompt host below).swept in record { pages = swept.pages; controls = swept.controls; declared_pages = swept.declared_pages; declared_controls = swept.declared_controls };
+  swept =
+      let swept = (prompt host below).swept in record {
+        pages = swept.pages;
+        controls = swept.controls;
+        declared_pages = swept.declared_pages;
+        declared_controls = swept.declared_controls;
+      };
 }
 
 pub awake_line : (header : Header) (line : ℕ) (h : List Event) → NoneSleeps header h → NoneSleeps header (event.Line line ∷ h)
@@ -100,39 +126,58 @@ awake_line header line h awake host known task sleeper =
       on_host = sleeper.on_host;
       object = sleeper.object;
       page = sleeper.page;
-      comes = record { top = sleeper.comes.top; top_page = sleeper.comes.top_page; steps = sleeper.comes.steps; is_top = sleeper.comes.is_top; walks = sleeper.comes.walks };
+      comes =
+          record {
+            top = sleeper.comes.top;
+            top_page = sleeper.comes.top_page;
+            steps = sleeper.comes.steps;
+            is_top = sleeper.comes.is_top;
+            walks = sleeper.comes.walks;
+          };
       here = sleeper.here;
       let_in = sleeper.let_in;
     })
 
 -- a code
 
-abbrev waits_code : (header : Header) (task : ℕ) (access : Access) (why : Code) (h : List Event) → Waits header task access h → Waits header task access (event.Refused why ∷ h)
-waits_code header task access why h w = record { waits = w.waits; at = record { host = w.at.host; entry = w.at.entry; lives = w.at.lives; found = w.at.found }; left = w.left }
+abbrev waits_code : (header : Header) (task : ℕ) (access : Access) (why : Code) (h : List Event) → Waits header task access h
+    → Waits header task access (event.Refused why ∷ h)
+waits_code header task access why h w =
+    record { waits = w.waits; at = record { host = w.at.host; entry = w.at.entry; lives = w.at.lives; found = w.at.found }; left = w.left }
 
-abbrev waits_of_code : (header : Header) (task : ℕ) (access : Access) (why : Code) (h : List Event) → Waits header task access (event.Refused why ∷ h) → Waits header task access h
-waits_of_code header task access why h w = record { waits = w.waits; at = record { host = w.at.host; entry = w.at.entry; lives = w.at.lives; found = w.at.found }; left = w.left }
+abbrev waits_of_code : (header : Header) (task : ℕ) (access : Access) (why : Code) (h : List Event) → Waits header task access (event.Refused why ∷ h)
+    → Waits header task access h
+waits_of_code header task access why h w =
+    record { waits = w.waits; at = record { host = w.at.host; entry = w.at.entry; lives = w.at.lives; found = w.at.found }; left = w.left }
 
-place_code : (header : Header) (region page object object_page : ℕ) (why : Code) (h : List Event) → HasPlace header region page object object_page h → HasPlace header region page object object_page (event.Refused why ∷ h)
-place_code header region page object object_page why h is = record { top = is.top; top_page = is.top_page; steps = is.steps; is_top = is.is_top; leads = is.leads }
+place_code : (header : Header) (region page object object_page : ℕ) (why : Code) (h : List Event) → HasPlace header region page object object_page h
+    → HasPlace header region page object object_page (event.Refused why ∷ h)
+place_code header region page object object_page why h is =
+    record { top = is.top; top_page = is.top_page; steps = is.steps; is_top = is.is_top; leads = is.leads }
 
-comes_code : (header : Header) (host region page object object_page : ℕ) (why : Code) (h : List Event) → Comes header host region page object object_page h → Comes header host region page object object_page (event.Refused why ∷ h)
-comes_code header host region page object object_page why h is = record { top = is.top; top_page = is.top_page; steps = is.steps; is_top = is.is_top; walks = is.walks }
+comes_code : (header : Header) (host region page object object_page : ℕ) (why : Code) (h : List Event) → Comes header host region page object object_page h
+    → Comes header host region page object object_page (event.Refused why ∷ h)
+comes_code header host region page object object_page why h is =
+    record { top = is.top; top_page = is.top_page; steps = is.steps; is_top = is.is_top; walks = is.walks }
 
-wants_code : (header : Header) (host task : ℕ) (access : Access) (region page : ℕ) (why : Code) (h : List Event) → WantsFrame header host task access region page h → WantsFrame header host task access region page (event.Refused why ∷ h)
+wants_code : (header : Header) (host task : ℕ) (access : Access) (region page : ℕ) (why : Code) (h : List Event)
+    → WantsFrame header host task access region page h → WantsFrame header host task access region page (event.Refused why ∷ h)
 wants_code header host task access region page why h (Nowhere top top_page steps is sinks) = Nowhere top top_page steps is sinks
 wants_code header host task access region page why h (Elsewhere object object_page comes away unasked may ready) =
     Elsewhere object object_page (comes_code header host region page object object_page why h comes) away unasked may ready
 wants_code header host task access region page why h (Copies object object_page comes here address bytes to is) =
     Copies object object_page (comes_code header host region page object object_page why h comes) here address bytes to is
-wants_code header host task access region page why h (Raises top top_page steps object object_page is walks here store) = Raises top top_page steps object object_page is walks here store
+wants_code header host task access region page why h (Raises top top_page steps object object_page is walks here store) =
+    Raises top top_page steps object object_page is walks here store
 
-awaits_code : (header : Header) (host : ℕ) (store : Bool) (object page : ℕ) (why : Code) (h : List Event) → Awaits header host store object page h → Awaits header host store object page (event.Refused why ∷ h)
+awaits_code : (header : Header) (host : ℕ) (store : Bool) (object page : ℕ) (why : Code) (h : List Event) → Awaits header host store object page h
+    → Awaits header host store object page (event.Refused why ∷ h)
 awaits_code header host store object page why h (AnAnswer asked) = AnAnswer asked
 awaits_code header host store object page why h (AReady control live unready) = AReady control live unready
 awaits_code header host store object page why h (AnUnlock here named unlocking) = AnUnlock here named unlocking
 
-for_pager_code : (header : Header) (host task : ℕ) (access : Access) (why : Code) (h : List Event) → WaitsForPager header host task access h → WaitsForPager header host task access (event.Refused why ∷ h)
+for_pager_code : (header : Header) (host task : ℕ) (access : Access) (why : Code) (h : List Event) → WaitsForPager header host task access h
+    → WaitsForPager header host task access (event.Refused why ∷ h)
 for_pager_code header host task access why h is = record {
   waits = waits_code header task access why h is.waits;
   on_host = is.on_host;
@@ -142,7 +187,8 @@ for_pager_code header host task access why h is = record {
   what = awaits_code header host (is_store access) is.object is.page why h is.what;
 }
 
-unlocked_code : (header : Header) (host object page : ℕ) (why : Code) (h : List Event) → WaitsUnlocked header host object page h → WaitsUnlocked header host object page (event.Refused why ∷ h)
+unlocked_code : (header : Header) (host object page : ℕ) (why : Code) (h : List Event) → WaitsUnlocked header host object page h
+    → WaitsUnlocked header host object page (event.Refused why ∷ h)
 unlocked_code header host object page why h is = record {
   task = is.task;
   access = is.access;
@@ -154,7 +200,8 @@ unlocked_code header host object page why h is = record {
   unlocking = is.unlocking;
 }
 
-source_code : (header : Header) (host object page : ℕ) (why : Code) (h : List Event) → IsSource header host object page h → IsSource header host object page (event.Refused why ∷ h)
+source_code : (header : Header) (host object page : ℕ) (why : Code) (h : List Event) → IsSource header host object page h
+    → IsSource header host object page (event.Refused why ∷ h)
 source_code header host object page why h is = record {
   task = is.task;
   access = is.access;
@@ -164,12 +211,15 @@ source_code header host object page why h is = record {
   wants = wants_code header host is.task is.access is.waits.at.entry.region.0 (page_of header is.task is.access h is.waits.at.entry) why h is.wants;
 }
 
-exhausted_code : (header : Header) (host : ℕ) (why : Code) (h : List Event) → IsExhausted header host h h → IsExhausted header host (event.Refused why ∷ h) (event.Refused why ∷ h)
+exhausted_code : (header : Header) (host : ℕ) (why : Code) (h : List Event) → IsExhausted header host h h
+    → IsExhausted header host (event.Refused why ∷ h) (event.Refused why ∷ h)
 exhausted_code header host why h =
-    exhausted_still header host h (event.Refused why ∷ h) (λ o p here. here) (λ o p. unlocked_code header host o p why h) (λ o p. source_code header host o p why h)
+    exhausted_still header host h (event.Refused why ∷ h) (λ o p here. here) (λ o p. unlocked_code header host o p why h)
+    (λ o p. source_code header host o p why h)
 
 full_code : (header : Header) (host : ℕ) (why : Code) (h : List Event) → HostIsFull header host h → HostIsFull header host (event.Refused why ∷ h)
-full_code header host why h is = record { none = is.none; why = elim (is.why) [ inl out ↦ inl out | inr exhausted ↦ inr (exhausted_code header host why h exhausted) ] }
+full_code header host why h is =
+    record { none = is.none; why = elim (is.why) [ inl out ↦ inl out | inr exhausted ↦ inr (exhausted_code header host why h exhausted) ] }
 
 not_in_vain_code : (header : Header) (host : ℕ) (why : Code) (h : List Event) → NoneInVain header host h → NoneInVain header host (event.Refused why ∷ h)
 not_in_vain_code header host why h none task access waits on = elim (none task access (waits_of_code header task access why h waits) on) [
@@ -186,7 +236,14 @@ awake_code header why h awake host known task sleeper =
       on_host = sleeper.on_host;
       object = sleeper.object;
       page = sleeper.page;
-      comes = record { top = sleeper.comes.top; top_page = sleeper.comes.top_page; steps = sleeper.comes.steps; is_top = sleeper.comes.is_top; walks = sleeper.comes.walks };
+      comes =
+          record {
+            top = sleeper.comes.top;
+            top_page = sleeper.comes.top_page;
+            steps = sleeper.comes.steps;
+            is_top = sleeper.comes.is_top;
+            walks = sleeper.comes.walks;
+          };
       here = sleeper.here;
       let_in = sleeper.let_in;
     })
@@ -195,7 +252,13 @@ pub prompt_code : (header : Header) (why : Code) (h : List Event) → Prompt hea
 prompt_code header why h prompt host below = record {
   leads = λ task access waits on. waits_code header task access why h ((prompt host below).leads task access waits on);
   waits = not_in_vain_code header host why h (prompt host below).waits;
-  swept = let swept = (prompt host below).swept in record { pages = swept.pages; controls = swept.controls; declared_pages = swept.declared_pages; declared_controls = swept.declared_controls };
+  swept =
+      let swept = (prompt host below).swept in record {
+        pages = swept.pages;
+        controls = swept.controls;
+        declared_pages = swept.declared_pages;
+        declared_controls = swept.declared_controls;
+      };
 }
 
 -- no create waits for its return
@@ -204,7 +267,8 @@ all_settled header hosts past rests = (common_all header hosts past rests).settl
 
 -- a step that takes nothing owes nothing
 
-pub paid_inner : (header : Header) (line : ℕ) (h events : List Event) → AllInner events → owed (events ++ event.Line line ∷ h) ≡ None → IsPaid header (events ++ event.Line line ∷ h)
+pub paid_inner : (header : Header) (line : ℕ) (h events : List Event) → AllInner events → owed (events ++ event.Line line ∷ h) ≡ None
+    → IsPaid header (events ++ event.Line line ∷ h)
 paid_inner header line h events inner none = paid_of header (event.Line line ∷ h) events (record { line = line; before = h; is = refl }) inner none
 
 nothing_taken : {A R : Type 0} {x : A} → None ≡ Some x → R
@@ -218,7 +282,8 @@ ends_none header events past inner none host object page is = nothing_taken (sym
 pub ends_lined : (header : Header) (line : ℕ) (events h : List Event) → AllInner events → EndsAll header (events ++ event.Line line ∷ h)
 ends_lined header line events h inner = ends_none header events (event.Line line ∷ h) inner refl
 
-pub ends_up : (header : Header) (host : HostId) (object : ObjectId) (m : Message) (events past : List Event) → AllInner events → EndsAll header (events ++ event.Taken (Up host object) m ∷ past)
+pub ends_up : (header : Header) (host : HostId) (object : ObjectId) (m : Message) (events past : List Event) → AllInner events
+    → EndsAll header (events ++ event.Taken (Up host object) m ∷ past)
 ends_up header host object m events past inner = ends_none header events (event.Taken (Up host object) m ∷ past) inner refl
 
 -- at the start nothing is owed

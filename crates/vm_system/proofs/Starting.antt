@@ -1,5 +1,8 @@
 -- A new system stands for the empty history.
-use Rattle.vm_system.proofs.Common.{AllFilesServe, AllQueued, AllRest, AllServe, AllTold, AreEmpty, AreNumbered, Content, FileTable, FilesAreKept, FilesAreTold, FilesCarry, Header, IsServable, List, None, Outside, PagerStands, PagingIsKept, Posts, SlotTable, SlotsFit, Some, State, SystemStands, Told, [], ap, arith, content_of, empty, inl, inr, length, length-append, name_of, named, none-some, refl, reverse, same_Some, slice_get, start, subst, suc, sym, take, true, zero, ℕ, ◌++◌, ◌+◌, ◌∙◌, ◌∷◌, ◌≡◌, ◌⊎◌}
+use Rattle.vm_system.proofs.Common.{AllFilesServe, AllQueued, AllRest, AllServe, AllTold, AreEmpty, AreNumbered, Content, FileTable, FilesAreKept, FilesAreTold}
+use Rattle.vm_system.proofs.Common.{FilesCarry, Header, IsServable, List, None, Outside, PagerStands, PagingIsKept, Posts, SlotTable, SlotsFit, Some, State}
+use Rattle.vm_system.proofs.Common.{SystemStands, Told, [], ap, arith, content_of, empty, inl, inr, length, length-append, name_of, named, none-some, refl}
+use Rattle.vm_system.proofs.Common.{reverse, same_Some, slice_get, start, subst, suc, sym, take, true, zero, ℕ, ◌++◌, ◌+◌, ◌∙◌, ◌∷◌, ◌≡◌, ◌⊎◌}
 use Rattle.pg_file.proofs.Carrying.{empty as file_empty}
 use Rattle.pg_file.proofs.Standing.{start as file_start}
 use Rattle.pg_file.specs.Stands.{PagerStands as FileStands, new_table}
@@ -40,7 +43,8 @@ new_posts header s new = record {
 }
 
 new_serve : (header : Header) (s : State) → IsNew header s → AllServe header s.pagers.items []
-new_serve header s new = record { numbered = new.numbered; stand = λ h pager at. subst (λ (z : SlotTable). PagerStands header h z []) (sym (new.empty h pager at)) (start header h) }
+new_serve header s new =
+    record { numbered = new.numbered; stand = λ h pager at. subst (λ (z : SlotTable). PagerStands header h z []) (sym (new.empty h pager at)) (start header h) }
 
 pub new_stands : (header : Header) (outside : Outside) (s : State) → IsNew header s → SystemStands header outside s
 new_stands header outside s new = record {
@@ -64,19 +68,23 @@ new_stands header outside s new = record {
 }
 
 -- an empty table fits where nothing was stored
-empty_fits : (header : Header) (h : ℕ) (pager : SlotTable) (areas : List ℕ → Told) → pager ≡ record { host = h; size = header.size; count = header.slots; rows = [] } → SlotsFit areas pager (λ o p. None)
+empty_fits : (header : Header) (h : ℕ) (pager : SlotTable) (areas : List ℕ → Told)
+    → pager ≡ record { host = h; size = header.size; count = header.slots; rows = [] } → SlotsFit areas pager (λ o p. None)
 empty_fits header h pager areas is = subst (λ (z : SlotTable). SlotsFit areas z (λ o p. None)) (sym is) (record {
   agrees = record { at = λ o p. tt };
   bytes = λ o p s bytes held none. absurd (let bad : None ≡ Some (Stored bytes) = none in cc);
 })
 
-pub new_kept : (header : Header) (outside : Outside) (areas : List ℕ → Told) (s : State) → IsNew header s → (outside.paging ≡ true → AllTold areas s.pagers.items) → PagingIsKept header outside areas s
+pub new_kept : (header : Header) (outside : Outside) (areas : List ℕ → Told) (s : State) → IsNew header s
+    → (outside.paging ≡ true → AllTold areas s.pagers.items) → PagingIsKept header outside areas s
 new_kept header outside areas s new told =
     let nothing : (h : ℕ) → content_of header h [] ≡ (λ o p. None) = λ h i o p. empty header h o p i in
     record {
       pagers = rw new.history (new_serve header s new);
       told = told;
-      fits = λ on h pager at. rw new.history (subst (λ (z : Content). SlotsFit areas pager z) (sym (nothing h)) (empty_fits header h pager areas (new.empty h pager at)));
+      fits =
+          λ on h pager at. rw new.history (subst (λ (z : Content). SlotsFit areas pager z) (sym (nothing h))
+          (empty_fits header h pager areas (new.empty h pager at)));
     }
 
 -- the files hold what they held
@@ -86,7 +94,8 @@ carry_none header areas = record {
   others = λ name was apart at. at;
 }
 
-pub new_files_kept : (header : Header) (outside : Outside) (areas : List ℕ → Told) (s : State) → IsNew header s → FilesAreTold header outside areas → FilesAreKept header outside areas s
+pub new_files_kept : (header : Header) (outside : Outside) (areas : List ℕ → Told) (s : State) → IsNew header s → FilesAreTold header outside areas
+    → FilesAreKept header outside areas s
 new_files_kept header outside areas s new told = record {
   files = rw new.history new.files;
   start = areas;
@@ -95,7 +104,8 @@ new_files_kept header outside areas s new told = record {
 }
 
 -- one more, at the end of a list
-last_cases : {A : Type 0} (xs : List A) (last x : A) (n : ℕ) → slice_get (xs ++ last ∷ []) n ≡ Some x → (slice_get xs n ≡ Some x) ⊎ ((length xs ≡ n) × (last ≡ x))
+last_cases : {A : Type 0} (xs : List A) (last x : A) (n : ℕ) → slice_get (xs ++ last ∷ []) n ≡ Some x → (slice_get xs n ≡ Some x)
+    ⊎ ((length xs ≡ n) × (last ≡ x))
 last_cases [] last x zero is = inr (refl, same_Some last x is)
 last_cases [] last x (suc n) is = absurd (none-some x is)
 last_cases (y ∷ xs) last x zero is = inl is
@@ -119,7 +129,8 @@ pub record FilesAreMade (header : Header) (n : ℕ) (files : List FileTable) : T
 pub no_files : (header : Header) → FilesAreMade header 0 []
 no_files header = record { count = refl; new = λ object pager at. absurd (none-some pager at) }
 
-pub files_more : (header : Header) (n : ℕ) (files : List FileTable) (last : FileTable) → FilesAreMade header n files → last ≡ new_table header n → FilesAreMade header (n + 1) (files ++ last ∷ [])
+pub files_more : (header : Header) (n : ℕ) (files : List FileTable) (last : FileTable) → FilesAreMade header n files → last ≡ new_table header n
+    → FilesAreMade header (n + 1) (files ++ last ∷ [])
 files_more header n files last was is = record {
   count = length-append files (last ∷ []) ∙ ap (λ (z : ℕ). z + 1) was.count;
   new = λ object pager at. elim (last_cases files last pager object at) [
@@ -152,7 +163,8 @@ name_is header n object at = rw at refl
 
 pub table_is : (header : Header) (n : ℕ) (object : Declared) (pager : FileTable) → slice_get (reverse header.objects.items) n ≡ Some object
     → pager ≡ record { object = n; name = object.name; size = header.size; known = None; lost = [] } → pager ≡ new_table header n
-table_is header n object pager at is = subst (λ (z : List ℕ). pager ≡ record { object = n; name = z; size = header.size; known = None; lost = [] }) (name_is header n object at) is
+table_is header n object pager at is =
+    subst (λ (z : List ℕ). pager ≡ record { object = n; name = z; size = header.size; known = None; lost = [] }) (name_is header n object at) is
 
 -- so many pagers were made, to which nothing was returned
 pub record AreMade (header : Header) (n : ℕ) (pagers : List SlotTable) : Type 0 where
@@ -162,7 +174,8 @@ pub record AreMade (header : Header) (n : ℕ) (pagers : List SlotTable) : Type 
 pub none_made : (header : Header) → AreMade header 0 []
 none_made header = record { count = refl; empty = λ h pager at. absurd (let bad : None ≡ Some pager = at in cc) }
 
-pub made_more : (header : Header) (n : ℕ) (pagers : List SlotTable) (last : SlotTable) → AreMade header n pagers → last ≡ record { host = n; size = header.size; count = header.slots; rows = [] } → AreMade header (n + 1) (pagers ++ last ∷ [])
+pub made_more : (header : Header) (n : ℕ) (pagers : List SlotTable) (last : SlotTable) → AreMade header n pagers
+    → last ≡ record { host = n; size = header.size; count = header.slots; rows = [] } → AreMade header (n + 1) (pagers ++ last ∷ [])
 made_more header n pagers last was is = record {
   count = length-append pagers (last ∷ []) ∙ ap (λ (z : ℕ). z + 1) was.count;
   empty = λ h pager at. elim (last_cases pagers last pager h at) [

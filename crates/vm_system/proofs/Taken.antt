@@ -1,5 +1,11 @@
 -- A message is taken: what stands in front of that, and its cause.
-use Rattle.vm_system.proofs.Common.{AllFilesServe, AllInner, AllInTurn, AllQueued, AllRest, AllServe, AllServed, Bool, Channel, ChannelId, Command, Device, Down, EachIn, Event, FileTable, FilesCarry, FramesSuffice, Gives, Header, HostTable, IfSome, IsConsequence, IsServable, IsOrderly, IsPaid, IsSent, Lawful, LicensedInTurn, List, MayTake, MayTakeFrom, Message, MomentsIn, None, Option, Outside, OwnBytes, ServerStands, ServerTable, SlotTable, Some, State, Step, TakesStep, Told, Up, [], all_lined, all_suffice, ap, arith, change_where, content_of, devices, each_both, false, first, frames_after, frames_held, frames_used, is_control, length, licensed_both, lined, live_control, local, moments_both, owed, queue, queued_lined, refl, reverse, slice_get, subst, suc, sym, taken_down_change, taken_up_change, true, zero, ℕ, ◌++◌, ◌<◌, ◌∙◌, ◌∷◌, ◌≡◌, ◌≤◌}
+use Rattle.vm_system.proofs.Common.{AllFilesServe, AllInner, AllInTurn, AllQueued, AllRest, AllServe, AllServed, Bool, Channel, ChannelId, Command, Device}
+use Rattle.vm_system.proofs.Common.{Down, EachIn, Event, FileTable, FilesCarry, FramesSuffice, Gives, Header, HostTable, IfSome, IsConsequence, IsServable}
+use Rattle.vm_system.proofs.Common.{IsOrderly, IsPaid, IsSent, Lawful, LicensedInTurn, List, MayTake, MayTakeFrom, Message, MomentsIn, None, Option, Outside}
+use Rattle.vm_system.proofs.Common.{OwnBytes, ServerStands, ServerTable, SlotTable, Some, State, Step, TakesStep, Told, Up, [], all_lined, all_suffice, ap}
+use Rattle.vm_system.proofs.Common.{arith, change_where, content_of, devices, each_both, false, first, frames_after, frames_held, frames_used, is_control}
+use Rattle.vm_system.proofs.Common.{length, licensed_both, lined, live_control, local, moments_both, owed, queue, queued_lined, refl, reverse, slice_get, subst}
+use Rattle.vm_system.proofs.Common.{suc, sym, taken_down_change, taken_up_change, true, zero, ℕ, ◌++◌, ◌<◌, ◌∙◌, ◌∷◌, ◌≡◌, ◌≤◌}
 use Rattle.vm_legal.proofs.Owing.{behind_none}
 use Rattle.std.proofs.Common.{◌==◌, ◌&&◌}
 use Rattle.vm_model.specs.declared.event.Event.TheVariants as event
@@ -28,12 +34,14 @@ pub content_lined : (header : Header) (h : ℕ) (line : Option ℕ) (past : List
 content_lined header h None past = refl
 content_lined header h (Some line) past = refl
 
-rests_lined : (header : Header) (outside : Outside) (doing : Command) (hosts : HostTable) (line : Option ℕ) (past : List Event) → AllRest header hosts past → AllRest header hosts (lined line past)
+rests_lined : (header : Header) (outside : Outside) (doing : Command) (hosts : HostTable) (line : Option ℕ) (past : List Event) → AllRest header hosts past
+    → AllRest header hosts (lined line past)
 rests_lined header outside doing hosts None past rests = rests
 rests_lined header outside doing hosts (Some line) past rests = all_lined header outside doing hosts line past rests
 
 -- whoever stands in a frame queue does so still
-queues_lined : (header : Header) (outside : Outside) (doing : Command) (hosts : HostTable) (line : Option ℕ) (past : List Event) → AllRest header hosts past → AllQueued header hosts past → AllQueued header hosts (lined line past)
+queues_lined : (header : Header) (outside : Outside) (doing : Command) (hosts : HostTable) (line : Option ℕ) (past : List Event) → AllRest header hosts past
+    → AllQueued header hosts past → AllQueued header hosts (lined line past)
 queues_lined header outside doing hosts None past rests queues = queues
 queues_lined header outside doing hosts (Some line) past rests queues = queued_lined header outside doing hosts line past rests queues
 
@@ -41,19 +49,23 @@ orderly_lined : (header : Header) (line : Option ℕ) (past : List Event) → Is
 orderly_lined header None past orderly = orderly
 orderly_lined header (Some line) past orderly = orderly_line header line past orderly
 
-serve_lined : (header : Header) (pagers : List SlotTable) (line : Option ℕ) (past : List Event) → AllServe header pagers past → AllServe header pagers (lined line past)
+serve_lined : (header : Header) (pagers : List SlotTable) (line : Option ℕ) (past : List Event) → AllServe header pagers past
+    → AllServe header pagers (lined line past)
 serve_lined header pagers None past serve = serve
 serve_lined header pagers (Some line) past serve = serve_other header pagers (event.Line line) past (λ h. tt) serve
 
-files_lined : (header : Header) (files : List FileTable) (line : Option ℕ) (past : List Event) → AllFilesServe header files past → AllFilesServe header files (lined line past)
+files_lined : (header : Header) (files : List FileTable) (line : Option ℕ) (past : List Event) → AllFilesServe header files past
+    → AllFilesServe header files (lined line past)
 files_lined header files None past serve = serve
 files_lined header files (Some line) past serve = files_other header files (event.Line line) past (λ object. tt) serve
 
-carry_lined : (header : Header) (start areas : List ℕ → Told) (line : Option ℕ) (past : List Event) → FilesCarry header start areas past → FilesCarry header start areas (lined line past)
+carry_lined : (header : Header) (start areas : List ℕ → Told) (line : Option ℕ) (past : List Event) → FilesCarry header start areas past
+    → FilesCarry header start areas (lined line past)
 carry_lined header start areas None past carry = carry
 carry_lined header start areas (Some line) past carry = carry_other header start areas (event.Line line) past (λ object. tt) carry
 
-server_lined : (header : Header) (table : ServerTable) (line : Option ℕ) (past : List Event) → ServerStands header table past → ServerStands header table (lined line past)
+server_lined : (header : Header) (table : ServerTable) (line : Option ℕ) (past : List Event) → ServerStands header table past
+    → ServerStands header table (lined line past)
 server_lined header table None past stands = stands
 server_lined header table (Some line) past stands = server_other header table (event.Line line) past tt stands
 
@@ -65,7 +77,8 @@ recalled_lined : (header : Header) (line : Option ℕ) (past : List Event) → A
 recalled_lined header None past recalled = recalled
 recalled_lined header (Some line) past recalled = recalled_other header (event.Line line) past tt recalled
 
-lawful_lined : (header : Header) (outside : Outside) (line : Option ℕ) (past : List Event) → IsPaid header past → Lawful header outside past → Lawful header outside (lined line past)
+lawful_lined : (header : Header) (outside : Outside) (line : Option ℕ) (past : List Event) → IsPaid header past → Lawful header outside past
+    → Lawful header outside (lined line past)
 lawful_lined header outside None past paid lawful = lawful
 lawful_lined header outside (Some line) past paid lawful = lawful_line header outside line past paid lawful
 
@@ -97,7 +110,8 @@ taken_less size h (Up at object) m past =
     let less = up_less (at.0 == h) m (frames_held size h past) in
     omega (arith, less)
 taken_less size h (Down at object control) m past =
-    let asked : ℕ → Bool = λ page. at.0 == h && (is_control control (live_control h object.0 past) && (local size h (record { object = object.0; page = page }) past).asked) in
+    let asked : ℕ → Bool = λ page. at.0 == h && (is_control control (live_control h object.0 past) &&
+    (local size h (record { object = object.0; page = page }) past).asked) in
     let less = down_less asked m (frames_held size h past) in
     omega (arith, less)
 
@@ -105,17 +119,21 @@ fewer : (most : Option ℕ) (more less : ℕ) → less ≤ more → IfSome most 
 fewer None more less le is = tt
 fewer (Some frames) more less le is = omega (arith, le, is)
 
-pub taken_suffice : (header : Header) (channel : Channel) (m : Message) (past : List Event) → FramesSuffice header past → FramesSuffice header (event.Taken channel m ∷ past)
+pub taken_suffice : (header : Header) (channel : Channel) (m : Message) (past : List Event) → FramesSuffice header past
+    → FramesSuffice header (event.Taken channel m ∷ past)
 taken_suffice header channel m past suffice h = fewer (slice_get (reverse header.frames.items) h) _ _ (taken_less header.size h channel m past) (suffice h)
 
 -- the cause of a taking
-pub taken_licensed : (header : Header) (outside : Outside) (doing : Command) (channel : Channel) (m : Message) (past : List Event) → first (queue channel past) ≡ Some m → MayTake doing channel past → owed past ≡ None
+pub taken_licensed : (header : Header) (outside : Outside) (doing : Command) (channel : Channel) (m : Message) (past : List Event)
+    → first (queue channel past) ≡ Some m → MayTake doing channel past → owed past ≡ None
     → LicensedInTurn header outside doing (event.Taken channel m) past
 taken_licensed header outside doing channel m past is may settled = ((is, may), behind_none (event.Taken channel m) past settled)
 
 -- a step that begins with a taking, from what it says behind that
-pub takes_step : (given : Step) (channel : Channel) (m : Message) (more new : List Event) → new ≡ more ++ event.Taken channel m ∷ given.past → first (queue channel given.past) ≡ Some m → MayTake given.command channel given.past
-    → owed given.past ≡ None → FramesSuffice given.header given.past → EachIn IsConsequence more (event.Taken channel m ∷ given.past) → AllInTurn given.header given.outside given.command more (event.Taken channel m ∷ given.past)
+pub takes_step : (given : Step) (channel : Channel) (m : Message) (more new : List Event) → new ≡ more ++ event.Taken channel m ∷ given.past
+    → first (queue channel given.past) ≡ Some m → MayTake given.command channel given.past
+    → owed given.past ≡ None → FramesSuffice given.header given.past → EachIn IsConsequence more (event.Taken channel m ∷ given.past)
+    → AllInTurn given.header given.outside given.command more (event.Taken channel m ∷ given.past)
     → EachIn (OwnBytes given.header) more (event.Taken channel m ∷ given.past)
     → MomentsIn (FramesSuffice given.header) more (event.Taken channel m ∷ given.past) → AllInner more → TakesStep given new
 takes_step given channel m more new is head may settled suffice follows licensed own frames inner =
@@ -127,7 +145,9 @@ takes_step given channel m more new is head may settled suffice follows licensed
       more = more;
       is = is;
       follows = follows;
-      licensed = licensed_both given.header given.outside given.command more taken past licensed (taken_licensed given.header given.outside given.command channel m past head may settled, tt);
+      licensed =
+          licensed_both given.header given.outside given.command more taken past licensed
+          (taken_licensed given.header given.outside given.command channel m past head may settled, tt);
       own_bytes = each_both (OwnBytes given.header) more taken past own (tt, tt);
       frames = moments_both (FramesSuffice given.header) more taken past frames (taken_suffice given.header channel m past suffice, tt);
       inner = inner;
@@ -173,11 +193,14 @@ pub front_suffice : (given : Step) (s : State) → Front given s → FramesSuffi
 front_suffice given s front = all_suffice given.header s.hosts given.past front.rests
 
 -- the contents are those of the history
-pub front_content : (given : Step) (line : Option ℕ) (number : ChannelId) (channel : Channel) (s : State) → MayTakeFrom given line number channel s → (h : ℕ) → content_of given.header h given.past ≡ content_of given.header h s.history.items
-front_content given line number channel s may h = ap (λ (z : List Event). content_of given.header h z) may.past ∙ content_lined given.header h line s.history.items
+pub front_content : (given : Step) (line : Option ℕ) (number : ChannelId) (channel : Channel) (s : State) → MayTakeFrom given line number channel s → (h : ℕ)
+    → content_of given.header h given.past ≡ content_of given.header h s.history.items
+front_content given line number channel s may h =
+    ap (λ (z : List Event). content_of given.header h z) may.past ∙ content_lined given.header h line s.history.items
 
 -- and so is what the files have
-pub front_carry : (given : Step) (line : Option ℕ) (number : ChannelId) (channel : Channel) (s : State) → MayTakeFrom given line number channel s → (start areas : List ℕ → Told) → FilesCarry given.header start areas s.history.items
+pub front_carry : (given : Step) (line : Option ℕ) (number : ChannelId) (channel : Channel) (s : State) → MayTakeFrom given line number channel s
+    → (start areas : List ℕ → Told) → FilesCarry given.header start areas s.history.items
     → FilesCarry given.header start areas given.past
 front_carry given line number channel s may start areas carry = rw may.past (carry_lined given.header start areas line s.history.items carry)
 
@@ -186,21 +209,27 @@ may_queue : (given : Step) (line : Option ℕ) (number : ChannelId) (channel : C
     → AreQueued channel (queue_on number.0 s.ports.letters) (queue channel s.history.items) s.history.items
 may_queue given line number channel s may = queue_same s.channels.made s.ports.letters channel number.0 s.history.items may.stands.agrees.posts.letters may.made
 
-pub may_some : (given : Step) (line : Option ℕ) (number : ChannelId) (channel : Channel) (s : State) → MayTakeFrom given line number channel s → queue_on number.0 s.ports.letters ≡ [] → ⊥
+pub may_some : (given : Step) (line : Option ℕ) (number : ChannelId) (channel : Channel) (s : State) → MayTakeFrom given line number channel s
+    → queue_on number.0 s.ports.letters ≡ [] → ⊥
 may_some given line number channel s may none =
-    may.some (queued_none channel (queue_on number.0 s.ports.letters) (queue channel s.history.items) s.history.items (may_queue given line number channel s may) none)
+    may.some (queued_none channel (queue_on number.0 s.ports.letters) (queue channel s.history.items) s.history.items
+    (may_queue given line number channel s may) none)
 
 -- the message in front, by the index of its event
-may_first : (given : Step) (line : Option ℕ) (number : ChannelId) (channel : Channel) (index : ℕ) (s : State) → MayTakeFrom given line number channel s → slice_get (queue_on number.0 s.ports.letters) 0 ≡ Some index
+may_first : (given : Step) (line : Option ℕ) (number : ChannelId) (channel : Channel) (index : ℕ) (s : State) → MayTakeFrom given line number channel s
+    → slice_get (queue_on number.0 s.ports.letters) 0 ≡ Some index
     → (m : Message) × (first (queue channel s.history.items) ≡ Some m) × IsSent s.history.items index channel m
 may_first given line number channel index s may head =
-    queued_first channel (queue_on number.0 s.ports.letters) (queue channel s.history.items) s.history.items index (may_queue given line number channel s may) head
+    queued_first channel (queue_on number.0 s.ports.letters) (queue channel s.history.items) s.history.items index (may_queue given line number channel s may)
+    head
 
-pub may_read : (given : Step) (line : Option ℕ) (number : ChannelId) (channel : Channel) (index : ℕ) (s : State) → MayTakeFrom given line number channel s → slice_get (queue_on number.0 s.ports.letters) 0 ≡ Some index
+pub may_read : (given : Step) (line : Option ℕ) (number : ChannelId) (channel : Channel) (index : ℕ) (s : State) → MayTakeFrom given line number channel s
+    → slice_get (queue_on number.0 s.ports.letters) 0 ≡ Some index
     → (c : Channel) × (m : Message) × IsSent s.history.items index c m
 may_read given line number channel index s may head = let f = may_first given line number channel index s may head in (channel, f.0, f.2)
 
-pub may_head : (given : Step) (line : Option ℕ) (number : ChannelId) (channel : Channel) (index : ℕ) (m : Message) (s : State) → MayTakeFrom given line number channel s → slice_get (queue_on number.0 s.ports.letters) 0 ≡ Some index
+pub may_head : (given : Step) (line : Option ℕ) (number : ChannelId) (channel : Channel) (index : ℕ) (m : Message) (s : State)
+    → MayTakeFrom given line number channel s → slice_get (queue_on number.0 s.ports.letters) 0 ≡ Some index
     → (c : Channel) × IsSent s.history.items index c m → first (queue channel given.past) ≡ Some m
 may_head given line number channel index m s may head read =
     let items = s.history.items in
@@ -213,32 +242,41 @@ inside [] n x is = absurd (cc)
 inside (y ∷ xs) zero x is = omega arith
 inside (y ∷ xs) (suc n) x is = let low = inside xs n x is in omega (arith, low)
 
-pub may_there : (given : Step) (line : Option ℕ) (number : ChannelId) (channel : Channel) (s : State) → MayTakeFrom given line number channel s → number.0 < length s.channels.made
+pub may_there : (given : Step) (line : Option ℕ) (number : ChannelId) (channel : Channel) (s : State) → MayTakeFrom given line number channel s
+    → number.0 < length s.channels.made
 may_there given line number channel s may = inside s.channels.made number.0 channel (number_read channel s.channels.made number.0 may.made)
 
 -- no other channel has the number
-pub may_only : (given : Step) (line : Option ℕ) (number : ChannelId) (channel other : Channel) (s : State) → MayTakeFrom given line number channel s → slice_get s.channels.made number.0 ≡ Some other → other ≡ channel
+pub may_only : (given : Step) (line : Option ℕ) (number : ChannelId) (channel other : Channel) (s : State) → MayTakeFrom given line number channel s
+    → slice_get s.channels.made number.0 ≡ Some other → other ≡ channel
 may_only given line number channel other s may is =
     let both : Some other ≡ Some channel = sym is ∙ number_read channel s.channels.made number.0 may.made in
     cc
 
 -- the message that was taken is the one that was looked at
-pub first_told : (given : Step) (line : Option ℕ) (number : ChannelId) (channel : Channel) (m : Message) (s mid new : State) → MayTakeFrom given line number channel s → first (queue channel given.past) ≡ Some m
+pub first_told : (given : Step) (line : Option ℕ) (number : ChannelId) (channel : Channel) (m : Message) (s mid new : State)
+    → MayTakeFrom given line number channel s → first (queue channel given.past) ≡ Some m
     → mid.history.items ≡ s.history.items → mid.channels.made ≡ s.channels.made
-    → ((c : Channel) → slice_get mid.channels.made number.0 ≡ Some c → (n : Message) × (first (queue c mid.history.items) ≡ Some n) × (new.history.items ≡ event.Taken c n ∷ lined line mid.history.items))
+    → ((c : Channel) → slice_get mid.channels.made number.0 ≡ Some c → (n : Message) × (first (queue c mid.history.items) ≡ Some n)
+    × (new.history.items ≡ event.Taken c n ∷ lined line mid.history.items))
     → new.history.items ≡ event.Taken channel m ∷ given.past
 first_told given line number channel m s mid new may head items made told =
-    let at : slice_get mid.channels.made number.0 ≡ Some channel = ap (λ (z : List Channel). slice_get z number.0) made ∙ number_read channel s.channels.made number.0 may.made in
+    let at : slice_get mid.channels.made number.0 ≡ Some channel = ap (λ (z : List Channel). slice_get z number.0) made
+    ∙ number_read channel s.channels.made number.0 may.made in
     let t = told channel at in
     let past : given.past ≡ lined line mid.history.items = may.past ∙ ap (λ (z : List Event). lined line z) (sym items) in
-    let queued : first (queue channel given.past) ≡ Some t.0 = ap (λ (z : List Event). first (queue channel z)) past ∙ ap (λ (z : List Message). first z) (queue_lined channel line mid.history.items) ∙ t.1 in
+    let queued : first (queue channel given.past) ≡ Some t.0 = ap (λ (z : List Event). first (queue channel z)) past
+    ∙ ap (λ (z : List Message). first z) (queue_lined channel line mid.history.items) ∙ t.1 in
     let both : Some t.0 ≡ Some m = sym queued ∙ head in
     let one : t.0 ≡ m = cc in
     t.2 ∙ ap (λ (z : Message). event.Taken channel z ∷ lined line mid.history.items) one ∙ ap (λ (z : List Event). event.Taken channel m ∷ z) (sym past)
 
-pub may_port : (given : Step) (line : Option ℕ) (number : ChannelId) (channel : Channel) (s : State) → MayTakeFrom given line number channel s → number.0 < s.ports.channels
+pub may_port : (given : Step) (line : Option ℕ) (number : ChannelId) (channel : Channel) (s : State) → MayTakeFrom given line number channel s
+    → number.0 < s.ports.channels
 may_port given line number channel s may = subst (λ (z : ℕ). number.0 < z) may.stands.agrees.posts.count (may_there given line number channel s may)
 
 -- the channel is the one that was found
-pub may_found : (given : Step) (line : Option ℕ) (number : ChannelId) (channel other : Channel) (s : State) → MayTakeFrom given line number channel s → slice_get s.channels.made number.0 ≡ Some other → MayTakeFrom given line number other s
-may_found given line number channel other s may is = subst (λ (z : Channel). MayTakeFrom given line number z s) (sym (may_only given line number channel other s may is)) may
+pub may_found : (given : Step) (line : Option ℕ) (number : ChannelId) (channel other : Channel) (s : State) → MayTakeFrom given line number channel s
+    → slice_get s.channels.made number.0 ≡ Some other → MayTakeFrom given line number other s
+may_found given line number channel other s may is =
+    subst (λ (z : Channel). MayTakeFrom given line number z s) (sym (may_only given line number channel other s may is)) may

@@ -1,5 +1,12 @@
 -- A message about a declared object is taken by the pager of its file, which answers.
-use Rattle.vm_system.proofs.Common.{AllFilesServe, AllInTurn, AllServe, AnswersKept, Bool, CanTellAll, CarriesFile, ChannelId, Content, DevicesHaveCause, EachIn, Err, Event, FileAnswer, FileKept, FileTable, FilesAreKept, FilesCarry, Followed, FramesSuffice, Header, HostId, IsConsequence, LeavesFile, List, Listed, MayHave, MayTake, MayTakeFrom, Message, MomentsIn, None, ObjectId, Ok, Option, Outside, OwnBytes, PagerHasAnswered, PagingIsKept, Posts, SameAreas, SlotTable, SlotsFit, Some, SparesPaging, State, Step, TellsPage, Told, Took, Up, [], ap, append_assoc, arith, content_of, devices, each_both, first, gives_frame, home_of, inl, inner_both, inr, is_file, length, length-set, licensed_both, moments_both, name_of, nat_tests, none-some, others, others_carry, queue, refl, same_Some, set, slice_get, slice_get_within, subst, sym, tells, true, false, ℕ, ◌++◌, ◌<◌, ◌==◌, ◌∙◌, ◌∷◌, ◌≡◌, ◌≢◌, ◌⊎◌, reverse}
+use Rattle.vm_system.proofs.Common.{AllFilesServe, AllInTurn, AllServe, AnswersKept, Bool, CanTellAll, CarriesFile, ChannelId, Content, DevicesHaveCause}
+use Rattle.vm_system.proofs.Common.{EachIn, Err, Event, FileAnswer, FileKept, FileTable, FilesAreKept, FilesCarry, Followed, FramesSuffice, Header, HostId}
+use Rattle.vm_system.proofs.Common.{IsConsequence, LeavesFile, List, Listed, MayHave, MayTake, MayTakeFrom, Message, MomentsIn, None, ObjectId, Ok, Option}
+use Rattle.vm_system.proofs.Common.{Outside, OwnBytes, PagerHasAnswered, PagingIsKept, Posts, SameAreas, SlotTable, SlotsFit, Some, SparesPaging, State, Step}
+use Rattle.vm_system.proofs.Common.{TellsPage, Told, Took, Up, [], ap, append_assoc, arith, content_of, devices, each_both, first, gives_frame, home_of, inl}
+use Rattle.vm_system.proofs.Common.{inner_both, inr, is_file, length, length-set, licensed_both, moments_both, name_of, nat_tests, none-some, others}
+use Rattle.vm_system.proofs.Common.{others_carry, queue, refl, same_Some, set, slice_get, slice_get_within, subst, sym, tells, true, false, ℕ, ◌++◌, ◌<◌, ◌==◌}
+use Rattle.vm_system.proofs.Common.{◌∙◌, ◌∷◌, ◌≡◌, ◌≢◌, ◌⊎◌, reverse}
 use Rattle.pg_file.proofs.Carrying.{carries, others_carry as carries_apart}
 use Rattle.pg_file.proofs.Causes.{causes}
 use Rattle.pg_file.proofs.Debts.{paid}
@@ -22,16 +29,19 @@ use Rattle.vm_system.proofs.Lawfulness.{lawful_more, lawful_taken, others_about,
 use Rattle.vm_system.proofs.Letters.{known_first, letter_first, orderly_taken, washed_out}
 use Rattle.vm_system.proofs.Makings.{is_open}
 use Rattle.vm_system.proofs.Sayings.{can_file, orderly_filed}
-use Rattle.vm_system.proofs.Taken.{Front, devices_lined, front_carry, front_content, front_of, front_settled, front_suffice, taken_licensed, takes_step, taken_suffice}
+use Rattle.vm_system.proofs.Taken.{Front, devices_lined, front_carry, front_content, front_of, front_settled, front_suffice, taken_licensed, takes_step}
+use Rattle.vm_system.proofs.Taken.{taken_suffice}
 use Rattle.vm_system.proofs.TakenUp.{device_cause, going, up_letter}
 use Rattle.vm_system.proofs.Silent.{ends_up}
 
-pub up_filed : (given : Step) (line : Option ℕ) (number : ChannelId) (host : HostId) (object : ObjectId) (m : Message) (s : State) → MayTakeFrom given line number (Up host object) s
+pub up_filed : (given : Step) (line : Option ℕ) (number : ChannelId) (host : HostId) (object : ObjectId) (m : Message) (s : State)
+    → MayTakeFrom given line number (Up host object) s
     → first (queue (Up host object) given.past) ≡ Some m → IsToPager m × ReturnsWhole given.header.size m
 up_filed given line number host object m s may head = word_filed given.header.size _ m (up_letter given line number host object m s may head).1
 
 -- the object has a pager
-pub filed_known : (given : Step) (line : Option ℕ) (number : ChannelId) (host : HostId) (object : ObjectId) (s : State) → MayTakeFrom given line number (Up host object) s → is_file given.header object.0 ≡ true → object.0 < length s.files.items
+pub filed_known : (given : Step) (line : Option ℕ) (number : ChannelId) (host : HostId) (object : ObjectId) (s : State)
+    → MayTakeFrom given line number (Up host object) s → is_file given.header object.0 ≡ true → object.0 < length s.files.items
 filed_known given line number host object s may file =
     let count = may.stands.agrees.files.count in
     let declared = is_declared given.header object.0 file in
@@ -49,21 +59,28 @@ pub record Filed (given : Step) (host : HostId) (object : ObjectId) (m : Message
   pub licensed : AllInTurn given.header given.outside given.command events (event.Taken (Up host object) m ∷ given.past)
 
 -- only the host of its region speaks of it
-home_filed : (given : Step) (host : HostId) (object : ObjectId) (m : Message) (s : State) → Front given s → is_file given.header object.0 ≡ true → first (queue (Up host object) given.past) ≡ Some m → home_of object.0 given.past ≡ Some host.0
+home_filed : (given : Step) (host : HostId) (object : ObjectId) (m : Message) (s : State) → Front given s → is_file given.header object.0 ≡ true
+    → first (queue (Up host object) given.past) ≡ Some m → home_of object.0 given.past ≡ Some host.0
 home_filed given host object m s front file head =
-    sym (home_declared given.header object.0 given.past (is_declared given.header object.0 file)) ∙ (front.orderly.home host.0 object.0).made (file_paged given.header object.0 file) (is_open host.0 object.0 m given.past (front.orderly.made host.0 object.0) head)
+    sym (home_declared given.header object.0 given.past (is_declared given.header object.0 file))
+    ∙ (front.orderly.home host.0 object.0).made (file_paged given.header object.0 file)
+    (is_open host.0 object.0 m given.past (front.orderly.made host.0 object.0) head)
 
 -- the pager stands for the history
-pub stands_filed : (given : Step) (line : Option ℕ) (number : ChannelId) (host : HostId) (object : ObjectId) (s : State) (old : FileTable) → MayTakeFrom given line number (Up host object) s → is_file given.header object.0 ≡ true
+pub stands_filed : (given : Step) (line : Option ℕ) (number : ChannelId) (host : HostId) (object : ObjectId) (s : State) (old : FileTable)
+    → MayTakeFrom given line number (Up host object) s → is_file given.header object.0 ≡ true
     → slice_get s.files.items object.0 ≡ Some old → FileStands given.header object.0 old given.past
 stands_filed given line number host object s old may file at =
     let front = front_of given line number (Up host object) s may in
     front.files.stand object.0 old file at
 
 -- what is told of the files, which have what was returned
-told_filed : (given : Step) (line : Option ℕ) (number : ChannelId) (host : HostId) (object : ObjectId) (areas : List ℕ → Told) (s : State) (old : FileTable) (events : List Event) → MayTakeFrom given line number (Up host object) s
-    → is_file given.header object.0 ≡ true → home_of object.0 given.past ≡ Some host.0 → FileStands given.header object.0 old given.past → FilesAreKept given.header given.outside areas s
-    → ((was : Option (List ℕ)) → areas old.name ≡ Some was → TellsPage old.size was events) → tells given.header given.outside object.0 ≡ true → AnswersKept given.header given.outside host.0 object.0 given.past events
+told_filed : (given : Step) (line : Option ℕ) (number : ChannelId) (host : HostId) (object : ObjectId) (areas : List ℕ → Told) (s : State) (old : FileTable)
+    (events : List Event) → MayTakeFrom given line number (Up host object) s
+    → is_file given.header object.0 ≡ true → home_of object.0 given.past ≡ Some host.0 → FileStands given.header object.0 old given.past
+    → FilesAreKept given.header given.outside areas s
+    → ((was : Option (List ℕ)) → areas old.name ≡ Some was → TellsPage old.size was events) → tells given.header given.outside object.0 ≡ true
+    → AnswersKept given.header given.outside host.0 object.0 given.past events
 told_filed given line number host object areas s old events may file home is kept bytes on =
     let told = kept.told.at object.0 on file in
     let carry = front_carry given line number (Up host object) s may kept.start areas kept.kept in
@@ -76,8 +93,10 @@ told_filed given line number host object areas s old events may file home is kep
       tells = subst (λ (z : ℕ). TellsPage z had.0 events) is.size_is (bytes had.0 (ap areas is.name_is ∙ had.1));
     }
 
-pub filed_reply : (given : Step) (line : Option ℕ) (number : ChannelId) (host : HostId) (object : ObjectId) (m : Message) (areas : List ℕ → Told) (s : State) (old new : FileTable) (events : List Event) → MayTakeFrom given line number (Up host object) s
-    → is_file given.header object.0 ≡ true → first (queue (Up host object) given.past) ≡ Some m → slice_get s.files.items object.0 ≡ Some old → FileAnswer m host.0 old new events → FilesAreKept given.header given.outside areas s
+pub filed_reply : (given : Step) (line : Option ℕ) (number : ChannelId) (host : HostId) (object : ObjectId) (m : Message) (areas : List ℕ → Told) (s : State)
+    (old new : FileTable) (events : List Event) → MayTakeFrom given line number (Up host object) s
+    → is_file given.header object.0 ≡ true → first (queue (Up host object) given.past) ≡ Some m → slice_get s.files.items object.0 ≡ Some old
+    → FileAnswer m host.0 old new events → FilesAreKept given.header given.outside areas s
     → ((was : Option (List ℕ)) → areas old.name ≡ Some was → TellsPage old.size was events) → Filed given host object m s old new events
 filed_reply given line number host object m areas s old new events may file head at answered kept bytes =
     let header = given.header in
@@ -104,19 +123,23 @@ filed_reply given line number host object m areas s old new events may file head
     }
 
 -- its events
-filed_events : (given : Step) (host : HostId) (object : ObjectId) (m : Message) (s : State) (old new : FileTable) (events past : List Event) → Filed given host object m s old new events → IsFiled object events past
+filed_events : (given : Step) (host : HostId) (object : ObjectId) (m : Message) (s : State) (old new : FileTable) (events past : List Event)
+    → Filed given host object m s old new events → IsFiled object events past
 filed_events given host object m s old new events past filed = filed_of m host.0 object old new events past filed.serves.stands.object_is filed.serves.answered
 
-pub can_reply_filed : (given : Step) (host : HostId) (object : ObjectId) (m : Message) (s : State) (old new : FileTable) (events : List Event) → Filed given host object m s old new events
+pub can_reply_filed : (given : Step) (host : HostId) (object : ObjectId) (m : Message) (s : State) (old new : FileTable) (events : List Event)
+    → Filed given host object m s old new events
     → CanTellAll given.header.size events (event.Taken (Up host object) m ∷ given.past)
 can_reply_filed given host object m s old new events filed =
     let orderly = filed.front.orderly in
     let is = filed.serves.stands in
-    can_file given.header host.0 object m given.past old new events (orderly_taken given.header (Up host object) m given.past orderly filed.head) (letter_first given.header (Up host object) m given.past orderly filed.head) is.object_is is.size_is
+    can_file given.header host.0 object m given.past old new events (orderly_taken given.header (Up host object) m given.past orderly filed.head)
+    (letter_first given.header (Up host object) m given.past orderly filed.head) is.object_is is.size_is
     (file_unshared given.header object.0 filed.file) filed.serves.answered
 
 -- all files' pagers stand for the history behind the answer
-serve_filed : (given : Step) (host : HostId) (object : ObjectId) (m : Message) (s : State) (old new : FileTable) (events : List Event) → Filed given host object m s old new events
+serve_filed : (given : Step) (host : HostId) (object : ObjectId) (m : Message) (s : State) (old new : FileTable) (events : List Event)
+    → Filed given host object m s old new events
     → AllFilesServe given.header (set s.files.items object.0 new) (events ++ event.Taken (Up host object) m ∷ given.past)
 serve_filed given host object m s old new events filed = record {
   count = length-set s.files.items object.0 new ∙ filed.front.files.count;
@@ -129,32 +152,44 @@ serve_filed given host object m s old new events filed = record {
     taken : Event
     taken = event.Taken (Up host object) m
 
-    stand : (o : ℕ) (pager : FileTable) → is_file given.header o ≡ true → ((o ≡ object.0) × (new ≡ pager)) ⊎ ((o ≢ object.0) × (slice_get s.files.items o ≡ Some pager)) → FileStands given.header o pager (events ++ taken ∷ given.past)
+    stand : (o : ℕ) (pager : FileTable) → is_file given.header o ≡ true → ((o ≡ object.0) × (new ≡ pager))
+        ⊎ ((o ≢ object.0) × (slice_get s.files.items o ≡ Some pager)) → FileStands given.header o pager (events ++ taken ∷ given.past)
     stand o pager file (inl same) =
         subst (λ (z : FileTable). FileStands given.header o z (events ++ taken ∷ given.past)) same.1
-        (subst (λ (z : ℕ). FileStands given.header z new (events ++ taken ∷ given.past)) (sym same.0) (stands given.header host.0 given.past object.0 m old new events filed.serves))
+        (subst (λ (z : ℕ). FileStands given.header z new (events ++ taken ∷ given.past)) (sym same.0)
+        (stands given.header host.0 given.past object.0 m old new events filed.serves))
     stand o pager file (inr apart) =
         let other : object.0 ≢ o = λ same. apart.0 (sym same) in
-        stands_about given.header o pager object events (taken ∷ given.past) (filed_events given host object m s old new events (taken ∷ given.past) filed).about other
+        stands_about given.header o pager object events (taken ∷ given.past) (filed_events given host object m s old new events (taken ∷ given.past)
+        filed).about other
         (others_file given.header o pager taken given.past other (filed.front.files.stand o pager file apart.1))
 
 -- and no default pager has a part in it
-paged_filed : (given : Step) (host : HostId) (object : ObjectId) (m : Message) (s : State) (old new : FileTable) (events : List Event) → Filed given host object m s old new events
+paged_filed : (given : Step) (host : HostId) (object : ObjectId) (m : Message) (s : State) (old new : FileTable) (events : List Event)
+    → Filed given host object m s old new events
     → AllServe given.header s.pagers.items (events ++ event.Taken (Up host object) m ∷ given.past)
 paged_filed given host object m s old new events filed =
     let header = given.header in
     let taken = event.Taken (Up host object) m in
     record {
       numbered = filed.front.pagers.numbered;
-      stand = λ h pager at. declared_stand header h pager object events (taken ∷ given.past) (is_declared header object.0 filed.file) (filed_events given host object m s old new events (taken ∷ given.past) filed).about
+      stand =
+          λ h pager at. declared_stand header h pager object events (taken ∷ given.past) (is_declared header object.0 filed.file)
+          (filed_events given host object m s old new events (taken ∷ given.past) filed).about
           (others header h pager taken given.past (inl (is_declared header object.0 filed.file)) (filed.front.pagers.stand h pager at));
     }
 
-pub spares_filed : (given : Step) (line : Option ℕ) (number : ChannelId) (host : HostId) (object : ObjectId) (m : Message) (s now : State) (old new : FileTable) (events : List Event) → MayTakeFrom given line number (Up host object) s
-    → Filed given host object m s old new events → now.pagers.items ≡ s.pagers.items → now.history.items ≡ events ++ event.Taken (Up host object) m ∷ given.past → SparesPaging given.header given.outside s now
+pub spares_filed : (given : Step) (line : Option ℕ) (number : ChannelId) (host : HostId) (object : ObjectId) (m : Message) (s now : State) (old new : FileTable)
+    (events : List Event) → MayTakeFrom given line number (Up host object) s
+    → Filed given host object m s old new events → now.pagers.items ≡ s.pagers.items → now.history.items ≡ events ++ event.Taken (Up host object) m ∷ given.past
+    → SparesPaging given.header given.outside s now
 spares_filed given line number host object m s now old new events may filed pagers items = record {
-  kept = λ areas kept. kept_at header given.outside areas now s.pagers.items (events ++ past) pagers items (paged_filed given host object m s old new events filed) kept.told (λ on h pager at. fit areas kept on h pager at);
-  devices = ap (devices Paging) items ∙ reply_spares Files Paging events past refl is.replies ∙ ap (devices Paging) may.past ∙ devices_lined Paging line s.history.items;
+  kept =
+      λ areas kept. kept_at header given.outside areas now s.pagers.items (events ++ past) pagers items (paged_filed given host object m s old new events filed)
+      kept.told (λ on h pager at. fit areas kept on h pager at);
+  devices =
+      ap (devices Paging) items ∙ reply_spares Files Paging events past refl is.replies ∙ ap (devices Paging) may.past
+      ∙ devices_lined Paging line s.history.items;
 }
   where
     header : Header
@@ -166,7 +201,8 @@ spares_filed given line number host object m s now old new events may filed page
     is : IsFiled object events past
     is = filed_events given host object m s old new events past filed
 
-    fit : (areas : List ℕ → Told) → PagingIsKept header given.outside areas s → given.outside.paging ≡ true → (h : ℕ) (pager : SlotTable) → slice_get s.pagers.items h ≡ Some pager → SlotsFit areas pager (content_of header h (events ++ past))
+    fit : (areas : List ℕ → Told) → PagingIsKept header given.outside areas s → given.outside.paging ≡ true → (h : ℕ) (pager : SlotTable)
+        → slice_get s.pagers.items h ≡ Some pager → SlotsFit areas pager (content_of header h (events ++ past))
     fit areas kept on h pager at =
         let told = kept.told on h pager at in
         let own = apart_of header past (orderly_taken header (Up host object) m given.past filed.front.orderly filed.head) h in
@@ -175,8 +211,10 @@ spares_filed given line number host object m s now old new events may filed page
         declared_fit header h pager object areas events past (is_declared header object.0 filed.file) is.about own told (over.fits told was)
 
 -- the file has what was returned to it, and all others what they had
-carry_filed : (given : Step) (host : HostId) (object : ObjectId) (m : Message) (s : State) (old new : FileTable) (events : Listed Event) (start before after : List ℕ → Told) → Filed given host object m s old new events.items
-    → LeavesFile m old before after (Ok events) → FilesCarry given.header start before given.past → FilesCarry given.header start after (events.items ++ event.Taken (Up host object) m ∷ given.past)
+carry_filed : (given : Step) (host : HostId) (object : ObjectId) (m : Message) (s : State) (old new : FileTable) (events : Listed Event)
+    (start before after : List ℕ → Told) → Filed given host object m s old new events.items
+    → LeavesFile m old before after (Ok events) → FilesCarry given.header start before given.past
+    → FilesCarry given.header start after (events.items ++ event.Taken (Up host object) m ∷ given.past)
 carry_filed given host object m s old new events start before after filed leaves carry = record {
   kept = λ o was is told. kept o was is told (o == object.0) refl;
   others = λ name was none is. over.others name was (λ same. none object.0 file (sym (same ∙ named_is))) (carry.others name was none is);
@@ -218,7 +256,8 @@ carry_filed given host object m s old new events start before after filed leaves
         let here = subst (λ (z : ℕ). start (name_of header z) ≡ Some was) (sym equal) told in
         let had = carry.kept object.0 was file here in
         let got = over.kept was had.0 (at_name before had.0 (sym named_is) had.1) (had.2 host.0 (inr filed.home)) in
-        subst (λ (z : ℕ). (now : Option (List ℕ)) × (after (name_of header z) ≡ Some now) × ((g : ℕ) → MayHave g z later → FileKept header.size g z was now later)) equal
+        subst (λ (z : ℕ). (now : Option (List ℕ)) × (after (name_of header z) ≡ Some now)
+        × ((g : ℕ) → MayHave g z later → FileKept header.size g z was now later)) equal
         (got.0, at_name after got.0 named_is got.1, λ g may. subst (λ (z : ℕ). FileKept header.size z object.0 was got.0 later) (only g may) got.2)
     kept o was is told false same =
         let other : object.0 ≢ o = grind (arith, nat_tests, same) in
@@ -229,20 +268,27 @@ carry_filed given host object m s old new events start before after filed leaves
           over.others (name_of header o) had.0 (λ equal. other (filed.front.built.names object.0 o file is (sym named_is ∙ sym equal))) had.1,
           λ g may.
               kept_about header.size g o was had.0 object events.items past about other
-              (carries_apart header.size g o was had.0 taken given.past other (had.2 g (may_back g o (taken ∷ []) given.past (may_back g o events.items past may)))),
+              (carries_apart header.size g o was had.0 taken given.past other (had.2 g
+              (may_back g o (taken ∷ []) given.past (may_back g o events.items past may)))),
         )
 
 -- the files have what was returned behind the answer
 
-pub carried_filed : (given : Step) (line : Option ℕ) (number : ChannelId) (host : HostId) (object : ObjectId) (m : Message) (s now : State) (old new : FileTable) (events : Listed Event) (start before after : List ℕ → Told)
-    → MayTakeFrom given line number (Up host object) s → Filed given host object m s old new events.items → LeavesFile m old before after (Ok events) → now.history.items ≡ events.items ++ event.Taken (Up host object) m ∷ given.past
+pub carried_filed : (given : Step) (line : Option ℕ) (number : ChannelId) (host : HostId) (object : ObjectId) (m : Message) (s now : State)
+    (old new : FileTable) (events : Listed Event) (start before after : List ℕ → Told)
+    → MayTakeFrom given line number (Up host object) s → Filed given host object m s old new events.items → LeavesFile m old before after (Ok events)
+    → now.history.items ≡ events.items ++ event.Taken (Up host object) m ∷ given.past
     → FilesCarry given.header start before s.history.items → FilesCarry given.header start after now.history.items
 carried_filed given line number host object m s now old new events start before after may filed leaves items carry =
-    rw items (carry_filed given host object m s old new events start before after filed leaves (front_carry given line number (Up host object) s may start before carry))
+    rw items (carry_filed given host object m s old new events start before after filed leaves
+    (front_carry given line number (Up host object) s may start before carry))
 
-pub kept_filed : (given : Step) (line : Option ℕ) (number : ChannelId) (host : HostId) (object : ObjectId) (m : Message) (s now : State) (old new : FileTable) (events : Listed Event) (before after : List ℕ → Told)
-    → MayTakeFrom given line number (Up host object) s → Filed given host object m s old new events.items → LeavesFile m old before after (Ok events) → FilesAreKept given.header given.outside before s
-    → now.files.items ≡ set s.files.items object.0 new → now.history.items ≡ events.items ++ event.Taken (Up host object) m ∷ given.past → FilesAreKept given.header given.outside after now
+pub kept_filed : (given : Step) (line : Option ℕ) (number : ChannelId) (host : HostId) (object : ObjectId) (m : Message) (s now : State) (old new : FileTable)
+    (events : Listed Event) (before after : List ℕ → Told)
+    → MayTakeFrom given line number (Up host object) s → Filed given host object m s old new events.items → LeavesFile m old before after (Ok events)
+    → FilesAreKept given.header given.outside before s
+    → now.files.items ≡ set s.files.items object.0 new → now.history.items ≡ events.items ++ event.Taken (Up host object) m ∷ given.past
+    → FilesAreKept given.header given.outside after now
 kept_filed given line number host object m s now old new events before after may filed leaves kept files items = record {
   files = rw (files, items) (serve_filed given host object m s old new events.items filed);
   start = kept.start;
@@ -252,14 +298,18 @@ kept_filed given line number host object m s now old new events before after may
 
 -- where memory ended in the pager nothing changed
 
-areas_failed : (m : Message) (table : FileTable) (before after : List ℕ → Told) (e : NoMemory) → LeavesFile m table before after (Err e) → SameAreas before after
+areas_failed : (m : Message) (table : FileTable) (before after : List ℕ → Told) (e : NoMemory) → LeavesFile m table before after (Err e)
+    → SameAreas before after
 areas_failed (message.Return control page dirty keep bytes) table before after e leaves = leaves
 areas_failed other table before after e leaves = leaves
 
-pub carried_failed : (header : Header) (m : Message) (table : FileTable) (start before after : List ℕ → Told) (e : NoMemory) (past : List Event) → LeavesFile m table before after (Err e) → FilesCarry header start before past → FilesCarry header start after past
-carried_failed header m table start before after e past leaves carry = carry_areas header start before after past (areas_failed m table before after e leaves) carry
+pub carried_failed : (header : Header) (m : Message) (table : FileTable) (start before after : List ℕ → Told) (e : NoMemory) (past : List Event)
+    → LeavesFile m table before after (Err e) → FilesCarry header start before past → FilesCarry header start after past
+carried_failed header m table start before after e past leaves carry =
+    carry_areas header start before after past (areas_failed m table before after e leaves) carry
 
-pub filed_failed : (header : Header) (outside : Outside) (m : Message) (table : FileTable) (s now : State) (before after : List ℕ → Told) (e : NoMemory) → now.files.items ≡ s.files.items → LeavesFile m table before after (Err e)
+pub filed_failed : (header : Header) (outside : Outside) (m : Message) (table : FileTable) (s now : State) (before after : List ℕ → Told) (e : NoMemory)
+    → now.files.items ≡ s.files.items → LeavesFile m table before after (Err e)
     → now.history.items ≡ s.history.items → FilesAreKept header outside before s → FilesAreKept header outside after now
 filed_failed header outside m table s now before after e files leaves items kept = record {
   files = rw (files, items) kept.files;
@@ -269,9 +319,12 @@ filed_failed header outside m table s now before after e files leaves items kept
 }
 
 -- the hosts' part begins
-pub answered_filed : (given : Step) (host : HostId) (object : ObjectId) (m : Message) (s now : State) (old new : FileTable) (events : List Event) → Filed given host object m s old new events → now.pagers.items ≡ s.pagers.items
-    → now.files.items ≡ set s.files.items object.0 new → now.declared.items ≡ reverse given.header.objects.items → now.server ≡ s.server → now.hosts ≡ s.hosts → now.size ≡ given.header.size
-    → now.history.items ≡ events ++ event.Taken (Up host object) m ∷ given.past → Posts now now.history.items → now.log.items ≡ [] → PagerHasAnswered (going given host object m events) host (gives_frame m) now
+pub answered_filed : (given : Step) (host : HostId) (object : ObjectId) (m : Message) (s now : State) (old new : FileTable) (events : List Event)
+    → Filed given host object m s old new events → now.pagers.items ≡ s.pagers.items
+    → now.files.items ≡ set s.files.items object.0 new → now.declared.items ≡ reverse given.header.objects.items → now.server ≡ s.server → now.hosts ≡ s.hosts
+    → now.size ≡ given.header.size
+    → now.history.items ≡ events ++ event.Taken (Up host object) m ∷ given.past → Posts now now.history.items → now.log.items ≡ []
+    → PagerHasAnswered (going given host object m events) host (gives_frame m) now
 answered_filed given host object m s now old new events filed pagers files declared server hosts size items posts none =
     let header = given.header in
     let front = filed.front in
@@ -296,7 +349,9 @@ answered_filed given host object m s now old new events filed pagers files decla
         server = rw (server, items) (server_more header s.server events past silent (server_other header s.server taken given.past plain front.server));
         posts = posts;
         orderly = rw items (orderly_filed header host.0 object m given.past old new events orderly letter is.object_is is.size_is plain filed.serves.answered);
-        lawful = rw items (lawful_more header given.outside given.command events past filed.licensed (reply_own header Files events past its.replies) (reply_inner Files events its.replies)
+        lawful =
+            rw items (lawful_more header given.outside given.command events past filed.licensed (reply_own header Files events past its.replies)
+            (reply_inner Files events its.replies)
             (lawful_taken header given.outside given.command (Up host object) m given.past licence front.paid front.lawful));
       };
       paid = rw items (paid header host.0 given.past object.0 m old new events filed.serves);
@@ -318,7 +373,8 @@ answered_filed given host object m s now old new events filed pagers files decla
     }
 
 -- the hosts went on behind the answer
-pub took_filed : (given : Step) (host : HostId) (object : ObjectId) (m : Message) (s new : State) (old table : FileTable) (events : List Event) → Filed given host object m s old table events
+pub took_filed : (given : Step) (host : HostId) (object : ObjectId) (m : Message) (s new : State) (old table : FileTable) (events : List Event)
+    → Filed given host object m s old table events
     → Followed (going given host object m events) new → Took given new
 took_filed given host object m s new old table events filed followed =
     let header = given.header in
@@ -328,28 +384,38 @@ took_filed given host object m s new old table events filed followed =
     let past = event.Taken (Up host object) m ∷ given.past in
     let told = (filed_events given host object m s old table events past filed).replies in
     let suffice = front_suffice given s front in
-    let same : (events ++ event.Taken (Up host object) m ∷ []) ++ given.past ≡ events ++ past = append_assoc events (event.Taken (Up host object) m ∷ []) given.past in
+    let same : (events ++ event.Taken (Up host object) m ∷ []) ++ given.past ≡ events ++ past = append_assoc events (event.Taken (Up host object) m ∷ [])
+    given.past in
     let more = followed.more in
     let stretch = followed.follows.stretch in
     let items : new.history.items ≡ more ++ (events ++ past) = followed.is ∙ ap (λ (z : List Event). more ++ z) same in
-    let licensed = licensed_both header outside doing more events past (subst (λ (z : List Event). AllInTurn header outside doing more z) same stretch.licensed) filed.licensed in
-    let own = each_both (OwnBytes header) more events past (subst (λ (z : List Event). EachIn (OwnBytes header) more z) same stretch.own_bytes) (reply_own header Files events past told) in
+    let licensed = licensed_both header outside doing more events past (subst (λ (z : List Event). AllInTurn header outside doing more z) same stretch.licensed)
+    filed.licensed in
+    let own = each_both (OwnBytes header) more events past (subst (λ (z : List Event). EachIn (OwnBytes header) more z) same stretch.own_bytes)
+    (reply_own header Files events past told) in
     let frames = moments_both (FramesSuffice header) more events past (subst (λ (z : List Event). MomentsIn (FramesSuffice header) more z) same stretch.frames)
     (reply_frames header Files events past told (taken_suffice header (Up host object) m given.past suffice)) in
     record {
       stands = followed.stands;
-      step = takes_step given (Up host object) m (more ++ events) new.history.items (items ∙ sym (append_assoc more events past)) filed.head filed.may (front_settled given s front) suffice
-          (each_both IsConsequence more events past (subst (λ (z : List Event). EachIn IsConsequence more z) same followed.follows.follows) (reply_consequences Files events past told)) licensed own frames (inner_both more events stretch.inner (reply_inner Files events told));
+      step =
+          takes_step given (Up host object) m (more ++ events) new.history.items (items ∙ sym (append_assoc more events past)) filed.head filed.may
+          (front_settled given s front) suffice
+          (each_both IsConsequence more events past (subst (λ (z : List Event). EachIn IsConsequence more z) same followed.follows.follows)
+          (reply_consequences Files events past told)) licensed own frames (inner_both more events stretch.inner (reply_inner Files events told));
       prompt = followed.prompt;
       paid = followed.stands.paid;
-      ended = rw (items ∙ sym (append_assoc more events past)) (ends_up header host object m (more ++ events) given.past (inner_both more events stretch.inner (reply_inner Files events told)));
+      ended =
+          rw (items ∙ sym (append_assoc more events past)) (ends_up header host object m (more ++ events) given.past
+          (inner_both more events stretch.inner (reply_inner Files events told)));
       turns = followed.turns;
     }
 
-pub devices_filed : (given : Step) (line : Option ℕ) (number : ChannelId) (host : HostId) (object : ObjectId) (m : Message) (s : State) (old table : FileTable) (events : Listed Event) (before now : ℕ) (new : List Event)
+pub devices_filed : (given : Step) (line : Option ℕ) (number : ChannelId) (host : HostId) (object : ObjectId) (m : Message) (s : State) (old table : FileTable)
+    (events : Listed Event) (before now : ℕ) (new : List Event)
     → MayTakeFrom given line number (Up host object) s → Filed given host object m s old table events.items → AnswerHasCause before now (Ok events)
     → devices Files new ≡ devices Files (events.items ++ event.Taken (Up host object) m ∷ given.past) → DevicesHaveCause Files before now s.history.items new
 devices_filed given line number host object m s old table events before now new may filed cause same =
     let past = event.Taken (Up host object) m ∷ given.past in
-    device_cause Files (TellsFault events.items) before now events.items past s.history.items new (filed_events given host object m s old table events.items past filed).faults cause.later cause.failed cause.spared same
+    device_cause Files (TellsFault events.items) before now events.items past s.history.items new
+    (filed_events given host object m s old table events.items past filed).faults cause.later cause.failed cause.spared same
     (ap (devices Files) may.past ∙ devices_lined Files line s.history.items)

@@ -1,5 +1,8 @@
 -- A `take` is run.
-use Rattle.vm_system.proofs.Common.{Channel, EachIn, Event, FollowsInTurn, FollowsSoFarInTurn, FramesSuffice, Header, Holds, IsAtRest, IsConsequence, IsGroupInTurn, IsPaid, IsRunInTurn, IsWholeInTurn, KeepsCanonical, CanonicalFor, List, None, Numbered, Outside, Some, State, Step, SystemStands, TakesStep, Took, [], ap, false, first, head, inr, is_some, licensed_front, moment_last, no_request, queue, refl, refusal, so_far, subst, sym, take_head, true, ℕ, ◌++◌, ◌∷◌, ◌≡◌}
+use Rattle.vm_system.proofs.Common.{Channel, EachIn, Event, FollowsInTurn, FollowsSoFarInTurn, FramesSuffice, Header, Holds, IsAtRest, IsConsequence}
+use Rattle.vm_system.proofs.Common.{IsGroupInTurn, IsPaid, IsRunInTurn, IsWholeInTurn, KeepsCanonical, CanonicalFor, List, None, Numbered, Outside, Some, State}
+use Rattle.vm_system.proofs.Common.{Step, SystemStands, TakesStep, Took, [], ap, false, first, head, inr, is_some, licensed_front, moment_last, no_request}
+use Rattle.vm_system.proofs.Common.{queue, refl, refusal, so_far, subst, sym, take_head, true, ℕ, ◌++◌, ◌∷◌, ◌≡◌}
 use Rattle.vm_model.specs.declared.command.Command.TheVariants as command
 use Rattle.vm_model.specs.declared.event.Event.TheVariants as event
 use Rattle.vm_system.proofs.Opening.{HoldsUpTo, holds_taken, step_is, steps_taken}
@@ -25,7 +28,8 @@ taking_of header outside line channel past = record { header = header; outside =
 
 -- the group of the command
 
-follows_take : (header : Header) (outside : Outside) (line : ℕ) (channel : Channel) (run : List Numbered) (old new : List Event) → refusal header old (command.Take channel) ≡ None → TakesStep (taking_of header outside line channel old) new
+follows_take : (header : Header) (outside : Outside) (line : ℕ) (channel : Channel) (run : List Numbered) (old new : List Event)
+    → refusal header old (command.Take channel) ≡ None → TakesStep (taking_of header outside line channel old) new
     → FollowsInTurn header outside run old → FollowsInTurn header outside (record { line = line; command = command.Take channel } ∷ run) new
 follows_take header outside line channel run old new fine step follows =
     let numbered : Numbered = record { line = line; command = command.Take channel } in
@@ -57,7 +61,8 @@ paid_line header line past = record {
   slot = λ host object control page dirty keep bytes temporary is lacks. absurd (some_none (sym is));
 }
 
-up_to_line : (header : Header) (outside : Outside) (line : ℕ) (run : List Numbered) (s : State) → SystemStands header outside s → CanonicalFor header outside run s.history.items → HoldsUpTo header outside (event.Line line ∷ s.history.items)
+up_to_line : (header : Header) (outside : Outside) (line : ℕ) (run : List Numbered) (s : State) → SystemStands header outside s
+    → CanonicalFor header outside run s.history.items → HoldsUpTo header outside (event.Line line ∷ s.history.items)
 up_to_line header outside line run s stands legal =
     let items = s.history.items in
     record {
@@ -74,24 +79,36 @@ up_to_line header outside line run s stands legal =
 
 -- a line alone is in its turn
 lined : (header : Header) (line : ℕ) (h : List Event) → NoneSleeps header h → StepIsInTurn header (event.Line line ∷ h)
-lined header line h awake = record { ended = ends_lined header line [] h tt; served = one_served header 0 [] (event.Line line ∷ h) tt tt tt tt; awake = awake_line header line h awake }
+lined header line h awake =
+    record { ended = ends_lined header line [] h tt; served = one_served header 0 [] (event.Line line ∷ h) tt tt tt tt; awake = awake_line header line h awake }
 
-pub keeps_taken : (header : Header) (outside : Outside) (line : ℕ) (channel : Channel) (s new : State) → SystemStands header outside s → refusal header s.history.items (command.Take channel) ≡ None
-    → Took (taking_of header outside line channel s.history.items) new → KeepsCanonical header outside (record { line = line; command = command.Take channel }) s.history.items new.history.items
+pub keeps_taken : (header : Header) (outside : Outside) (line : ℕ) (channel : Channel) (s new : State) → SystemStands header outside s
+    → refusal header s.history.items (command.Take channel) ≡ None
+    → Took (taking_of header outside line channel s.history.items) new
+    → KeepsCanonical header outside (record { line = line; command = command.Take channel }) s.history.items new.history.items
 keeps_taken header outside line channel s new stands fine took run legal =
     let given = taking_of header outside line channel s.history.items in
     let numbered : Numbered = record { line = line; command = command.Take channel } in
     let items = new.history.items in
-    let follows : FollowsInTurn header outside (numbered ∷ run) items = follows_take header outside line channel run s.history.items items fine took.step legal.follows in
+    let follows : FollowsInTurn header outside (numbered ∷ run) items = follows_take header outside line channel run s.history.items items fine took.step
+    legal.follows in
     let opened : FollowsSoFarInTurn header outside (numbered ∷ run) items = open_in_turn header outside (numbered ∷ run) items follows in
-    let causes : EachEvent (HasCause header outside) items = so_far header outside (numbered ∷ run) items (weak_so_far header outside (numbered ∷ run) items opened) in
+    let causes : EachEvent (HasCause header outside) items = so_far header outside (numbered ∷ run) items
+    (weak_so_far header outside (numbered ∷ run) items opened) in
     let holds : Holds header outside items = holds_taken given items took.step causes (up_to_line header outside line run s stands legal) in
-    let last : StepIsInTurn header items = record { ended = took.ended; served = took.turns; awake = awake_of header outside new.hosts items took.stands.rests took.stands.queues causes } in
+    let last : StepIsInTurn header items = record {
+      ended = took.ended;
+      served = took.turns;
+      awake = awake_of header outside new.hosts items took.stands.rests took.stands.queues causes;
+    } in
     let rests : IsAtRest header items = record { prompt = took.prompt; paid = took.paid; served = took.stands.served } in
-    let ended : BeforeSteps (StepIsInTurn header) items = steps_taken (StepIsInTurn header) given items took.step (lined header line s.history.items legal.last.awake, (legal.last, legal.ended)) in
-    let recalled : BeforeSteps (AllRecalled header) items = steps_taken (AllRecalled header) given items took.step (recalled_other header (event.Line line) s.history.items tt legal.recalls, (legal.recalls, legal.recalled)) in
+    let ended : BeforeSteps (StepIsInTurn header) items = steps_taken (StepIsInTurn header) given items took.step
+    (lined header line s.history.items legal.last.awake, (legal.last, legal.ended)) in
+    let recalled : BeforeSteps (AllRecalled header) items = steps_taken (AllRecalled header) given items took.step
+    (recalled_other header (event.Line line) s.history.items tt legal.recalls, (legal.recalls, legal.recalled)) in
     record {
       so_far = record { follows = opened; holds = holds; rests = rests; ended = ended; last = last; recalled = recalled; recalls = took.stands.recalled };
-      whole = λ none. record { follows = follows; holds = holds; rests = rests; ended = ended; last = last; recalled = recalled; recalls = took.stands.recalled };
+      whole =
+          λ none. record { follows = follows; holds = holds; rests = rests; ended = ended; last = last; recalled = recalled; recalls = took.stands.recalled };
       none = inr refl;
     }

@@ -1,5 +1,12 @@
 -- A message about a shared object is taken by its server, which answers.
-use Rattle.vm_system.proofs.Common.{AllFilesServe, AllInner, AllInTurn, AllServe, AreServerWords, Bool, CanTellAll, Channel, ChannelId, Command, Content, Device, Down, EachIn, EachOf, Event, Followed, FramesSuffice, Header, HostId, IsConsequence, IsHostLetter, IsOrderly, IsServerWord, IsSharedWord, IsToServer, IsWord, IsWordUp, List, LicensedInTurn, MayTake, MayTakeFrom, Message, MomentsIn, None, ObjectId, Option, Outside, OwnBytes, PagerHasAnswered, PagingIsKept, Posts, ServerAnswer, ServerServes, ServerTable, SlotTable, SlotsFit, Some, Spares, State, Step, Told, Took, Up, [], ap, append_assoc, arith, content_of, devices, each_both, false, first, gives_frame, host_id, inl, inner_both, inr, is_file, is_made, is_shared, kind_of, length, licensed_both, moments_both, named, never, nat_lt, others, others_carry, page_part, queue, refl, reverse, slice_get, subst, sym, taken_letter, taken_more, true, up, ℕ, ◌++◌, ◌<◌, ◌∙◌, ◌∷◌, ◌≡◌, ◌⊎◌, Letter, same_Some}
+use Rattle.vm_system.proofs.Common.{AllFilesServe, AllInner, AllInTurn, AllServe, AreServerWords, Bool, CanTellAll, Channel, ChannelId, Command, Content}
+use Rattle.vm_system.proofs.Common.{Device, Down, EachIn, EachOf, Event, Followed, FramesSuffice, Header, HostId, IsConsequence, IsHostLetter, IsOrderly}
+use Rattle.vm_system.proofs.Common.{IsServerWord, IsSharedWord, IsToServer, IsWord, IsWordUp, List, LicensedInTurn, MayTake, MayTakeFrom, Message, MomentsIn}
+use Rattle.vm_system.proofs.Common.{None, ObjectId, Option, Outside, OwnBytes, PagerHasAnswered, PagingIsKept, Posts, ServerAnswer, ServerServes, ServerTable}
+use Rattle.vm_system.proofs.Common.{SlotTable, SlotsFit, Some, Spares, State, Step, Told, Took, Up, [], ap, append_assoc, arith, content_of, devices, each_both}
+use Rattle.vm_system.proofs.Common.{false, first, gives_frame, host_id, inl, inner_both, inr, is_file, is_made, is_shared, kind_of, length, licensed_both}
+use Rattle.vm_system.proofs.Common.{moments_both, named, never, nat_lt, others, others_carry, page_part, queue, refl, reverse, slice_get, subst, sym}
+use Rattle.vm_system.proofs.Common.{taken_letter, taken_more, true, up, ℕ, ◌++◌, ◌<◌, ◌∙◌, ◌∷◌, ◌≡◌, ◌⊎◌, Letter, same_Some}
 use Rattle.vm_model.specs.declared.event.Device.TheVariants.{Files, Paging}
 use Rattle.vm_model.specs.declared.event.Event.TheVariants as event
 use Rattle.vm_model.specs.declared.message.Message.TheVariants as message
@@ -25,7 +32,8 @@ use Rattle.vm_system.proofs.Hearing.{granted, made_all, upgraded}
 use Rattle.vm_system.proofs.Lawfulness.{lawful_more, lawful_taken}
 use Rattle.vm_system.proofs.Letters.{letter_first, orderly_taken, washed_out}
 use Rattle.vm_system.proofs.Sayings.{AllTold, page_of_answer, sent_down, told_none}
-use Rattle.vm_system.proofs.Taken.{Front, devices_lined, front_carry, front_content, front_of, front_settled, front_suffice, taken_licensed, takes_step, taken_suffice}
+use Rattle.vm_system.proofs.Taken.{Front, devices_lined, front_carry, front_content, front_of, front_settled, front_suffice, taken_licensed, takes_step}
+use Rattle.vm_system.proofs.Taken.{taken_suffice}
 use Rattle.vm_system.proofs.TakenUp.{going, up_letter}
 use Rattle.vm_system.proofs.Silent.{ends_up}
 
@@ -55,9 +63,11 @@ pub record Shared (given : Step) (host : HostId) (object : ObjectId) (m : Messag
   pub licensed : AllInTurn given.header given.outside given.command events (event.Taken (Up host object) m ∷ given.past)
 
 -- the taking has its cause
-shared_licence : (given : Step) (host : HostId) (object : ObjectId) (m : Message) (s : State) → Front given s → first (queue (Up host object) given.past) ≡ Some m → MayTake given.command (Up host object) given.past
+shared_licence : (given : Step) (host : HostId) (object : ObjectId) (m : Message) (s : State) → Front given s
+    → first (queue (Up host object) given.past) ≡ Some m → MayTake given.command (Up host object) given.past
     → LicensedInTurn given.header given.outside given.command (event.Taken (Up host object) m) given.past
-shared_licence given host object m s front head may = taken_licensed given.header given.outside given.command (Up host object) m given.past head may (front_settled given s front)
+shared_licence given host object m s front head may =
+    taken_licensed given.header given.outside given.command (Up host object) m given.past head may (front_settled given s front)
 
 -- what the server is told
 
@@ -65,7 +75,8 @@ to_server : (m : Message) → IsSharedWord m → IsToServer m
 to_server (message.Create control size) word = absurd word
 to_server m word = word
 
-pub up_shared : (given : Step) (line : Option ℕ) (number : ChannelId) (host : HostId) (object : ObjectId) (m : Message) (s : State) → MayTakeFrom given line number (Up host object) s → is_shared given.header object.0 ≡ true
+pub up_shared : (given : Step) (line : Option ℕ) (number : ChannelId) (host : HostId) (object : ObjectId) (m : Message) (s : State)
+    → MayTakeFrom given line number (Up host object) s → is_shared given.header object.0 ≡ true
     → first (queue (Up host object) given.past) ≡ Some m → (host.0 < 8) × IsToServer m × ReturnsWhole given.header.size m
 up_shared given line number host object m s may shared head =
     let letter = up_letter given line number host object m s may head in
@@ -76,8 +87,10 @@ up_shared given line number host object m s may shared head =
     whole (message.Return control page dirty keep bytes) word = word
     whole m word = tt
 
-pub shared_reply : (given : Step) (line : Option ℕ) (number : ChannelId) (host : HostId) (object : ObjectId) (m : Message) (s : State) (new : ServerTable) (events : List Event) → MayTakeFrom given line number (Up host object) s
-    → is_shared given.header object.0 ≡ true → first (queue (Up host object) given.past) ≡ Some m → ServerAnswer host.0 object m s.server new events → AreServerWords s.server.size object events → Shared given host object m s s.server new events
+pub shared_reply : (given : Step) (line : Option ℕ) (number : ChannelId) (host : HostId) (object : ObjectId) (m : Message) (s : State) (new : ServerTable)
+    (events : List Event) → MayTakeFrom given line number (Up host object) s
+    → is_shared given.header object.0 ≡ true → first (queue (Up host object) given.past) ≡ Some m → ServerAnswer host.0 object m s.server new events
+    → AreServerWords s.server.size object events → Shared given host object m s s.server new events
 shared_reply given line number host object m s new events may shared head answered words =
     let header = given.header in
     let front = front_of given line number (Up host object) s may in
@@ -106,9 +119,12 @@ shared_reply given line number host object m s new events may shared head answer
 
 shared_replies : (size : ℕ) (object : ObjectId) (events : List Event) → AreServerWords size object events → EachOf (IsReply Files) events
 shared_replies size object [] words = tt
-shared_replies size object (event.Sent (Down host about control) (message.Supply page lock precious bytes) ∷ events) words = (tt, shared_replies size object events words.1)
-shared_replies size object (event.Sent (Down host about control) (message.Lock page count returns flush lock reply) ∷ events) words = (tt, shared_replies size object events words.1)
-shared_replies size object (event.Sent (Down host about control) (message.Ready cache strategy) ∷ events) words = (tt, shared_replies size object events words.1)
+shared_replies size object (event.Sent (Down host about control) (message.Supply page lock precious bytes) ∷ events) words =
+    (tt, shared_replies size object events words.1)
+shared_replies size object (event.Sent (Down host about control) (message.Lock page count returns flush lock reply) ∷ events) words =
+    (tt, shared_replies size object events words.1)
+shared_replies size object (event.Sent (Down host about control) (message.Ready cache strategy) ∷ events) words =
+    (tt, shared_replies size object events words.1)
 shared_replies size object (event.Sent (Down host about control) m ∷ events) words = absurd words.0.1
 shared_replies size object (event.Sent (Up host about) m ∷ events) words = absurd words.0
 shared_replies size object (e ∷ events) words = absurd words.0
@@ -120,26 +136,31 @@ shared_about size object (event.Sent (Up host about) m ∷ events) words = absur
 shared_about size object (e ∷ events) words = absurd words.0
 
 -- what is sent of a shared object, the server may say
-sends_shared : (header : Header) (outside : Outside) (doing : Command) (host object control : ℕ) (m : Message) (past : List Event) → is_shared header object ≡ true → PagerSends (kind_of header object) header outside doing host object control m past
+sends_shared : (header : Header) (outside : Outside) (doing : Command) (host object control : ℕ) (m : Message) (past : List Event)
+    → is_shared header object ≡ true → PagerSends (kind_of header object) header outside doing host object control m past
     → ServerSends header host object control m past
 sends_shared header outside doing host object control m past shared sends = by (kind_of header object) shared sends
   where
-    by : (kind : ObjectKind) → is_shared_kind kind ≡ true → PagerSends kind header outside doing host object control m past → ServerSends header host object control m past
+    by : (kind : ObjectKind) → is_shared_kind kind ≡ true → PagerSends kind header outside doing host object control m past
+        → ServerSends header host object control m past
     by kinds.Temp is sends = never is
     by kinds.File is sends = never is
     by kinds.Shared is sends = sends
     by kinds.Wild is sends = never is
 
 -- and it is a word that a kernel takes
-word_shared : (header : Header) (host object control : ℕ) (m : Message) (past : List Event) → IsServerWord header.size m → ServerSends header host object control m past → IsWord header.size m
+word_shared : (header : Header) (host object control : ℕ) (m : Message) (past : List Event) → IsServerWord header.size m
+    → ServerSends header host object control m past → IsWord header.size m
 word_shared header host object control (message.Supply page lock precious bytes) past word sends = (by word.0, word.2)
   where
     by : (lock ≡ 0) ⊎ (lock ≡ 2) → lock < 4
     by (inl is) = omega (arith, is)
     by (inr is) = omega (arith, is)
-word_shared header host object control (message.Lock page count returns flush lock true) past word sends = (let one : returns ≡ 1 = sends.2 in omega (arith, one), by flush (first (line (page_part header.size object page.0 past))) sends.5)
+word_shared header host object control (message.Lock page count returns flush lock true) past word sends =
+    (let one : returns ≡ 1 = sends.2 in omega (arith, one), by flush (first (line (page_part header.size object page.0 past))) sends.5)
   where
-    by : (flush : Bool) (w : Option Wanting) → RecallRow host flush lock (side host (page_part header.size object page.0 past)).holds w → (lock < 4) ⊎ (lock ≡ 8)
+    by : (flush : Bool) (w : Option Wanting) → RecallRow host flush lock (side host (page_part header.size object page.0 past)).holds w → (lock < 4)
+        ⊎ (lock ≡ 8)
     by flush None row = absurd row
     by true (Some w) row = inr row.1
     by false (Some w) row = inl (let two : lock ≡ 2 = row.1 in omega (arith, two))
@@ -154,7 +175,8 @@ IsServed header host object control past = (host < length header.frames.items) �
 
 -- the control that it is sent to has its channel
 heard_shared : (header : Header) (host object control : ℕ) (m : Message) (past : List Event) → IsOrderly header past → is_shared header object ≡ true
-    → ((size : ℕ) → taken_letter past ≡ Some (record { channel = up host object; message = message.Init control size }) → IsServed header host object control past) → ServerSends header host object control m past
+    → ((size : ℕ) → taken_letter past ≡ Some (record { channel = up host object; message = message.Init control size })
+    → IsServed header host object control past) → ServerSends header host object control m past
     → IsServed header host object control past
 heard_shared header host object control (message.Supply page lock precious bytes) past orderly shared greets sends =
     subst (λ (k : ℕ). IsServed header host object k past) (sym sends.0)
@@ -163,7 +185,8 @@ heard_shared header host object control (message.Lock page count returns flush l
     subst (λ (k : ℕ). IsServed header host object k past) (sym sends.0) ((orderly.heard host object page.0 shared).holder sends.4)
 heard_shared header host object control (message.Lock page count returns flush lock false) past orderly shared greets sends =
     subst (λ (k : ℕ). IsServed header host object k past) (sym sends.0)
-    ((orderly.heard host object page.0 shared).waiter (upgraded host (page_part header.size object page.0 past) header.size control count returns lock flush sends))
+    ((orderly.heard host object page.0 shared).waiter (upgraded host (page_part header.size object page.0 past) header.size control count returns lock flush
+    sends))
 heard_shared header host object control (message.Ready cache strategy) past orderly shared greets (size, plain, once, taken, none) = greets size taken
 heard_shared header host object control m past orderly shared greets sends = absurd sends
 
@@ -176,25 +199,32 @@ object_in (Up host object) = object.0
 object_in (Down host object control) = object.0
 
 -- what stands in front of an answer of the server, as far as it was told
-greeted : (header : Header) (at : HostId) (about : ObjectId) (m : Message) (events past : List Event) → AllInner events → IsHostLetter header past (record { channel = Up at about; message = m }) → (host object control size : ℕ)
-    → taken_letter (events ++ event.Taken (Up at about) m ∷ past) ≡ Some (record { channel = up host object; message = message.Init control size }) → IsServed header host object control (events ++ event.Taken (Up at about) m ∷ past)
+greeted : (header : Header) (at : HostId) (about : ObjectId) (m : Message) (events past : List Event) → AllInner events
+    → IsHostLetter header past (record { channel = Up at about; message = m }) → (host object control size : ℕ)
+    → taken_letter (events ++ event.Taken (Up at about) m ∷ past) ≡ Some (record { channel = up host object; message = message.Init control size })
+    → IsServed header host object control (events ++ event.Taken (Up at about) m ∷ past)
 greeted header at about m events past inner letter host object control size taken =
-    let both : Some (record { channel = Up at about; message = m }) ≡ Some (record { channel = up host object; message = message.Init control size }) = sym (taken_more events (event.Taken (Up at about) m ∷ past) inner) ∙ taken in
+    let both : Some (record { channel = Up at about; message = m }) ≡ Some (record { channel = up host object; message = message.Init control size }) = sym
+    (taken_more events (event.Taken (Up at about) m ∷ past) inner) ∙ taken in
     let one : Letter = record { channel = Up at about; message = m } in
     let other : Letter = record { channel = up host object; message = message.Init control size } in
     let same : one ≡ other = same_Some one other both in
     let here : at.0 ≡ host = ap (λ (z : Letter). host_in z.channel) same in
     let its : about.0 ≡ object = ap (λ (z : Letter). object_in z.channel) same in
     let said : m ≡ message.Init control size = ap (λ (z : Letter). z.message) same in
-    let word : IsWordUp header.size (λ k. is_made (Down at about k) past) (message.Init control size) = subst (λ (z : Message). IsWordUp header.size (λ k. is_made (Down at about k) past) z) said letter.1 in (
+    let word : IsWordUp header.size (λ k. is_made (Down at about k) past) (message.Init control size) = subst
+    (λ (z : Message). IsWordUp header.size (λ k. is_made (Down at about k) past) z) said letter.1 in (
       subst (λ (n : ℕ). n < length header.frames.items) here letter.0,
       made_all (Down (host_id host) (record { 0 = object }) control) events (event.Taken (Up at about) m ∷ past)
-          (subst (λ (n : ℕ). is_made (Down (host_id n) (record { 0 = object }) control) past ≡ true) here (subst (λ (n : ℕ). is_made (Down at (record { 0 = n }) control) past ≡ true) its word)),
+          (subst (λ (n : ℕ). is_made (Down (host_id n) (record { 0 = object }) control) past ≡ true) here
+          (subst (λ (n : ℕ). is_made (Down at (record { 0 = n }) control) past ≡ true) its word)),
     )
 
 -- the events of an answer can be told, one after another
-told_shared : (header : Header) (outside : Outside) (doing : Command) (at : HostId) (object : ObjectId) (m : Message) (events past : List Event) → is_shared header object.0 ≡ true → IsOrderly header (event.Taken (Up at object) m ∷ past)
-    → IsHostLetter header past (record { channel = Up at object; message = m }) → AreServerWords header.size object events → AllInTurn header outside doing events (event.Taken (Up at object) m ∷ past) → AllTold header events (event.Taken (Up at object) m ∷ past)
+told_shared : (header : Header) (outside : Outside) (doing : Command) (at : HostId) (object : ObjectId) (m : Message) (events past : List Event)
+    → is_shared header object.0 ≡ true → IsOrderly header (event.Taken (Up at object) m ∷ past)
+    → IsHostLetter header past (record { channel = Up at object; message = m }) → AreServerWords header.size object events
+    → AllInTurn header outside doing events (event.Taken (Up at object) m ∷ past) → AllTold header events (event.Taken (Up at object) m ∷ past)
 told_shared header outside doing at object m [] past shared orderly letter words licences = told_none header (event.Taken (Up at object) m ∷ past) orderly
 told_shared header outside doing at object m (event.Sent (Down host about control) said ∷ events) past shared orderly letter words licences =
     let front = event.Taken (Up at object) m ∷ past in
@@ -202,7 +232,8 @@ told_shared header outside doing at object m (event.Sent (Down host about contro
     let its : is_shared header about.0 ≡ true = subst (λ (z : ObjectId). is_shared header z.0 ≡ true) (sym words.0.0) shared in
     let inner = reply_inner Files events (shared_replies header.size object events words.1) in
     let sends = sends_shared header outside doing host.0 about.0 control said (events ++ front) its licences.0.0 in
-    let served = heard_shared header host.0 about.0 control said (events ++ front) more.orderly its (λ size taken. greeted header at object m events past inner letter host.0 about.0 control size taken) sends in
+    let served = heard_shared header host.0 about.0 control said (events ++ front) more.orderly its
+    (λ size taken. greeted header at object m events past inner letter host.0 about.0 control size taken) sends in
     let word = word_shared header host.0 about.0 control said (events ++ front) words.0.1 sends in
     record {
       orderly = sent_down header host.0 about control said (events ++ front) more.orderly served.0 word (λ is. words.0.1) (λ is. sends);
@@ -211,19 +242,23 @@ told_shared header outside doing at object m (event.Sent (Down host about contro
 told_shared header outside doing at object m (event.Sent (Up host about) said ∷ events) past shared orderly letter words licences = absurd words.0
 told_shared header outside doing at object m (e ∷ events) past shared orderly letter words licences = absurd words.0
 
-shared_told : (given : Step) (host : HostId) (object : ObjectId) (m : Message) (s : State) (old new : ServerTable) (events : List Event) → Shared given host object m s old new events → AllTold given.header events (event.Taken (Up host object) m ∷ given.past)
+shared_told : (given : Step) (host : HostId) (object : ObjectId) (m : Message) (s : State) (old new : ServerTable) (events : List Event)
+    → Shared given host object m s old new events → AllTold given.header events (event.Taken (Up host object) m ∷ given.past)
 shared_told given host object m s old new events said =
     let orderly = said.front.orderly in
-    told_shared given.header given.outside given.command host object m events given.past said.serves.shared (orderly_taken given.header (Up host object) m given.past orderly said.head) (letter_first given.header (Up host object) m given.past orderly said.head)
+    told_shared given.header given.outside given.command host object m events given.past said.serves.shared
+    (orderly_taken given.header (Up host object) m given.past orderly said.head) (letter_first given.header (Up host object) m given.past orderly said.head)
     said.words said.licensed
 
-pub can_reply_shared : (given : Step) (host : HostId) (object : ObjectId) (m : Message) (s : State) (old new : ServerTable) (events : List Event) → Shared given host object m s old new events
+pub can_reply_shared : (given : Step) (host : HostId) (object : ObjectId) (m : Message) (s : State) (old new : ServerTable) (events : List Event)
+    → Shared given host object m s old new events
     → CanTellAll given.header.size events (event.Taken (Up host object) m ∷ given.past)
 can_reply_shared given host object m s old new events said = (shared_told given host object m s old new events said).can
 
 -- no other pager has a part in it
 
-paged_shared : (given : Step) (host : HostId) (object : ObjectId) (m : Message) (s : State) (old new : ServerTable) (events : List Event) → Shared given host object m s old new events
+paged_shared : (given : Step) (host : HostId) (object : ObjectId) (m : Message) (s : State) (old new : ServerTable) (events : List Event)
+    → Shared given host object m s old new events
     → AllServe given.header s.pagers.items (events ++ event.Taken (Up host object) m ∷ given.past)
 paged_shared given host object m s old new events said =
     let header = given.header in
@@ -231,23 +266,32 @@ paged_shared given host object m s old new events said =
     let declared = shared_declared header object.0 said.serves.shared in
     record {
       numbered = said.front.pagers.numbered;
-      stand = λ h pager at. declared_stand header h pager object events (taken ∷ given.past) declared (shared_about header.size object events said.words) (others header h pager taken given.past (inl declared) (said.front.pagers.stand h pager at));
+      stand =
+          λ h pager at. declared_stand header h pager object events (taken ∷ given.past) declared (shared_about header.size object events said.words)
+          (others header h pager taken given.past (inl declared) (said.front.pagers.stand h pager at));
     }
 
-files_shared : (given : Step) (host : HostId) (object : ObjectId) (m : Message) (s : State) (old new : ServerTable) (events : List Event) → Shared given host object m s old new events
+files_shared : (given : Step) (host : HostId) (object : ObjectId) (m : Message) (s : State) (old new : ServerTable) (events : List Event)
+    → Shared given host object m s old new events
     → AllFilesServe given.header s.files.items (events ++ event.Taken (Up host object) m ∷ given.past)
 files_shared given host object m s old new events said =
-    files_about given.header s.files.items host object m events given.past (shared_about given.header.size object events said.words) (shared_unfiled given.header object.0 said.serves.shared) said.front.files
+    files_about given.header s.files.items host object m events given.past (shared_about given.header.size object events said.words)
+    (shared_unfiled given.header object.0 said.serves.shared) said.front.files
 
-pub spares_shared : (given : Step) (line : Option ℕ) (number : ChannelId) (host : HostId) (object : ObjectId) (m : Message) (s now : State) (old new : ServerTable) (events : List Event) → MayTakeFrom given line number (Up host object) s
-    → Shared given host object m s old new events → now.pagers.items ≡ s.pagers.items → now.files.items ≡ s.files.items → now.history.items ≡ events ++ event.Taken (Up host object) m ∷ given.past → Spares given.header given.outside s now
+pub spares_shared : (given : Step) (line : Option ℕ) (number : ChannelId) (host : HostId) (object : ObjectId) (m : Message) (s now : State)
+    (old new : ServerTable) (events : List Event) → MayTakeFrom given line number (Up host object) s
+    → Shared given host object m s old new events → now.pagers.items ≡ s.pagers.items → now.files.items ≡ s.files.items
+    → now.history.items ≡ events ++ event.Taken (Up host object) m ∷ given.past → Spares given.header given.outside s now
 spares_shared given line number host object m s now old new events may said pagers files items = record {
   paging = record {
-    kept = λ areas kept. kept_at header given.outside areas now s.pagers.items (events ++ past) pagers items (paged_shared given host object m s old new events said) kept.told (λ on h pager at. fit areas kept on h pager at);
+    kept =
+        λ areas kept. kept_at header given.outside areas now s.pagers.items (events ++ past) pagers items
+        (paged_shared given host object m s old new events said) kept.told (λ on h pager at. fit areas kept on h pager at);
     devices = same Paging;
   };
   files = filed_spares header given.outside s now (rw (files, items) (files_shared given host object m s old new events said))
-      (λ start areas carry. rw items (carry_about header start areas host object m events given.past (shared_about header.size object events said.words) (shared_unfiled header object.0 said.serves.shared)
+      (λ start areas carry. rw items (carry_about header start areas host object m events given.past (shared_about header.size object events said.words)
+      (shared_unfiled header object.0 said.serves.shared)
       (front_carry given line number (Up host object) s may start areas carry))) (same Files);
 }
   where
@@ -269,7 +313,8 @@ spares_shared given line number host object m s now old new events may said page
     declared : object.0 < named header
     declared = shared_declared header object.0 said.serves.shared
 
-    fit : (areas : List ℕ → Told) → PagingIsKept header given.outside areas s → given.outside.paging ≡ true → (h : ℕ) (pager : SlotTable) → slice_get s.pagers.items h ≡ Some pager → SlotsFit areas pager (content_of header h (events ++ past))
+    fit : (areas : List ℕ → Told) → PagingIsKept header given.outside areas s → given.outside.paging ≡ true → (h : ℕ) (pager : SlotTable)
+        → slice_get s.pagers.items h ≡ Some pager → SlotsFit areas pager (content_of header h (events ++ past))
     fit areas kept on h pager at =
         let told = kept.told on h pager at in
         let own = apart_of header past (orderly_taken header (Up host object) m given.past said.front.orderly said.head) h in
@@ -278,7 +323,8 @@ spares_shared given line number host object m s now old new events may said page
         declared_fit header h pager object areas events past declared (shared_about header.size object events said.words) own told (over.fits told was)
 
 -- no kernel makes a first control of a shared object
-uncreated : (given : Step) (host : HostId) (object : ObjectId) (m : Message) (s : State) → Front given s → is_shared given.header object.0 ≡ true → first (queue (Up host object) given.past) ≡ Some m → IsCreate m → ⊥
+uncreated : (given : Step) (host : HostId) (object : ObjectId) (m : Message) (s : State) → Front given s → is_shared given.header object.0 ≡ true
+    → first (queue (Up host object) given.past) ≡ Some m → IsCreate m → ⊥
 uncreated given host object m s front shared head = by m ((letter_first given.header (Up host object) m given.past front.orderly head).2 shared)
   where
     by : (m : Message) → IsSharedWord m → IsCreate m → ⊥
@@ -286,9 +332,12 @@ uncreated given host object m s front shared head = by m ((letter_first given.he
     by m word create = absurd create
 
 -- the hosts' part begins
-pub answered_shared : (given : Step) (host : HostId) (object : ObjectId) (m : Message) (s now : State) (old new : ServerTable) (events : List Event) → Shared given host object m s old new events → now.pagers.items ≡ s.pagers.items
-    → now.files.items ≡ s.files.items → now.declared.items ≡ reverse given.header.objects.items → now.server ≡ new → now.hosts ≡ s.hosts → now.size ≡ given.header.size
-    → now.history.items ≡ events ++ event.Taken (Up host object) m ∷ given.past → Posts now now.history.items → now.log.items ≡ [] → PagerHasAnswered (going given host object m events) host (gives_frame m) now
+pub answered_shared : (given : Step) (host : HostId) (object : ObjectId) (m : Message) (s now : State) (old new : ServerTable) (events : List Event)
+    → Shared given host object m s old new events → now.pagers.items ≡ s.pagers.items
+    → now.files.items ≡ s.files.items → now.declared.items ≡ reverse given.header.objects.items → now.server ≡ new → now.hosts ≡ s.hosts
+    → now.size ≡ given.header.size
+    → now.history.items ≡ events ++ event.Taken (Up host object) m ∷ given.past → Posts now now.history.items → now.log.items ≡ []
+    → PagerHasAnswered (going given host object m events) host (gives_frame m) now
 answered_shared given host object m s now old new events said pagers files declared server hosts size items posts none =
     let header = given.header in
     let front = said.front in
@@ -309,10 +358,14 @@ answered_shared given host object m s now old new events said pagers files decla
         server = rw (server, items) (server_stands header host.0 given.past object m old new events said.serves);
         posts = posts;
         orderly = rw items (shared_told given host object m s old new events said).orderly;
-        lawful = rw items (lawful_more header given.outside given.command events past said.licensed (reply_own header Files events past replies) (reply_inner Files events replies)
+        lawful =
+            rw items (lawful_more header given.outside given.command events past said.licensed (reply_own header Files events past replies)
+            (reply_inner Files events replies)
             (lawful_taken header given.outside given.command (Up host object) m given.past licence front.paid front.lawful));
       };
-      paid = rw items (server_paid header host.0 given.past object m old new events said.serves (uncreated given host object m s front said.serves.shared said.head));
+      paid =
+          rw items (server_paid header host.0 given.past object m old new events said.serves
+          (uncreated given host object m s front said.serves.shared said.head));
       served = rw items (server_served header host.0 given.past object m old new events said.serves front.served);
       recalled = rw items (server_recalled header host.0 given.past object m old new events said.serves front.recalled);
       log = none;
@@ -331,7 +384,8 @@ answered_shared given host object m s now old new events said pagers files decla
     }
 
 -- the hosts went on behind the answer
-pub took_shared : (given : Step) (host : HostId) (object : ObjectId) (m : Message) (s new : State) (old table : ServerTable) (events : List Event) → Shared given host object m s old table events
+pub took_shared : (given : Step) (host : HostId) (object : ObjectId) (m : Message) (s new : State) (old table : ServerTable) (events : List Event)
+    → Shared given host object m s old table events
     → Followed (going given host object m events) new → Took given new
 took_shared given host object m s new old table events said followed =
     let header = given.header in
@@ -341,20 +395,28 @@ took_shared given host object m s new old table events said followed =
     let past = event.Taken (Up host object) m ∷ given.past in
     let replies = shared_replies header.size object events said.words in
     let suffice = front_suffice given s front in
-    let same : (events ++ event.Taken (Up host object) m ∷ []) ++ given.past ≡ events ++ past = append_assoc events (event.Taken (Up host object) m ∷ []) given.past in
+    let same : (events ++ event.Taken (Up host object) m ∷ []) ++ given.past ≡ events ++ past = append_assoc events (event.Taken (Up host object) m ∷ [])
+    given.past in
     let more = followed.more in
     let stretch = followed.follows.stretch in
     let items : new.history.items ≡ more ++ (events ++ past) = followed.is ∙ ap (λ (z : List Event). more ++ z) same in
-    let licensed = licensed_both header outside doing more events past (subst (λ (z : List Event). AllInTurn header outside doing more z) same stretch.licensed) said.licensed in
-    let own = each_both (OwnBytes header) more events past (subst (λ (z : List Event). EachIn (OwnBytes header) more z) same stretch.own_bytes) (reply_own header Files events past replies) in
+    let licensed = licensed_both header outside doing more events past (subst (λ (z : List Event). AllInTurn header outside doing more z) same stretch.licensed)
+    said.licensed in
+    let own = each_both (OwnBytes header) more events past (subst (λ (z : List Event). EachIn (OwnBytes header) more z) same stretch.own_bytes)
+    (reply_own header Files events past replies) in
     let frames = moments_both (FramesSuffice header) more events past (subst (λ (z : List Event). MomentsIn (FramesSuffice header) more z) same stretch.frames)
     (reply_frames header Files events past replies (taken_suffice header (Up host object) m given.past suffice)) in
     record {
       stands = followed.stands;
-      step = takes_step given (Up host object) m (more ++ events) new.history.items (items ∙ sym (append_assoc more events past)) said.head said.may (front_settled given s front) suffice
-          (each_both IsConsequence more events past (subst (λ (z : List Event). EachIn IsConsequence more z) same followed.follows.follows) (reply_consequences Files events past replies)) licensed own frames (inner_both more events stretch.inner (reply_inner Files events replies));
+      step =
+          takes_step given (Up host object) m (more ++ events) new.history.items (items ∙ sym (append_assoc more events past)) said.head said.may
+          (front_settled given s front) suffice
+          (each_both IsConsequence more events past (subst (λ (z : List Event). EachIn IsConsequence more z) same followed.follows.follows)
+          (reply_consequences Files events past replies)) licensed own frames (inner_both more events stretch.inner (reply_inner Files events replies));
       prompt = followed.prompt;
       paid = followed.stands.paid;
-      ended = rw (items ∙ sym (append_assoc more events past)) (ends_up header host object m (more ++ events) given.past (inner_both more events stretch.inner (reply_inner Files events replies)));
+      ended =
+          rw (items ∙ sym (append_assoc more events past)) (ends_up header host object m (more ++ events) given.past
+          (inner_both more events stretch.inner (reply_inner Files events replies)));
       turns = followed.turns;
     }

@@ -1,12 +1,21 @@
 -- A message about a temporary object is taken by the default pager of a host, which answers.
-use Rattle.vm_system.proofs.Common.{AllFilesServe, AllInTurn, AllServe, AnswerHasCause, AreNumbered, CanTellAll, CarriesContent, ChannelId, Content, CountRises, Device, DevicesHaveCause, EachIn, Err, Event, Followed, FramesSuffice, Going, Header, HostId, IsAreaTold, IsConsequence, IsHostLetter, IsToPager, KeepsShape, LeavesAreas, List, Listed, MayTake, MayTakeFrom, Message, MomentsIn, ObjectId, Ok, Option, Outside, OwnBytes, PagerHasAnswered, PagerServes, PagerStands, PagingIsKept, Posts, ReturnsWhole, SameAreas, SlotTable, SlotsFit, Some, SparesFiles, State, Step, SuppliesStored, TellsFault, Told, Took, Up, [], after_message, ap, append_assoc, area_name, arith, carries, causes, content_of, devices, each_both, first, get_or, gives_frame, inl, inner_both, inr, is_heard_elsewhere, length, length-append, length-set, licensed_both, moments_both, named, others, others_carry, paid, queue, refl, same_Some, set, slice_get, slice_get-get_or, slice_get_within, stands, subst, suc, sym, take, true, zero, ℕ, ◌++◌, ◌+◌, ◌<◌, ◌∙◌, ◌∷◌, ◌≡◌, ◌≤◌, ◌⊎◌, reverse}
+use Rattle.vm_system.proofs.Common.{AllFilesServe, AllInTurn, AllServe, AnswerHasCause, AreNumbered, CanTellAll, CarriesContent, ChannelId, Content, CountRises}
+use Rattle.vm_system.proofs.Common.{Device, DevicesHaveCause, EachIn, Err, Event, Followed, FramesSuffice, Going, Header, HostId, IsAreaTold, IsConsequence}
+use Rattle.vm_system.proofs.Common.{IsHostLetter, IsToPager, KeepsShape, LeavesAreas, List, Listed, MayTake, MayTakeFrom, Message, MomentsIn, ObjectId, Ok}
+use Rattle.vm_system.proofs.Common.{Option, Outside, OwnBytes, PagerHasAnswered, PagerServes, PagerStands, PagingIsKept, Posts, ReturnsWhole, SameAreas}
+use Rattle.vm_system.proofs.Common.{SlotTable, SlotsFit, Some, SparesFiles, State, Step, SuppliesStored, TellsFault, Told, Took, Up, [], after_message, ap}
+use Rattle.vm_system.proofs.Common.{append_assoc, area_name, arith, carries, causes, content_of, devices, each_both, first, get_or, gives_frame, inl}
+use Rattle.vm_system.proofs.Common.{inner_both, inr, is_heard_elsewhere, length, length-append, length-set, licensed_both, moments_both, named, others}
+use Rattle.vm_system.proofs.Common.{others_carry, paid, queue, refl, same_Some, set, slice_get, slice_get-get_or, slice_get_within, stands, subst, suc, sym}
+use Rattle.vm_system.proofs.Common.{take, true, zero, ℕ, ◌++◌, ◌+◌, ◌<◌, ◌∙◌, ◌∷◌, ◌≡◌, ◌≤◌, ◌⊎◌, reverse}
 use Rattle.std.proofs.Common.{◌≢◌}
 use Rattle.pg_default.specs.Answers.{PagerAnswer as Answers}
 use Rattle.vm_base.specs.declared.failure.NoMemory.{NoMemory}
 use Rattle.vm_model.specs.declared.event.Device.TheVariants.{Files, Paging}
 use Rattle.vm_model.specs.declared.event.Event.TheVariants as event
 use Rattle.vm_model.specs.declared.message.Message.TheVariants as message
-use Rattle.vm_system.proofs.Answering.{Faults, faults, replies, reply_consequences, reply_frames, reply_inner, reply_nobodys, reply_own, reply_spares, told_after, word_up}
+use Rattle.vm_system.proofs.Answering.{Faults, faults, replies, reply_consequences, reply_frames, reply_inner, reply_nobodys, reply_own, reply_spares}
+use Rattle.vm_system.proofs.Answering.{told_after, word_up}
 use Rattle.vm_system.proofs.Apart.{about, apart_of, areas_others, fits_still, other_area, others_fit, others_stand, set_cases, told_still}
 use Rattle.vm_system.proofs.Filing.{carry_about, files_about}
 use Rattle.vm_legal.proofs.Files.{not_file}
@@ -16,22 +25,26 @@ use Rattle.vm_system.proofs.Lawfulness.{lawful_more, lawful_taken, others_about,
 use Rattle.vm_system.proofs.Letters.{elsewhere_first, home_first, letter_first, orderly_taken, unended_first, washed_out}
 use Rattle.vm_system.proofs.Sayings.{can_answer, orderly_answered}
 use Rattle.vm_system.proofs.Following.{filed_spares, kept_at}
-use Rattle.vm_system.proofs.Taken.{Front, devices_lined, front_carry, front_content, front_of, front_settled, front_suffice, taken_licensed, takes_step, taken_suffice}
+use Rattle.vm_system.proofs.Taken.{Front, devices_lined, front_carry, front_content, front_of, front_settled, front_suffice, taken_licensed, takes_step}
+use Rattle.vm_system.proofs.Taken.{taken_suffice}
 use Rattle.vm_system.proofs.Silent.{ends_up}
 
 -- what stands on a channel up is a host's letter
-pub up_letter : (given : Step) (line : Option ℕ) (number : ChannelId) (host : HostId) (object : ObjectId) (m : Message) (s : State) → MayTakeFrom given line number (Up host object) s
+pub up_letter : (given : Step) (line : Option ℕ) (number : ChannelId) (host : HostId) (object : ObjectId) (m : Message) (s : State)
+    → MayTakeFrom given line number (Up host object) s
     → first (queue (Up host object) given.past) ≡ Some m → IsHostLetter given.header given.past (record { channel = Up host object; message = m })
 up_letter given line number host object m s may head =
     let front = front_of given line number (Up host object) s may in
     letter_first given.header (Up host object) m given.past front.orderly head
 
-pub up_word : (given : Step) (line : Option ℕ) (number : ChannelId) (host : HostId) (object : ObjectId) (m : Message) (s : State) → MayTakeFrom given line number (Up host object) s
+pub up_word : (given : Step) (line : Option ℕ) (number : ChannelId) (host : HostId) (object : ObjectId) (m : Message) (s : State)
+    → MayTakeFrom given line number (Up host object) s
     → first (queue (Up host object) given.past) ≡ Some m → IsToPager m × ReturnsWhole given.header.size m
 up_word given line number host object m s may head = word_up given.header.size _ m (up_letter given line number host object m s may head).1
 
 -- the host has a pager
-pub up_known : (given : Step) (line : Option ℕ) (number : ChannelId) (host : HostId) (object : ObjectId) (m : Message) (s : State) → MayTakeFrom given line number (Up host object) s
+pub up_known : (given : Step) (line : Option ℕ) (number : ChannelId) (host : HostId) (object : ObjectId) (m : Message) (s : State)
+    → MayTakeFrom given line number (Up host object) s
     → first (queue (Up host object) given.past) ≡ Some m → host.0 < length s.pagers.items
 up_known given line number host object m s may head =
     let letter = up_letter given line number host object m s may head in
@@ -50,7 +63,8 @@ pub record Reply (given : Step) (host : HostId) (object : ObjectId) (m : Message
   pub licensed : AllInTurn given.header given.outside given.command events (event.Taken (Up host object) m ∷ given.past)
 
 -- the pager of the host serves it
-serves_of : (given : Step) (host : HostId) (object : ObjectId) (m : Message) (s : State) (old new : SlotTable) (events : List Event) → Front given s → named given.header ≤ object.0 → first (queue (Up host object) given.past) ≡ Some m → slice_get s.pagers.items host.0 ≡ Some old
+serves_of : (given : Step) (host : HostId) (object : ObjectId) (m : Message) (s : State) (old new : SlotTable) (events : List Event) → Front given s
+    → named given.header ≤ object.0 → first (queue (Up host object) given.past) ≡ Some m → slice_get s.pagers.items host.0 ≡ Some old
     → Answers m object old new events → PagerServes given.header host.0 given.past object m old new events
 serves_of given host object m s old new events front temporary head at answered = record {
   temporary = temporary;
@@ -60,13 +74,18 @@ serves_of given host object m s old new events front temporary head at answered 
   answered = answered;
 }
 
-reply_serves : (given : Step) (host : HostId) (object : ObjectId) (m : Message) (s : State) (old new : SlotTable) (events : List Event) → Reply given host object m s old new events → PagerServes given.header host.0 given.past object m old new events
-reply_serves given host object m s old new events reply = serves_of given host object m s old new events reply.front reply.temporary reply.head reply.at reply.answered
+reply_serves : (given : Step) (host : HostId) (object : ObjectId) (m : Message) (s : State) (old new : SlotTable) (events : List Event)
+    → Reply given host object m s old new events → PagerServes given.header host.0 given.past object m old new events
+reply_serves given host object m s old new events reply =
+    serves_of given host object m s old new events reply.front reply.temporary reply.head reply.at reply.answered
 
 -- where the areas hold what was stored
-pub reply_of : (given : Step) (line : Option ℕ) (number : ChannelId) (host : HostId) (object : ObjectId) (m : Message) (areas : List ℕ → Told) (s : State) (old new : SlotTable) (events : List Event) → MayTakeFrom given line number (Up host object) s
-    → named given.header ≤ object.0 → first (queue (Up host object) given.past) ≡ Some m → slice_get s.pagers.items host.0 ≡ Some old → Answers m object old new events → KeepsShape old new → PagingIsKept given.header given.outside areas s
-    → ((content : Content) → IsAreaTold areas old → SlotsFit areas old content → SuppliesStored object events content) → Reply given host object m s old new events
+pub reply_of : (given : Step) (line : Option ℕ) (number : ChannelId) (host : HostId) (object : ObjectId) (m : Message) (areas : List ℕ → Told) (s : State)
+    (old new : SlotTable) (events : List Event) → MayTakeFrom given line number (Up host object) s
+    → named given.header ≤ object.0 → first (queue (Up host object) given.past) ≡ Some m → slice_get s.pagers.items host.0 ≡ Some old
+    → Answers m object old new events → KeepsShape old new → PagingIsKept given.header given.outside areas s
+    → ((content : Content) → IsAreaTold areas old → SlotsFit areas old content → SuppliesStored object events content)
+    → Reply given host object m s old new events
 reply_of given line number host object m areas s old new events may temporary head at answered shape kept bytes =
     let front = front_of given line number (Up host object) s may in
     let same = front_content given line number (Up host object) s may host.0 in
@@ -78,35 +97,49 @@ reply_of given line number host object m areas s old new events may temporary he
       at = at;
       answered = answered;
       shape = shape;
-      licensed = causes given.header given.outside given.command host.0 given.past object m old new events (serves_of given host object m s old new events front temporary head at answered)
-          (λ on. bytes (content_of given.header host.0 given.past) (kept.told on host.0 old at) (subst (λ (z : Content). SlotsFit areas old z) (sym same) (kept.fits on host.0 old at)));
+      licensed =
+          causes given.header given.outside given.command host.0 given.past object m old new events
+          (serves_of given host object m s old new events front temporary head at answered)
+          (λ on. bytes (content_of given.header host.0 given.past) (kept.told on host.0 old at)
+          (subst (λ (z : Content). SlotsFit areas old z) (sym same) (kept.fits on host.0 old at)));
     }
 
-reply_letter : (given : Step) (host : HostId) (object : ObjectId) (m : Message) (s : State) (old new : SlotTable) (events : List Event) → Reply given host object m s old new events
+reply_letter : (given : Step) (host : HostId) (object : ObjectId) (m : Message) (s : State) (old new : SlotTable) (events : List Event)
+    → Reply given host object m s old new events
     → IsHostLetter given.header given.past (record { channel = Up host object; message = m })
 reply_letter given host object m s old new events reply = letter_first given.header (Up host object) m given.past reply.front.orderly reply.head
 
-pub can_reply : (given : Step) (host : HostId) (object : ObjectId) (m : Message) (s : State) (old new : SlotTable) (events : List Event) → Reply given host object m s old new events
+pub can_reply : (given : Step) (host : HostId) (object : ObjectId) (m : Message) (s : State) (old new : SlotTable) (events : List Event)
+    → Reply given host object m s old new events
     → CanTellAll given.header.size events (event.Taken (Up host object) m ∷ given.past)
 can_reply given host object m s old new events reply =
     let front = reply.front in
     let pager = front.pagers.stand host.0 old reply.at in
-    can_answer given.header host.0 object m given.past old new events (orderly_taken given.header (Up host object) m given.past front.orderly reply.head) (reply_letter given host object m s old new events reply) pager.host_is pager.size (temporary_unshared given.header object.0 reply.temporary) reply.answered
+    can_answer given.header host.0 object m given.past old new events (orderly_taken given.header (Up host object) m given.past front.orderly reply.head)
+    (reply_letter given host object m s old new events reply) pager.host_is pager.size (temporary_unshared given.header object.0 reply.temporary)
+    reply.answered
 
 -- the answered pager keeps its number
-reply_host : (given : Step) (host : HostId) (object : ObjectId) (m : Message) (s : State) (old new : SlotTable) (events : List Event) → Reply given host object m s old new events → new.host ≡ host.0
+reply_host : (given : Step) (host : HostId) (object : ObjectId) (m : Message) (s : State) (old new : SlotTable) (events : List Event)
+    → Reply given host object m s old new events → new.host ≡ host.0
 reply_host given host object m s old new events reply = reply.shape.host ∙ reply.front.pagers.numbered.hosts host.0 old reply.at
 
 -- a message to the pager of another host
-away_from : (given : Step) (host : HostId) (object : ObjectId) (m : Message) (s : State) (old new : SlotTable) (events : List Event) → Reply given host object m s old new events → (g : ℕ) → g ≢ host.0
+away_from : (given : Step) (host : HostId) (object : ObjectId) (m : Message) (s : State) (old new : SlotTable) (events : List Event)
+    → Reply given host object m s old new events → (g : ℕ) → g ≢ host.0
     → is_heard_elsewhere g object.0 (event.Taken (Up host object) m ∷ given.past) ≡ true
 away_from given host object m s old new events reply g other = elsewhere_first given.header host.0 object m given.past reply.front.orderly reply.head g other
 
 -- all pagers stand for the history behind the answer
-serve_up : (given : Step) (host : HostId) (object : ObjectId) (m : Message) (s : State) (old new : SlotTable) (events : List Event) → Reply given host object m s old new events
+serve_up : (given : Step) (host : HostId) (object : ObjectId) (m : Message) (s : State) (old new : SlotTable) (events : List Event)
+    → Reply given host object m s old new events
     → AllServe given.header (set s.pagers.items host.0 new) (events ++ event.Taken (Up host object) m ∷ given.past)
 serve_up given host object m s old new events reply = record {
-  numbered = record { count = length-set s.pagers.items host.0 new ∙ numbered.count; hosts = λ g pager at. number g pager (set_cases s.pagers.items host.0 g new pager few at) };
+  numbered =
+      record {
+        count = length-set s.pagers.items host.0 new ∙ numbered.count;
+        hosts = λ g pager at. number g pager (set_cases s.pagers.items host.0 g new pager few at);
+      };
   stand = λ g pager at. stand g pager (set_cases s.pagers.items host.0 g new pager few at);
 }
   where
@@ -123,36 +156,49 @@ serve_up given host object m s old new events reply = record {
     past : List Event
     past = event.Taken (Up host object) m ∷ given.past
 
-    stand : (g : ℕ) (pager : SlotTable) → ((g ≡ host.0) × (new ≡ pager)) ⊎ ((g ≢ host.0) × (slice_get s.pagers.items g ≡ Some pager)) → PagerStands given.header g pager (events ++ event.Taken (Up host object) m ∷ given.past)
+    stand : (g : ℕ) (pager : SlotTable) → ((g ≡ host.0) × (new ≡ pager)) ⊎ ((g ≢ host.0) × (slice_get s.pagers.items g ≡ Some pager))
+        → PagerStands given.header g pager (events ++ event.Taken (Up host object) m ∷ given.past)
     stand g pager (inl same) =
         subst (λ (z : SlotTable). PagerStands given.header g z (events ++ event.Taken (Up host object) m ∷ given.past)) same.1
         (subst (λ (z : ℕ). PagerStands given.header z new (events ++ event.Taken (Up host object) m ∷ given.past)) (sym same.0)
         (stands given.header host.0 given.past object m old new events (reply_serves given host object m s old new events reply)))
     stand g pager (inr apart) =
-        others_stand given.header g pager object events (event.Taken (Up host object) m ∷ given.past) (about m object old new events reply.answered) (away_from given host object m s old new events reply g apart.0)
+        others_stand given.header g pager object events (event.Taken (Up host object) m ∷ given.past) (about m object old new events reply.answered)
+        (away_from given host object m s old new events reply g apart.0)
         (others given.header g pager (event.Taken (Up host object) m) given.past (inr (λ same. apart.0 (sym same))) (reply.front.pagers.stand g pager apart.1))
 
 -- the files' pagers have no part in it
 
-files_up : (given : Step) (host : HostId) (object : ObjectId) (m : Message) (s : State) (old new : SlotTable) (events : List Event) → Reply given host object m s old new events
+files_up : (given : Step) (host : HostId) (object : ObjectId) (m : Message) (s : State) (old new : SlotTable) (events : List Event)
+    → Reply given host object m s old new events
     → AllFilesServe given.header s.files.items (events ++ event.Taken (Up host object) m ∷ given.past)
-files_up given host object m s old new events reply = files_about given.header s.files.items host object m events given.past (about m object old new events reply.answered) (not_file given.header object.0 reply.temporary) reply.front.files
+files_up given host object m s old new events reply =
+    files_about given.header s.files.items host object m events given.past (about m object old new events reply.answered)
+    (not_file given.header object.0 reply.temporary) reply.front.files
 
-pub spares_up : (given : Step) (line : Option ℕ) (number : ChannelId) (host : HostId) (object : ObjectId) (m : Message) (s now : State) (old new : SlotTable) (events : List Event) → MayTakeFrom given line number (Up host object) s
-    → Reply given host object m s old new events → now.files.items ≡ s.files.items → now.history.items ≡ events ++ event.Taken (Up host object) m ∷ given.past → SparesFiles given.header given.outside s now
+pub spares_up : (given : Step) (line : Option ℕ) (number : ChannelId) (host : HostId) (object : ObjectId) (m : Message) (s now : State) (old new : SlotTable)
+    (events : List Event) → MayTakeFrom given line number (Up host object) s
+    → Reply given host object m s old new events → now.files.items ≡ s.files.items → now.history.items ≡ events ++ event.Taken (Up host object) m ∷ given.past
+    → SparesFiles given.header given.outside s now
 spares_up given line number host object m s now old new events may reply files items =
     let header = given.header in
     let past = event.Taken (Up host object) m ∷ given.past in
     filed_spares header given.outside s now (rw (files, items) (files_up given host object m s old new events reply))
-    (λ start areas carry. rw items (carry_about header start areas host object m events given.past (about m object old new events reply.answered) (not_file header object.0 reply.temporary) (front_carry given line number (Up host object) s may start areas carry)))
-    (ap (devices Files) items ∙ reply_spares Paging Files events past refl (replies m object old new events reply.answered) ∙ ap (devices Files) may.past ∙ devices_lined Files line s.history.items)
+    (λ start areas carry. rw items (carry_about header start areas host object m events given.past (about m object old new events reply.answered)
+    (not_file header object.0 reply.temporary) (front_carry given line number (Up host object) s may start areas carry)))
+    (ap (devices Files) items ∙ reply_spares Paging Files events past refl (replies m object old new events reply.answered) ∙ ap (devices Files) may.past
+    ∙ devices_lined Files line s.history.items)
 
 -- the hosts' part begins
 abbrev pub going : Step → HostId → ObjectId → Message → List Event → Going
-going given host object m events = record { header = given.header; outside = given.outside; command = given.command; past = given.past; front = events ++ event.Taken (Up host object) m ∷ [] }
+going given host object m events =
+    record { header = given.header; outside = given.outside; command = given.command; past = given.past; front = events ++ event.Taken (Up host object) m ∷ [] }
 
-pub answered_up : (given : Step) (host : HostId) (object : ObjectId) (m : Message) (s now : State) (old new : SlotTable) (events : List Event) → Reply given host object m s old new events → now.pagers.items ≡ set s.pagers.items host.0 new
-    → now.files.items ≡ s.files.items → now.declared.items ≡ reverse given.header.objects.items → now.server ≡ s.server → now.hosts ≡ s.hosts → now.size ≡ given.header.size → now.history.items ≡ events ++ event.Taken (Up host object) m ∷ given.past → Posts now now.history.items → now.log.items ≡ [] → PagerHasAnswered (going given host object m events) host (gives_frame m) now
+pub answered_up : (given : Step) (host : HostId) (object : ObjectId) (m : Message) (s now : State) (old new : SlotTable) (events : List Event)
+    → Reply given host object m s old new events → now.pagers.items ≡ set s.pagers.items host.0 new
+    → now.files.items ≡ s.files.items → now.declared.items ≡ reverse given.header.objects.items → now.server ≡ s.server → now.hosts ≡ s.hosts
+    → now.size ≡ given.header.size → now.history.items ≡ events ++ event.Taken (Up host object) m ∷ given.past → Posts now now.history.items
+    → now.log.items ≡ [] → PagerHasAnswered (going given host object m events) host (gives_frame m) now
 answered_up given host object m s now old new events reply pagers files declared server hosts size items posts none =
     let header = given.header in
     let front = reply.front in
@@ -177,7 +223,9 @@ answered_up given host object m s now old new events reply pagers files declared
         server = rw (server, items) (server_more header s.server events past silent (server_other header s.server taken given.past plain front.server));
         posts = posts;
         orderly = rw items (orderly_answered header host.0 object m given.past old new events orderly letter pager.host_is pager.size plain reply.answered);
-        lawful = rw items (lawful_more header given.outside given.command events past reply.licensed (reply_own header Paging events past told) (reply_inner Paging events told)
+        lawful =
+            rw items (lawful_more header given.outside given.command events past reply.licensed (reply_own header Paging events past told)
+            (reply_inner Paging events told)
             (lawful_taken header given.outside given.command (Up host object) m given.past licence front.paid front.lawful));
       };
       paid = rw items (paid header host.0 given.past object m old new events (reply_serves given host object m s old new events reply));
@@ -199,7 +247,8 @@ answered_up given host object m s now old new events reply pagers files declared
     }
 
 -- the hosts went on behind the answer
-pub took_up : (given : Step) (host : HostId) (object : ObjectId) (m : Message) (s new : State) (old slots : SlotTable) (events : List Event) → Reply given host object m s old slots events
+pub took_up : (given : Step) (host : HostId) (object : ObjectId) (m : Message) (s new : State) (old slots : SlotTable) (events : List Event)
+    → Reply given host object m s old slots events
     → Followed (going given host object m events) new → Took given new
 took_up given host object m s new old slots events reply followed =
     let header = given.header in
@@ -209,30 +258,42 @@ took_up given host object m s new old slots events reply followed =
     let told = replies m object old slots events reply.answered in
     let past = event.Taken (Up host object) m ∷ given.past in
     let suffice = front_suffice given s front in
-    let same : (events ++ event.Taken (Up host object) m ∷ []) ++ given.past ≡ events ++ past = append_assoc events (event.Taken (Up host object) m ∷ []) given.past in
+    let same : (events ++ event.Taken (Up host object) m ∷ []) ++ given.past ≡ events ++ past = append_assoc events (event.Taken (Up host object) m ∷ [])
+    given.past in
     let more = followed.more in
     let stretch = followed.follows.stretch in
     let items : new.history.items ≡ more ++ (events ++ past) = followed.is ∙ ap (λ (z : List Event). more ++ z) same in
-    let licensed = licensed_both header outside doing more events past (subst (λ (z : List Event). AllInTurn header outside doing more z) same stretch.licensed) reply.licensed in
-    let own = each_both (OwnBytes header) more events past (subst (λ (z : List Event). EachIn (OwnBytes header) more z) same stretch.own_bytes) (reply_own header Paging events past told) in
+    let licensed = licensed_both header outside doing more events past (subst (λ (z : List Event). AllInTurn header outside doing more z) same stretch.licensed)
+    reply.licensed in
+    let own = each_both (OwnBytes header) more events past (subst (λ (z : List Event). EachIn (OwnBytes header) more z) same stretch.own_bytes)
+    (reply_own header Paging events past told) in
     let frames = moments_both (FramesSuffice header) more events past (subst (λ (z : List Event). MomentsIn (FramesSuffice header) more z) same stretch.frames)
     (reply_frames header Paging events past told (taken_suffice header (Up host object) m given.past suffice)) in
     record {
       stands = followed.stands;
-      step = takes_step given (Up host object) m (more ++ events) new.history.items (items ∙ sym (append_assoc more events past)) reply.head reply.may (front_settled given s front) suffice
-          (each_both IsConsequence more events past (subst (λ (z : List Event). EachIn IsConsequence more z) same followed.follows.follows) (reply_consequences Paging events past told)) licensed own frames (inner_both more events stretch.inner (reply_inner Paging events told));
+      step =
+          takes_step given (Up host object) m (more ++ events) new.history.items (items ∙ sym (append_assoc more events past)) reply.head reply.may
+          (front_settled given s front) suffice
+          (each_both IsConsequence more events past (subst (λ (z : List Event). EachIn IsConsequence more z) same followed.follows.follows)
+          (reply_consequences Paging events past told)) licensed own frames (inner_both more events stretch.inner (reply_inner Paging events told));
       prompt = followed.prompt;
       paid = followed.stands.paid;
-      ended = rw (items ∙ sym (append_assoc more events past)) (ends_up header host object m (more ++ events) given.past (inner_both more events stretch.inner (reply_inner Paging events told)));
+      ended =
+          rw (items ∙ sym (append_assoc more events past)) (ends_up header host object m (more ++ events) given.past
+          (inner_both more events stretch.inner (reply_inner Paging events told)));
       turns = followed.turns;
     }
 
 -- what was stored stands in the areas behind the answer
-pub kept_up : (given : Step) (line : Option ℕ) (number : ChannelId) (host : HostId) (object : ObjectId) (m : Message) (s now : State) (old slots : SlotTable) (before after : List ℕ → Told) (events : Listed Event) → MayTakeFrom given line number (Up host object) s
-    → Reply given host object m s old slots events.items → CarriesContent before after old slots (after_message m object (Ok events)) → LeavesAreas m object slots before after (Ok events) → PagingIsKept given.header given.outside before s
-    → now.pagers.items ≡ set s.pagers.items host.0 slots → now.history.items ≡ events.items ++ event.Taken (Up host object) m ∷ given.past → PagingIsKept given.header given.outside after now
+pub kept_up : (given : Step) (line : Option ℕ) (number : ChannelId) (host : HostId) (object : ObjectId) (m : Message) (s now : State) (old slots : SlotTable)
+    (before after : List ℕ → Told) (events : Listed Event) → MayTakeFrom given line number (Up host object) s
+    → Reply given host object m s old slots events.items → CarriesContent before after old slots (after_message m object (Ok events))
+    → LeavesAreas m object slots before after (Ok events) → PagingIsKept given.header given.outside before s
+    → now.pagers.items ≡ set s.pagers.items host.0 slots → now.history.items ≡ events.items ++ event.Taken (Up host object) m ∷ given.past
+    → PagingIsKept given.header given.outside after now
 kept_up given line number host object m s now old slots before after events may reply carried leaves kept pagers items =
-    kept_at given.header given.outside after now (set s.pagers.items host.0 slots) (events.items ++ event.Taken (Up host object) m ∷ given.past) pagers items (serve_up given host object m s old slots events.items reply)
+    kept_at given.header given.outside after now (set s.pagers.items host.0 slots) (events.items ++ event.Taken (Up host object) m ∷ given.past) pagers items
+    (serve_up given host object m s old slots events.items reply)
     (λ on g pager at. told on g pager (set_cases s.pagers.items host.0 g slots pager few at))
     (λ on g pager at. fit on g pager (set_cases s.pagers.items host.0 g slots pager few at))
   where
@@ -240,21 +301,29 @@ kept_up given line number host object m s now old slots before after events may 
     few = slice_get_within s.pagers.items host.0 old reply.at
 
     -- the area of another pager
-    still : (g : ℕ) (pager : SlotTable) → g ≢ host.0 → slice_get s.pagers.items g ≡ Some pager → (was : Option (List ℕ)) → before (area_name pager.host) ≡ Some was → after (area_name pager.host) ≡ Some was
+    still : (g : ℕ) (pager : SlotTable) → g ≢ host.0 → slice_get s.pagers.items g ≡ Some pager → (was : Option (List ℕ))
+        → before (area_name pager.host) ≡ Some was → after (area_name pager.host) ≡ Some was
     still g pager other at was is =
-        let apart : pager.host ≢ slots.host = λ same. other (sym (reply.front.pagers.numbered.hosts g pager at) ∙ same ∙ reply_host given host object m s old slots events.items reply) in
+        let apart : pager.host ≢ slots.host = λ same. other (sym (reply.front.pagers.numbered.hosts g pager at) ∙ same
+        ∙ reply_host given host object m s old slots events.items reply) in
         areas_others m object before after old slots events reply.answered leaves (area_name pager.host) was (other_area pager.host slots.host apart) is
 
-    told : given.outside.paging ≡ true → (g : ℕ) (pager : SlotTable) → ((g ≡ host.0) × (slots ≡ pager)) ⊎ ((g ≢ host.0) × (slice_get s.pagers.items g ≡ Some pager)) → IsAreaTold after pager
-    told on g pager (inl same) = subst (λ (z : SlotTable). IsAreaTold after z) same.1 (told_after m object before after old slots events reply.shape reply.answered leaves (kept.told on host.0 old reply.at))
+    told : given.outside.paging ≡ true → (g : ℕ) (pager : SlotTable) → ((g ≡ host.0) × (slots ≡ pager))
+        ⊎ ((g ≢ host.0) × (slice_get s.pagers.items g ≡ Some pager)) → IsAreaTold after pager
+    told on g pager (inl same) =
+        subst (λ (z : SlotTable). IsAreaTold after z) same.1 (told_after m object before after old slots events reply.shape reply.answered leaves
+        (kept.told on host.0 old reply.at))
     told on g pager (inr apart) = told_still pager before after (still g pager apart.0 apart.1) (kept.told on g pager apart.1)
 
-    fit : given.outside.paging ≡ true → (g : ℕ) (pager : SlotTable) → ((g ≡ host.0) × (slots ≡ pager)) ⊎ ((g ≢ host.0) × (slice_get s.pagers.items g ≡ Some pager))
+    fit : given.outside.paging ≡ true → (g : ℕ) (pager : SlotTable) → ((g ≡ host.0) × (slots ≡ pager))
+        ⊎ ((g ≢ host.0) × (slice_get s.pagers.items g ≡ Some pager))
         → SlotsFit after pager (content_of given.header g (events.items ++ event.Taken (Up host object) m ∷ given.past))
     fit on g pager (inl same) =
         let now : List Event = events.items ++ event.Taken (Up host object) m ∷ given.past in
-        let over = carries given.header host.0 given.past object m old slots events before after (reply_serves given host object m s old slots events.items reply) carried in
-        let was = subst (λ (z : Content). SlotsFit before old z) (sym (front_content given line number (Up host object) s may host.0)) (kept.fits on host.0 old reply.at) in
+        let over = carries given.header host.0 given.past object m old slots events before after
+        (reply_serves given host object m s old slots events.items reply) carried in
+        let was = subst (λ (z : Content). SlotsFit before old z) (sym (front_content given line number (Up host object) s may host.0))
+        (kept.fits on host.0 old reply.at) in
         subst (λ (z : SlotTable). SlotsFit after z (content_of given.header g now)) same.1
         (subst (λ (z : ℕ). SlotsFit after slots (content_of given.header z now)) (sym same.0) (over.fits (kept.told on host.0 old reply.at) was))
     fit on g pager (inr apart) =
@@ -264,23 +333,29 @@ kept_up given line number host object m s now old slots before after events may 
         let is = kept.told on g pager apart.1 in
         let own = apart_of header past (orderly_taken header (Up host object) m given.past reply.front.orderly reply.head) g in
         let over = others_carry header g pager taken given.past before (inr (λ same. apart.0 (sym same))) own in
-        let was = subst (λ (z : Content). SlotsFit before pager z) (sym (front_content given line number (Up host object) s may g)) (kept.fits on g pager apart.1) in
+        let was = subst (λ (z : Content). SlotsFit before pager z) (sym (front_content given line number (Up host object) s may g))
+        (kept.fits on g pager apart.1) in
         fits_still pager (content_of header g (events.items ++ past)) before after (still g pager apart.0 apart.1) is
-        (others_fit header g pager object before events.items past (about m object old slots events.items reply.answered) (away_from given host object m s old slots events.items reply g apart.0) own is (over.fits is was))
+        (others_fit header g pager object before events.items past (about m object old slots events.items reply.answered)
+        (away_from given host object m s old slots events.items reply g apart.0) own is (over.fits is was))
 
 -- where memory ended in the pager nothing changed
 
-areas_failed : (m : Message) (object : ObjectId) (before after : List ℕ → Told) (slots : SlotTable) (e : NoMemory) → LeavesAreas m object slots before after (Err e) → SameAreas before after
+areas_failed : (m : Message) (object : ObjectId) (before after : List ℕ → Told) (slots : SlotTable) (e : NoMemory)
+    → LeavesAreas m object slots before after (Err e) → SameAreas before after
 areas_failed (message.Return control page dirty keep bytes) object before after slots e leaves = leaves
 areas_failed other object before after slots e leaves = leaves
 
-pub kept_failed : (header : Header) (outside : Outside) (object : ObjectId) (m : Message) (s now : State) (slots : SlotTable) (before after : List ℕ → Told) (e : NoMemory) → now.pagers.items ≡ s.pagers.items
-    → LeavesAreas m object slots before after (Err e) → now.history.items ≡ s.history.items → PagingIsKept header outside before s → PagingIsKept header outside after now
+pub kept_failed : (header : Header) (outside : Outside) (object : ObjectId) (m : Message) (s now : State) (slots : SlotTable) (before after : List ℕ → Told)
+    (e : NoMemory) → now.pagers.items ≡ s.pagers.items
+    → LeavesAreas m object slots before after (Err e) → now.history.items ≡ s.history.items → PagingIsKept header outside before s
+    → PagingIsKept header outside after now
 kept_failed header outside object m s now slots before after e pagers leaves items kept =
     let same = areas_failed m object before after slots e leaves in
     kept_at header outside after now s.pagers.items s.history.items pagers items kept.pagers
     (λ on h pager at. told_still pager before after (same (area_name pager.host)) (kept.told on h pager at))
-    (λ on h pager at. fits_still pager (content_of header h s.history.items) before after (same (area_name pager.host)) (kept.told on h pager at) (kept.fits on h pager at))
+    (λ on h pager at. fits_still pager (content_of header h s.history.items) before after (same (area_name pager.host)) (kept.told on h pager at)
+    (kept.fits on h pager at))
 
 -- the pager that is read at a number is the one that stands there
 pub pager_read : {A : Type 0} (pagers : List A) (h : ℕ) (pager : A) → h < length pagers → pager ≡ get_or pagers h pager → slice_get pagers h ≡ Some pager
@@ -293,7 +368,8 @@ set_same {A} (x ∷ pagers) zero pager is = ap (λ (z : A). z ∷ pagers) (sym (
 set_same {A} (x ∷ pagers) (suc h) pager is = ap (λ (z : List A). x ∷ z) (set_same pagers h pager is)
 
 -- a device's failure has its cause
-pub device_cause : (who : Device) (tells : Type 0) (before now : ℕ) (events past old new : List Event) → Faults who tells events past → before ≤ now → (tells → CountRises before now) → ((tells → ⊥) → now ≡ before)
+pub device_cause : (who : Device) (tells : Type 0) (before now : ℕ) (events past old new : List Event) → Faults who tells events past → before ≤ now
+    → (tells → CountRises before now) → ((tells → ⊥) → now ≡ before)
     → devices who new ≡ devices who (events ++ past) → devices who past ≡ devices who old → DevicesHaveCause who before now old new
 device_cause who tells before now events past old new f later failed spare same front = record {
   later = later;
@@ -302,19 +378,25 @@ device_cause who tells before now events past old new f later failed spare same 
   spared = λ none. spared f.cause none;
 }
   where
-    by : ((devices who (events ++ past) ≡ devices who past) × (tells → ⊥)) ⊎ ((devices who (events ++ past) ≡ devices who past + 1) × tells) → (devices who new ≡ devices who old) ⊎ CountRises before now
+    by : ((devices who (events ++ past) ≡ devices who past) × (tells → ⊥)) ⊎ ((devices who (events ++ past) ≡ devices who past + 1) × tells)
+        → (devices who new ≡ devices who old) ⊎ CountRises before now
     by (inl none) = inl (same ∙ none.0 ∙ front)
     by (inr told) = inr (failed told.1)
 
-    spared : ((devices who (events ++ past) ≡ devices who past) × (tells → ⊥)) ⊎ ((devices who (events ++ past) ≡ devices who past + 1) × tells) → devices who new ≡ devices who old → now ≡ before
+    spared : ((devices who (events ++ past) ≡ devices who past) × (tells → ⊥)) ⊎ ((devices who (events ++ past) ≡ devices who past + 1) × tells)
+        → devices who new ≡ devices who old → now ≡ before
     spared (inl none) is = spare none.1
     spared (inr told) is = let more = told.0 in absurd (omega (arith, more, same, front, is))
 
-pub devices_up : (given : Step) (line : Option ℕ) (number : ChannelId) (host : HostId) (object : ObjectId) (m : Message) (s : State) (old slots : SlotTable) (events : Listed Event) (before now : ℕ) (new : List Event) → MayTakeFrom given line number (Up host object) s
-    → Answers m object old slots events.items → AnswerHasCause before now (Ok events) → devices Paging new ≡ devices Paging (events.items ++ event.Taken (Up host object) m ∷ given.past) → DevicesHaveCause Paging before now s.history.items new
+pub devices_up : (given : Step) (line : Option ℕ) (number : ChannelId) (host : HostId) (object : ObjectId) (m : Message) (s : State) (old slots : SlotTable)
+    (events : Listed Event) (before now : ℕ) (new : List Event) → MayTakeFrom given line number (Up host object) s
+    → Answers m object old slots events.items → AnswerHasCause before now (Ok events)
+    → devices Paging new ≡ devices Paging (events.items ++ event.Taken (Up host object) m ∷ given.past)
+    → DevicesHaveCause Paging before now s.history.items new
 devices_up given line number host object m s old slots events before now new may answered cause same =
     let past = event.Taken (Up host object) m ∷ given.past in
-    device_cause Paging (TellsFault events.items) before now events.items past s.history.items new (faults m object old slots events.items past answered) cause.later cause.failed cause.spared same
+    device_cause Paging (TellsFault events.items) before now events.items past s.history.items new (faults m object old slots events.items past answered)
+    cause.later cause.failed cause.spared same
     (ap (devices Paging) may.past ∙ devices_lined Paging line s.history.items)
 
 -- the newest events, up to and with the taking
@@ -322,7 +404,8 @@ front_at : (events : List Event) (e : Event) (past : List Event) → take (suc (
 front_at [] e past = refl
 front_at (f ∷ events) e past = ap (λ (z : List Event). f ∷ z) (front_at events e past)
 
-pub front_is : (n : ℕ) (events : List Event) (e : Event) (past history : List Event) → n ≡ length events + 1 → history ≡ events ++ e ∷ past → take n history ≡ events ++ e ∷ []
+pub front_is : (n : ℕ) (events : List Event) (e : Event) (past history : List Event) → n ≡ length events + 1 → history ≡ events ++ e ∷ past
+    → take n history ≡ events ++ e ∷ []
 front_is n events e past history count is =
     let more : n ≡ suc (length events) = omega (arith, count) in
     ap (λ (z : List Event). take n z) is ∙ ap (λ (z : ℕ). take z (events ++ e ∷ past)) more ∙ front_at events e past

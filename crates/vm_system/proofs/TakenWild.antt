@@ -1,5 +1,9 @@
 -- A message about a wild object is taken, and nobody answers: what its pager says is the script's.
-use Rattle.vm_system.proofs.Common.{AllFilesServe, AllServe, Bool, Channel, Down, ChannelId, Content, Device, Event, Followed, Header, HostId, IsPaid, Letter, LicensedInTurn, List, MayTake, MayTakeFrom, Message, None, ObjectId, Option, PagerHasAnswered, PagingIsKept, Posts, SlotTable, SlotsFit, Some, Spares, State, Step, Told, Took, Up, [], ap, arith, content_of, devices, false, first, gives_frame, if◌then◌else◌, inl, is_file, is_paged, is_shared, is_wild, named, nat_lt, nat_tests, never, no_request, none-some, not, others, others_carry, queue, refl, reverse, slice_get, subst, sym, true, ℕ, ◌&&◌, ◌<◌, ◌∙◌, ◌∷◌, ◌≡◌, ◌||◌}
+use Rattle.vm_system.proofs.Common.{AllFilesServe, AllServe, Bool, Channel, Down, ChannelId, Content, Device, Event, Followed, Header, HostId, IsPaid, Letter}
+use Rattle.vm_system.proofs.Common.{LicensedInTurn, List, MayTake, MayTakeFrom, Message, None, ObjectId, Option, PagerHasAnswered, PagingIsKept, Posts}
+use Rattle.vm_system.proofs.Common.{SlotTable, SlotsFit, Some, Spares, State, Step, Told, Took, Up, [], ap, arith, content_of, devices, false, first}
+use Rattle.vm_system.proofs.Common.{gives_frame, if◌then◌else◌, inl, is_file, is_paged, is_shared, is_wild, named, nat_lt, nat_tests, never, no_request}
+use Rattle.vm_system.proofs.Common.{none-some, not, others, others_carry, queue, refl, reverse, slice_get, subst, sym, true, ℕ, ◌&&◌, ◌<◌, ◌∙◌, ◌∷◌, ◌≡◌, ◌||◌}
 use Rattle.vm_base.specs.declared.ids.ObjectKind.{ObjectKind}
 use Rattle.vm_base.specs.declared.ids.ObjectKind.TheVariants as kinds
 use Rattle.vm_legal.specs.Outside.{is_file_kept, is_file_kind, is_shared_kind, is_wild_kind, kind_in}
@@ -60,12 +64,16 @@ pub record Heard (given : Step) (host : HostId) (object : ObjectId) (m : Message
   pub may : MayTake given.command (Up host object) given.past
   pub wild : is_wild given.header object.0 ≡ true
 
-pub heard_of : (given : Step) (line : Option ℕ) (number : ChannelId) (host : HostId) (object : ObjectId) (m : Message) (s : State) → MayTakeFrom given line number (Up host object) s → is_wild given.header object.0 ≡ true
+pub heard_of : (given : Step) (line : Option ℕ) (number : ChannelId) (host : HostId) (object : ObjectId) (m : Message) (s : State)
+    → MayTakeFrom given line number (Up host object) s → is_wild given.header object.0 ≡ true
     → first (queue (Up host object) given.past) ≡ Some m → Heard given host object m s
-heard_of given line number host object m s may wild head = record { front = front_of given line number (Up host object) s may; head = head; may = may.may; wild = wild }
+heard_of given line number host object m s may wild head =
+    record { front = front_of given line number (Up host object) s may; head = head; may = may.may; wild = wild }
 
-wild_licence : (given : Step) (host : HostId) (object : ObjectId) (m : Message) (s : State) → Heard given host object m s → LicensedInTurn given.header given.outside given.command (event.Taken (Up host object) m) given.past
-wild_licence given host object m s heard = taken_licensed given.header given.outside given.command (Up host object) m given.past heard.head heard.may (front_settled given s heard.front)
+wild_licence : (given : Step) (host : HostId) (object : ObjectId) (m : Message) (s : State) → Heard given host object m s
+    → LicensedInTurn given.header given.outside given.command (event.Taken (Up host object) m) given.past
+wild_licence given host object m s heard =
+    taken_licensed given.header given.outside given.command (Up host object) m given.past heard.head heard.may (front_settled given s heard.front)
 
 -- its taking owes nothing
 
@@ -77,7 +85,8 @@ abbrev object_up : Option Letter → ℕ
 object_up None = 0
 object_up (Some letter) = object_in letter.channel
 
-pub paid_wild : (given : Step) (host : HostId) (object : ObjectId) (m : Message) (s : State) → Heard given host object m s → IsPaid given.header (event.Taken (Up host object) m ∷ given.past)
+pub paid_wild : (given : Step) (host : HostId) (object : ObjectId) (m : Message) (s : State) → Heard given host object m s
+    → IsPaid given.header (event.Taken (Up host object) m ∷ given.past)
 paid_wild given host object m s heard = record {
   none_owed = refl;
   init = λ at o control size tame is. never (sym tame ∙ its o (ap object_up is));
@@ -86,7 +95,8 @@ paid_wild given host object m s heard = record {
   error = λ at o page is. absurd (none-some _ is);
   absence = λ at o page low is. absurd (none-some _ is);
   lock = λ request is. no_request request (event.Taken (Up host object) m ∷ given.past) refl is;
-  slot = λ at o control page dirty keep bytes high is lacks. let low = wild_declared given.header o (its o (ap object_up is)) in absurd (omega (arith, low, high));
+  slot =
+      λ at o control page dirty keep bytes high is lacks. let low = wild_declared given.header o (its o (ap object_up is)) in absurd (omega (arith, low, high));
 }
   where
     its : (o : ℕ) → object.0 ≡ o → is_wild given.header o ≡ true
@@ -97,24 +107,34 @@ paid_wild given host object m s heard = record {
 
 -- no other pager has a part in it
 
-paged_wild : (given : Step) (host : HostId) (object : ObjectId) (m : Message) (s : State) → Heard given host object m s → AllServe given.header s.pagers.items (event.Taken (Up host object) m ∷ given.past)
+paged_wild : (given : Step) (host : HostId) (object : ObjectId) (m : Message) (s : State) → Heard given host object m s
+    → AllServe given.header s.pagers.items (event.Taken (Up host object) m ∷ given.past)
 paged_wild given host object m s heard = record {
   numbered = heard.front.pagers.numbered;
-  stand = λ h pager at. others given.header h pager (event.Taken (Up host object) m) given.past (inl (wild_declared given.header object.0 heard.wild)) (heard.front.pagers.stand h pager at);
+  stand =
+      λ h pager at. others given.header h pager (event.Taken (Up host object) m) given.past (inl (wild_declared given.header object.0 heard.wild))
+      (heard.front.pagers.stand h pager at);
 }
 
-files_wild : (given : Step) (host : HostId) (object : ObjectId) (m : Message) (s : State) → Heard given host object m s → AllFilesServe given.header s.files.items (event.Taken (Up host object) m ∷ given.past)
-files_wild given host object m s heard = files_about given.header s.files.items host object m [] given.past tt (wild_unfiled given.header object.0 heard.wild) heard.front.files
+files_wild : (given : Step) (host : HostId) (object : ObjectId) (m : Message) (s : State) → Heard given host object m s
+    → AllFilesServe given.header s.files.items (event.Taken (Up host object) m ∷ given.past)
+files_wild given host object m s heard =
+    files_about given.header s.files.items host object m [] given.past tt (wild_unfiled given.header object.0 heard.wild) heard.front.files
 
-pub spares_wild : (given : Step) (line : Option ℕ) (number : ChannelId) (host : HostId) (object : ObjectId) (m : Message) (s now : State) → MayTakeFrom given line number (Up host object) s → Heard given host object m s
-    → now.pagers.items ≡ s.pagers.items → now.files.items ≡ s.files.items → now.history.items ≡ event.Taken (Up host object) m ∷ given.past → Spares given.header given.outside s now
+pub spares_wild : (given : Step) (line : Option ℕ) (number : ChannelId) (host : HostId) (object : ObjectId) (m : Message) (s now : State)
+    → MayTakeFrom given line number (Up host object) s → Heard given host object m s
+    → now.pagers.items ≡ s.pagers.items → now.files.items ≡ s.files.items → now.history.items ≡ event.Taken (Up host object) m ∷ given.past
+    → Spares given.header given.outside s now
 spares_wild given line number host object m s now may heard pagers files items = record {
   paging = record {
-    kept = λ areas kept. kept_at header given.outside areas now s.pagers.items past pagers items (paged_wild given host object m s heard) kept.told (λ on h pager at. fit areas kept on h pager at);
+    kept =
+        λ areas kept. kept_at header given.outside areas now s.pagers.items past pagers items (paged_wild given host object m s heard) kept.told
+        (λ on h pager at. fit areas kept on h pager at);
     devices = same Paging;
   };
   files = filed_spares header given.outside s now (rw (files, items) (files_wild given host object m s heard))
-      (λ start areas carry. rw items (carry_about header start areas host object m [] given.past tt (wild_unfiled header object.0 heard.wild) (front_carry given line number (Up host object) s may start areas carry))) (same Files);
+      (λ start areas carry. rw items (carry_about header start areas host object m [] given.past tt (wild_unfiled header object.0 heard.wild)
+      (front_carry given line number (Up host object) s may start areas carry))) (same Files);
 }
   where
     header : Header
@@ -126,7 +146,8 @@ spares_wild given line number host object m s now may heard pagers files items =
     same : (who : Device) → devices who now.history.items ≡ devices who s.history.items
     same who = ap (devices who) items ∙ ap (devices who) may.past ∙ devices_lined who line s.history.items
 
-    fit : (areas : List ℕ → Told) → PagingIsKept header given.outside areas s → given.outside.paging ≡ true → (h : ℕ) (pager : SlotTable) → slice_get s.pagers.items h ≡ Some pager → SlotsFit areas pager (content_of header h past)
+    fit : (areas : List ℕ → Told) → PagingIsKept header given.outside areas s → given.outside.paging ≡ true → (h : ℕ) (pager : SlotTable)
+        → slice_get s.pagers.items h ≡ Some pager → SlotsFit areas pager (content_of header h past)
     fit areas kept on h pager at =
         let told = kept.told on h pager at in
         let own = apart_of header past (orderly_taken header (Up host object) m given.past heard.front.orderly heard.head) h in
@@ -135,8 +156,10 @@ spares_wild given line number host object m s now may heard pagers files items =
         over.fits told was
 
 -- the hosts' part begins
-pub answered_wild : (given : Step) (host : HostId) (object : ObjectId) (m : Message) (s now : State) → Heard given host object m s → now.pagers.items ≡ s.pagers.items → now.files.items ≡ s.files.items
-    → now.declared.items ≡ reverse given.header.objects.items → now.server ≡ s.server → now.hosts ≡ s.hosts → now.size ≡ given.header.size → now.history.items ≡ event.Taken (Up host object) m ∷ given.past
+pub answered_wild : (given : Step) (host : HostId) (object : ObjectId) (m : Message) (s now : State) → Heard given host object m s
+    → now.pagers.items ≡ s.pagers.items → now.files.items ≡ s.files.items
+    → now.declared.items ≡ reverse given.header.objects.items → now.server ≡ s.server → now.hosts ≡ s.hosts → now.size ≡ given.header.size
+    → now.history.items ≡ event.Taken (Up host object) m ∷ given.past
     → Posts now now.history.items → now.log.items ≡ [] → PagerHasAnswered (going given host object m []) host (gives_frame m) now
 answered_wild given host object m s now heard pagers files declared server hosts size items posts none =
     let header = given.header in
@@ -177,13 +200,16 @@ answered_wild given host object m s now heard pagers files declared server hosts
     }
 
 -- the hosts went on
-pub took_wild : (given : Step) (host : HostId) (object : ObjectId) (m : Message) (s new : State) → Heard given host object m s → Followed (going given host object m []) new → Took given new
+pub took_wild : (given : Step) (host : HostId) (object : ObjectId) (m : Message) (s new : State) → Heard given host object m s
+    → Followed (going given host object m []) new → Took given new
 took_wild given host object m s new heard followed =
     let header = given.header in
     let stretch = followed.follows.stretch in
     record {
       stands = followed.stands;
-      step = takes_step given (Up host object) m followed.more new.history.items followed.is heard.head heard.may (front_settled given s heard.front) (front_suffice given s heard.front) followed.follows.follows
+      step =
+          takes_step given (Up host object) m followed.more new.history.items followed.is heard.head heard.may (front_settled given s heard.front)
+          (front_suffice given s heard.front) followed.follows.follows
           stretch.licensed stretch.own_bytes stretch.frames stretch.inner;
       prompt = followed.prompt;
       paid = followed.stands.paid;

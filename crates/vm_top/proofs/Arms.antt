@@ -27,14 +27,16 @@ of_both Q files paging device.Files = files
 of_both Q files paging device.Paging = paging
 
 -- the last arming command
-last_some : (arming : Command → Option ℕ) (n : Numbered) (run : List Numbered) (count : ℕ) → arming n.command ≡ Some count → last_arming arming (n ∷ run) ≡ Some count
+last_some : (arming : Command → Option ℕ) (n : Numbered) (run : List Numbered) (count : ℕ) → arming n.command ≡ Some count
+    → last_arming arming (n ∷ run) ≡ Some count
 last_some arming n run count is = rw (is, last_arming) refl
 
 last_none : (arming : Command → Option ℕ) (n : Numbered) (run : List Numbered) → arming n.command ≡ None → last_arming arming (n ∷ run) ≡ last_arming arming run
 last_none arming n run is = rw (is, last_arming) refl
 
 -- how many commands arm
-armings_some : (arming : Command → Option ℕ) (n : Numbered) (run : List Numbered) (count : ℕ) → arming n.command ≡ Some count → armings arming (n ∷ run) ≡ armings arming run + 1
+armings_some : (arming : Command → Option ℕ) (n : Numbered) (run : List Numbered) (count : ℕ) → arming n.command ≡ Some count
+    → armings arming (n ∷ run) ≡ armings arming run + 1
 armings_some arming n run count is = rw (is, armings) refl
 
 armings_none : (arming : Command → Option ℕ) (n : Numbered) (run : List Numbered) → arming n.command ≡ None → armings arming (n ∷ run) ≡ armings arming run
@@ -47,8 +49,10 @@ arms_some header device.Files other count is range = absurd (cc)
 arms_some header device.Paging other count is range = absurd (cc)
 
 -- a backing is armed
-backing_armed : {B : Type 0} (header : Header) (who : Device) (n : Numbered) (run : List Numbered) (old_h new_h : List Event) (start old new : Arming B) (count : ℕ) → arms who n.command ≡ Some count → 0 < count
-    → new ≡ record { inner = old.inner; left = count; reached = old.reached } → BackingRuns header who run old_h start old → BackingRuns header who (n ∷ run) new_h start new
+backing_armed : {B : Type 0} (header : Header) (who : Device) (n : Numbered) (run : List Numbered) (old_h new_h : List Event) (start old new : Arming B)
+    (count : ℕ) → arms who n.command ≡ Some count → 0 < count
+    → new ≡ record { inner = old.inner; left = count; reached = old.reached } → BackingRuns header who run old_h start old
+    → BackingRuns header who (n ∷ run) new_h start new
 backing_armed header who n run old_h new_h start old new count armed some is was =
     let last = last_some (arms who) n run count armed in
     let left : new.left ≡ count = ap (λ z. z.left) is in
@@ -79,8 +83,10 @@ later_few : (start l r m s k : ℕ) → ArmedLater l r m s → r + min 1 l ≤ s
 later_few start l r m s k later few = grind arith
 
 -- calls go to a backing, or none does
-pub backing_later : {B : Type 0} (header : Header) (who : Device) (run more : List Numbered) (old_h new_h : List Event) (start old new : Arming B) → last_arming (arms who) more ≡ last_arming (arms who) run → armings (arms who) more ≡ armings (arms who) run
-    → ArmedLater old.left old.reached new.left new.reached → (is_untouched header who more new_h ≡ true → (new.left ≡ old.left) × (is_untouched header who run old_h ≡ true))
+pub backing_later : {B : Type 0} (header : Header) (who : Device) (run more : List Numbered) (old_h new_h : List Event) (start old new : Arming B)
+    → last_arming (arms who) more ≡ last_arming (arms who) run → armings (arms who) more ≡ armings (arms who) run
+    → ArmedLater old.left old.reached new.left new.reached
+    → (is_untouched header who more new_h ≡ true → (new.left ≡ old.left) × (is_untouched header who run old_h ≡ true))
     → BackingRuns header who run old_h start old → BackingRuns header who more new_h start new
 backing_later header who run more old_h new_h start old new last count later un was =
     record {
@@ -94,14 +100,17 @@ backing_later header who run more old_h new_h start old new last count later un 
     }
 
 -- and behind a command that doesn't arm it
-pub backing_behind : {B : Type 0} (header : Header) (who : Device) (n : Numbered) (run : List Numbered) (old_h new_h : List Event) (start old new : Arming B) → arms who n.command ≡ None
-    → ArmedLater old.left old.reached new.left new.reached → (is_untouched header who (n ∷ run) new_h ≡ true → (new.left ≡ old.left) × (is_untouched header who run old_h ≡ true))
+pub backing_behind : {B : Type 0} (header : Header) (who : Device) (n : Numbered) (run : List Numbered) (old_h new_h : List Event) (start old new : Arming B)
+    → arms who n.command ≡ None
+    → ArmedLater old.left old.reached new.left new.reached
+    → (is_untouched header who (n ∷ run) new_h ≡ true → (new.left ≡ old.left) × (is_untouched header who run old_h ≡ true))
     → BackingRuns header who run old_h start old → BackingRuns header who (n ∷ run) new_h start new
 backing_behind header who n run old_h new_h start old new unarmed later un was =
     backing_later header who run (n ∷ run) old_h new_h start old new (last_none (arms who) n run unarmed) (armings_none (arms who) n run unarmed) later un was
 
 -- a command's step
-pub backing_step : {B : Type 0} (header : Header) (who : Device) (n : Numbered) (run : List Numbered) (old_h new_h : List Event) (start old new : Arming B) → InRange header n.command → LeavesBacking header who n.command new_h old new
+pub backing_step : {B : Type 0} (header : Header) (who : Device) (n : Numbered) (run : List Numbered) (old_h new_h : List Event) (start old new : Arming B)
+    → InRange header n.command → LeavesBacking header who n.command new_h old new
     → (arms who n.command ≡ None → ArmedLater old.left old.reached new.left new.reached)
     → before_last_line new_h ≡ old_h → BackingRuns header who run old_h start old → BackingRuns header who (n ∷ run) new_h start new
 backing_step header who n run old_h new_h start old new range leaves later front was = by_arming (arms who n.command) refl
@@ -110,23 +119,28 @@ backing_step header who n run old_h new_h start old new range leaves later front
     by_arming None is =
         backing_behind header who n run old_h new_h start old new is (later is)
         (λ un. let both = untouched_line header who n run new_h old_h is front un in (ap (λ z. z.left) (leaves.asked is both.0), both.1)) was
-    by_arming (Some count) is = backing_armed header who n run old_h new_h start old new count is (arms_some header who n.command count is range) (leaves.armed count is) was
+    by_arming (Some count) is =
+        backing_armed header who n run old_h new_h start old new count is (arms_some header who n.command count is range) (leaves.armed count is) was
 
 -- a taking of a settle
-pub backing_taking : {B : Type 0} (header : Header) (who : Device) (n : Numbered) (run : List Numbered) (old_h new_h : List Event) (start old new : Arming B) → ArmedLater old.left old.reached new.left new.reached
-    → (took_up header who new_h ≡ false → new ≡ old) → before_step new_h ≡ old_h → takings new_h ≡ takings old_h + 1 → BackingRuns header who (n ∷ run) old_h start old → BackingRuns header who (n ∷ run) new_h start new
+pub backing_taking : {B : Type 0} (header : Header) (who : Device) (n : Numbered) (run : List Numbered) (old_h new_h : List Event) (start old new : Arming B)
+    → ArmedLater old.left old.reached new.left new.reached
+    → (took_up header who new_h ≡ false → new ≡ old) → before_step new_h ≡ old_h → takings new_h ≡ takings old_h + 1
+    → BackingRuns header who (n ∷ run) old_h start old → BackingRuns header who (n ∷ run) new_h start new
 backing_taking header who n run old_h new_h start old new later unasked front more was =
     backing_later header who (n ∷ run) (n ∷ run) old_h new_h start old new refl refl later
     (λ un. let both = untouched_taking header who n run new_h old_h front more un in (ap (λ z. z.left) (unasked both.0), both.1)) was
 
 -- the failures of a step are counted
-counted_more : (before was now a b : ℕ) → was ≤ now → (a ≡ b) ⊎ CountRises was now → a ≤ b + 1 → (b + before ≤ was) ⊎ CountRises was was → (a + before ≤ now) ⊎ CountRises now now
+counted_more : (before was now a b : ℕ) → was ≤ now → (a ≡ b) ⊎ CountRises was now → a ≤ b + 1 → (b + before ≤ was) ⊎ CountRises was was → (a + before ≤ now)
+    ⊎ CountRises now now
 counted_more before was now a b later cause few old = grind arith
 
 stays : (before was now a b : ℕ) → b ≤ a → (a ≡ b → now ≡ was) → (b ≡ 0 → was ≡ before) → a ≡ 0 → now ≡ before
 stays before was now a b grown spared none is = let none_b : b ≡ 0 = omega arith in let same : a ≡ b = omega arith in spared same ∙ none none_b
 
-pub failures_step : (who : Device) (before was now : ℕ) (old new : List Event) → GrowsWithinLimit old new → DevicesHaveCause who was now old new → FailuresCounted who before was old → FailuresCounted who before now new
+pub failures_step : (who : Device) (before was now : ℕ) (old new : List Event) → GrowsWithinLimit old new → DevicesHaveCause who was now old new
+    → FailuresCounted who before was old → FailuresCounted who before now new
 failures_step who before was now old new grew step told =
     record {
       few = counted_more before was now (devices who new) (devices who old) step.later step.cause step.few told.few;
@@ -134,12 +148,16 @@ failures_step who before was now old new grew step told =
     }
 
 -- of both backings
-pub failures_of : (start was now : FaultCounts) (old new : List Event) → GrowsWithinLimit old new → ((who : Device) → DevicesHaveCause who (counted who was) (counted who now) old new)
-    → ((who : Device) → FailuresCounted who (counted who start) (counted who was) old) → (who : Device) → FailuresCounted who (counted who start) (counted who now) new
-failures_of start was now old new grew step told who = failures_step who (counted who start) (counted who was) (counted who now) old new grew (step who) (told who)
+pub failures_of : (start was now : FaultCounts) (old new : List Event) → GrowsWithinLimit old new
+    → ((who : Device) → DevicesHaveCause who (counted who was) (counted who now) old new)
+    → ((who : Device) → FailuresCounted who (counted who start) (counted who was) old) → (who : Device)
+    → FailuresCounted who (counted who start) (counted who now) new
+failures_of start was now old new grew step told who =
+    failures_step who (counted who start) (counted who was) (counted who now) old new grew (step who) (told who)
 
 -- of the commands that have a line
-pub arms_of : {F P : Type 0} (given : Running F P) (run : List Numbered) (h : List Event) (f : Arming F) (p : Arming P) → ran_of given.script h ≡ run → BackingRuns given.script.header device.Files run h given.files f
+pub arms_of : {F P : Type 0} (given : Running F P) (run : List Numbered) (h : List Event) (f : Arming F) (p : Arming P) → ran_of given.script h ≡ run
+    → BackingRuns given.script.header device.Files run h given.files f
     → BackingRuns given.script.header device.Paging run h given.paging p → Arms given h f p
 arms_of given run h f p here files paging = record {
   files = subst (λ z. BackingRuns given.script.header device.Files z h given.files f) (sym here) files;
@@ -147,19 +165,23 @@ arms_of given run h f p here files paging = record {
 }
 
 -- the failures that were told are bounded by the backing's own and by the commands
-pub bounded : (d i0 i1 r0 r1 l k : ℕ) → (d + sum_count i0 r0 ≤ sum_count i1 r1) ⊎ CountRises (sum_count i1 r1) (sum_count i1 r1) → r1 + min 1 l ≤ r0 + k → (d + i0 ≤ i1 + k) ⊎ CountRises (sum_count i1 r1) (sum_count i1 r1)
+pub bounded : (d i0 i1 r0 r1 l k : ℕ) → (d + sum_count i0 r0 ≤ sum_count i1 r1) ⊎ CountRises (sum_count i1 r1) (sum_count i1 r1) → r1 + min 1 l ≤ r0 + k
+    → (d + i0 ≤ i1 + k) ⊎ CountRises (sum_count i1 r1) (sum_count i1 r1)
 bounded d i0 i1 r0 r1 l k counted few = grind arith
 
 -- whoever lets all coming calls pass first leaves a backing as it is left behind that
-pub kept_disarmed : {B : Type 0} (who : Device) (script : Option Script) (history : List Event) (old new : Arming B) (counts : Counts) → BackingKept who script history (record { inner = old.inner; left = 0; reached = old.reached }) new counts → BackingKept who script history old new counts
+pub kept_disarmed : {B : Type 0} (who : Device) (script : Option Script) (history : List Event) (old new : Arming B) (counts : Counts)
+    → BackingKept who script history (record { inner = old.inner; left = 0; reached = old.reached }) new counts → BackingKept who script history old new counts
 kept_disarmed {B} who script history old new counts is = record { ends = by script is.ends; counted = is.counted; bounded = is.bounded }
   where
-    by : (script : Option Script) → BackingEnds who script history (record { inner = old.inner; left = 0; reached = old.reached }) new → BackingEnds who script history old new
+    by : (script : Option Script) → BackingEnds who script history (record { inner = old.inner; left = 0; reached = old.reached }) new
+        → BackingEnds who script history old new
     by None ends = ends
     by (Some run) ends = record { none = ends.none; some = ends.some; untouched = ends.untouched; few = ends.few }
 
 -- how a backing is left by a run, said of either
-pub kept_by : {B : Type 0} (who : Device) (script : Script) (h : List Event) (old new : Arming B) (i0 i1 : ℕ) → BackingLeft script.header who (ran_of script h) h old new → FailuresCounted who (sum_count i0 old.reached) (sum_count i1 new.reached) h
+pub kept_by : {B : Type 0} (who : Device) (script : Script) (h : List Event) (old new : Arming B) (i0 i1 : ℕ)
+    → BackingLeft script.header who (ran_of script h) h old new → FailuresCounted who (sum_count i0 old.reached) (sum_count i1 new.reached) h
     → BackingKept who (Some script) h old new (record { old = sum_count i0 old.reached; new = sum_count i1 new.reached; own_old = i0; own_new = i1 })
 kept_by {B} who script h old new i0 i1 left told = record {
   ends = left;

@@ -9,7 +9,8 @@ use Rattle.vm_legal.proofs.Turns.{open_in_turn}
 use Rattle.vm_top.specs.Run.{IsOutOfEvents, IsPart, IsWholeRun}
 
 -- a run that was made of a part is legal as far as it goes
-part_so_far : (script : Script) (outside : Outside) (later run : List Numbered) (h : List Event) → IsPart script outside later run h → CanonicalSoFar script outside h
+part_so_far : (script : Script) (outside : Outside) (later run : List Numbered) (h : List Event) → IsPart script outside later run h
+    → CanonicalSoFar script outside h
 part_so_far script outside later run h part = record {
   later = later;
   run = run;

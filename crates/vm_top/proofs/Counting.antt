@@ -23,7 +23,8 @@ has_line : (group past : List Event) (line : ℕ) → 1 ≤ count_of is_line (gr
 has_line [] past line = omega arith
 has_line (e ∷ group) past line = let rest = has_line group past line in omega arith
 
-pub lines_more : (new old group past : List Event) (line : ℕ) → before_last_line new ≡ old → new ≡ group ++ event.Line line ∷ past → count_of is_line new ≡ count_of is_line old + 1
+pub lines_more : (new old group past : List Event) (line : ℕ) → before_last_line new ≡ old → new ≡ group ++ event.Line line ∷ past
+    → count_of is_line new ≡ count_of is_line old + 1
 lines_more new old group past line front is = elim (line_counts new old front) [
   | inl more ↦ more
   | inr none ↦ let some : 1 ≤ count_of is_line new = subst (λ z. 1 ≤ count_of is_line z) (sym is) (has_line group past line) in absurd (omega arith)
@@ -49,22 +50,27 @@ unasked true x is = absurd (cc)
 unasked false x is = (refl, is)
 
 -- no pager of the backing took a message in the step, and none in front of it
-pub untouched_line : (header : Header) (who : Device) (n : Numbered) (run : List Numbered) (new old : List Event) → arms who n.command ≡ None → before_last_line new ≡ old → is_untouched header who (n ∷ run) new ≡ true
+pub untouched_line : (header : Header) (who : Device) (n : Numbered) (run : List Numbered) (new old : List Event) → arms who n.command ≡ None
+    → before_last_line new ≡ old → is_untouched header who (n ∷ run) new ≡ true
     → (took_up header who new ≡ false) × (is_untouched header who run old ≡ true)
 untouched_line header who n run [] old unarmed front un = (refl, subst (λ z. is_untouched header who run z ≡ true) front refl)
-untouched_line header who n run (event.Line line ∷ past) old unarmed front un = (refl, subst (λ z. is_untouched header who run z ≡ true) front (rw unarmed at un))
+untouched_line header who n run (event.Line line ∷ past) old unarmed front un =
+    (refl, subst (λ z. is_untouched header who run z ≡ true) front (rw unarmed at un))
 untouched_line header who n run (event.Taken (Up host object) m ∷ past) old unarmed front un =
     let both = unasked (is_kept_in header who object) (is_untouched header who (n ∷ run) past) un in
     (both.0, (untouched_line header who n run past old unarmed front both.1).1)
-untouched_line header who n run (event.Taken (Down host object control) m ∷ past) old unarmed front un = (refl, (untouched_line header who n run past old unarmed front un).1)
+untouched_line header who n run (event.Taken (Down host object control) m ∷ past) old unarmed front un =
+    (refl, (untouched_line header who n run past old unarmed front un).1)
 untouched_line header who n run (e ∷ past) old unarmed front un = untouched_line header who n run past old unarmed front un
 
-pub untouched_taking : (header : Header) (who : Device) (n : Numbered) (run : List Numbered) (new old : List Event) → before_step new ≡ old → takings new ≡ takings old + 1 → is_untouched header who (n ∷ run) new ≡ true
+pub untouched_taking : (header : Header) (who : Device) (n : Numbered) (run : List Numbered) (new old : List Event) → before_step new ≡ old
+    → takings new ≡ takings old + 1 → is_untouched header who (n ∷ run) new ≡ true
     → (took_up header who new ≡ false) × (is_untouched header who (n ∷ run) old ≡ true)
 untouched_taking header who n run [] old front more un = absurd (omega arith)
 untouched_taking header who n run (event.Line line ∷ past) old front more un = absurd (omega arith)
 untouched_taking header who n run (event.Taken (Up host object) m ∷ past) old front more un =
     let both = unasked (is_kept_in header who object) (is_untouched header who (n ∷ run) past) un in
     (both.0, subst (λ z. is_untouched header who (n ∷ run) z ≡ true) front both.1)
-untouched_taking header who n run (event.Taken (Down host object control) m ∷ past) old front more un = (refl, subst (λ z. is_untouched header who (n ∷ run) z ≡ true) front un)
+untouched_taking header who n run (event.Taken (Down host object control) m ∷ past) old front more un =
+    (refl, subst (λ z. is_untouched header who (n ∷ run) z ≡ true) front un)
 untouched_taking header who n run (e ∷ past) old front more un = untouched_taking header who n run past old front more un

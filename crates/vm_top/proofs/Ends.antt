@@ -1,5 +1,6 @@
 -- What was read is what the source had, and how a run ends tells the status.
-use Rattle.std.proofs.Common.{◌≡◌, ℕ, ◌<◌, ◌≤◌, ◌^◌, ◌⊎◌, inl, inr, List, [], ◌++◌, length, true, refl, ap, sym, ◌∙◌, subst, arith, Some, Option, Ok, Err, nat_lt}
+use Rattle.std.proofs.Common.{◌≡◌, ℕ, ◌<◌, ◌≤◌, ◌^◌, ◌⊎◌, inl, inr, List, [], ◌++◌, length, true, refl, ap, sym, ◌∙◌, subst, arith, Some, Option, Ok, Err}
+use Rattle.std.proofs.Common.{nat_lt}
 use Rattle.std.specs.Prelude.{IfSome, IsErrOf, OnOk, Result}
 use Rattle.vm_base.specs.declared.failure.WriteStop.{WriteStop}
 use Rattle.vm_base.specs.declared.failure.WriteStop.TheVariants as stop
@@ -54,7 +55,8 @@ read_same told after bytes whole read is =
     ]
 
 -- they are the same, where they spell a script
-script_read : (told after : Option (List ℕ)) (bytes whole : List ℕ) (script : Whole) → ReadWhole told after bytes → script_of bytes ≡ Ok script → told ≡ Some whole → bytes ≡ whole
+script_read : (told after : Option (List ℕ)) (bytes whole : List ℕ) (script : Whole) → ReadWhole told after bytes → script_of bytes ≡ Ok script
+    → told ≡ Some whole → bytes ≡ whole
 script_read told after bytes whole script read spells is =
     let sizes : (length bytes ≤ 1048576) ⊎ (1048576 < length bytes) = grind arith in
     elim sizes [
@@ -62,43 +64,55 @@ script_read told after bytes whole script read spells is =
       | inr long ↦ let long_is = long_bad bytes long in absurd (cc)
     ]
 
-pub read_from : (told after : Option (List ℕ)) (bytes : List ℕ) (script : Script) → ReadWhole told after bytes → script_of bytes ≡ Ok (whole_script script) → IsReadFrom told script
+pub read_from : (told after : Option (List ℕ)) (bytes : List ℕ) (script : Script) → ReadWhole told after bytes → script_of bytes ≡ Ok (whole_script script)
+    → IsReadFrom told script
 read_from told after bytes script read spells = λ whole is. read_same told after bytes whole read is ∙ spells
 
-pub bad_from : (told after : Option (List ℕ)) (bytes : List ℕ) (line : ℕ) (kind : ScriptFault) → ReadWhole told after bytes → script_of bytes ≡ Err (line, kind) → IsBadFrom told line kind
+pub bad_from : (told after : Option (List ℕ)) (bytes : List ℕ) (line : ℕ) (kind : ScriptFault) → ReadWhole told after bytes → script_of bytes ≡ Err (line, kind)
+    → IsBadFrom told line kind
 bad_from told after bytes line kind read spells = λ whole is. read_same told after bytes whole read is ∙ spells
 
-pub done_of : (told before after : Option (List ℕ)) (outside : Header → Outside) (report : Report) (run : Script) (script : Option Script) (h : List Event) (s : Status)
-    → IsReadFrom told run → RunHasEnded report run (outside run.header) script h before after s → s ≡ status.Done → IsRunDone told outside report script h before after
+pub done_of : (told before after : Option (List ℕ)) (outside : Header → Outside) (report : Report) (run : Script) (script : Option Script) (h : List Event)
+    (s : Status)
+    → IsReadFrom told run → RunHasEnded report run (outside run.header) script h before after s → s ≡ status.Done
+    → IsRunDone told outside report script h before after
 done_of told before after outside report run script h s read has is =
     let ends = subst (EndsAs report run (outside run.header) h before after) is has.ends in
     record { run = run; held = record { held = has.held; read = read }; whole = ends.0; written = ends.1 }
 
-pub full_of : (told before after : Option (List ℕ)) (outside : Header → Outside) (report : Report) (run : Script) (script : Option Script) (h : List Event) (s : Status)
-    → IsReadFrom told run → RunHasEnded report run (outside run.header) script h before after s → s ≡ status.EventLimit → IsEventLimit told outside report script h before after
+pub full_of : (told before after : Option (List ℕ)) (outside : Header → Outside) (report : Report) (run : Script) (script : Option Script) (h : List Event)
+    (s : Status)
+    → IsReadFrom told run → RunHasEnded report run (outside run.header) script h before after s → s ≡ status.EventLimit
+    → IsEventLimit told outside report script h before after
 full_of told before after outside report run script h s read has is =
     let ends = subst (EndsAs report run (outside run.header) h before after) is has.ends in
     record { run = run; held = record { held = has.held; read = read }; full = ends.0; written = ends.1 }
 
-pub output_of : (told before after : Option (List ℕ)) (outside : Header → Outside) (report : Report) (run : Script) (script : Option Script) (h : List Event) (s : Status)
-    → IsReadFrom told run → RunHasEnded report run (outside run.header) script h before after s → s ≡ status.OutputFault → IsOutputFault told outside report script h before after
+pub output_of : (told before after : Option (List ℕ)) (outside : Header → Outside) (report : Report) (run : Script) (script : Option Script) (h : List Event)
+    (s : Status)
+    → IsReadFrom told run → RunHasEnded report run (outside run.header) script h before after s → s ≡ status.OutputFault
+    → IsOutputFault told outside report script h before after
 output_of told before after outside report run script h s read has is =
     let ends = subst (EndsAs report run (outside run.header) h before after) is has.ends in
     inl (record { run = run; held = record { held = has.held; read = read }; failed = ends })
 
-pub memory_of : (told before after : Option (List ℕ)) (outside : Header → Outside) (report : Report) (run : Script) (script : Option Script) (h : List Event) (s : Status)
-    → IsReadFrom told run → RunHasEnded report run (outside run.header) script h before after s → s ≡ status.NoMemory → IsNoMemory told outside report script h before after
+pub memory_of : (told before after : Option (List ℕ)) (outside : Header → Outside) (report : Report) (run : Script) (script : Option Script) (h : List Event)
+    (s : Status)
+    → IsReadFrom told run → RunHasEnded report run (outside run.header) script h before after s → s ≡ status.NoMemory
+    → IsNoMemory told outside report script h before after
 memory_of told before after outside report run script h s read has is =
     let ends = subst (EndsAs report run (outside run.header) h before after) is has.ends in
     inr (inl (record { run = run; held = record { held = has.held; read = read }; legal = ends.0 }, ends.1))
 
 -- the first fault was told
-pub bad_of : (told before after : Option (List ℕ)) (line named : ℕ) (kind other : ScriptFault) (script : Option Script) (h : List Event) (s : Status) → NothingRun script h → IsBadFrom told line kind
+pub bad_of : (told before after : Option (List ℕ)) (line named : ℕ) (kind other : ScriptFault) (script : Option Script) (h : List Event) (s : Status)
+    → NothingRun script h → IsBadFrom told line kind
     → Tells (status.BadScript line kind) (bad_text line kind) before after s → s ≡ status.BadScript named other → IsBad told named other script h before after
 bad_of told before after line named kind other script h s nothing bad (inl wrote) is =
     let one : line ≡ named = cc in
     let two : kind ≡ other = cc in
-    subst (λ z. IsBad told z other script h before after) one (subst (λ z. IsBad told line z script h before after) two (record { nothing = nothing; bad = bad; written = wrote.1 }))
+    subst (λ z. IsBad told z other script h before after) one (subst (λ z. IsBad told line z script h before after) two
+    (record { nothing = nothing; bad = bad; written = wrote.1 }))
 bad_of told before after line named kind other script h s nothing bad (inr (inl failed, wrote)) is = absurd (cc)
 bad_of told before after line named kind other script h s nothing bad (inr (inr none, wrote)) is = absurd (cc)
 
@@ -107,13 +121,16 @@ pub held_ranges : (script : Option Script) (run : Script) → script ≡ Some ru
 held_ranges script run held keeps = rw held keeps
 
 -- other ends have no such status
-pub never_usage : (report : Report) (run : Script) (outside : Outside) (script : Option Script) (h : List Event) (before after : Option (List ℕ)) (s : Status) → RunHasEnded report run outside script h before after s → s ≡ status.Usage → ⊥
+pub never_usage : (report : Report) (run : Script) (outside : Outside) (script : Option Script) (h : List Event) (before after : Option (List ℕ)) (s : Status)
+    → RunHasEnded report run outside script h before after s → s ≡ status.Usage → ⊥
 never_usage report run outside script h before after s has is = subst (EndsAs report run outside h before after) is has.ends
 
-pub never_read : (report : Report) (run : Script) (outside : Outside) (script : Option Script) (h : List Event) (before after : Option (List ℕ)) (s : Status) → RunHasEnded report run outside script h before after s → s ≡ status.ReadFault → ⊥
+pub never_read : (report : Report) (run : Script) (outside : Outside) (script : Option Script) (h : List Event) (before after : Option (List ℕ)) (s : Status)
+    → RunHasEnded report run outside script h before after s → s ≡ status.ReadFault → ⊥
 never_read report run outside script h before after s has is = subst (EndsAs report run outside h before after) is has.ends
 
-pub never_bad : (report : Report) (run : Script) (outside : Outside) (script : Option Script) (h : List Event) (before after : Option (List ℕ)) (s : Status) (line : ℕ) (kind : ScriptFault) → RunHasEnded report run outside script h before after s → s ≡ status.BadScript line kind → ⊥
+pub never_bad : (report : Report) (run : Script) (outside : Outside) (script : Option Script) (h : List Event) (before after : Option (List ℕ)) (s : Status)
+    (line : ℕ) (kind : ScriptFault) → RunHasEnded report run outside script h before after s → s ≡ status.BadScript line kind → ⊥
 never_bad report run outside script h before after s line kind has is = subst (EndsAs report run outside h before after) is has.ends
 
 -- whatever telling a text ends with, a first part of it was written
@@ -135,7 +152,9 @@ runnable script keeps declares = record {
       objects = keeps.objects;
       kinds = declares;
     };
-    names = λ one other first second same. named_once script.header name_kept (λ object. refl) keeps.names one other (file_below script.header one first) (file_below script.header other second) same;
+    names =
+        λ one other first second same. named_once script.header name_kept (λ object. refl) keeps.names one other (file_below script.header one first)
+        (file_below script.header other second) same;
   };
   slots = keeps.slots;
   ranges = keeps.commands;
@@ -147,8 +166,10 @@ summary_failed report run outside h start after legal wrote =
     subst (λ z. WroteFailed z run outside h start after) (sym wrote.0) (legal, subst (λ z. WroteStart start after (report_text z h)) wrote.0 wrote.1)
 
 -- what was left of a whole run was written, or a write failed
-pub done_ends : (report : Report) (run : Script) (outside : Outside) (h : List Event) (start after : Option (List ℕ)) (wrote : Result (Unit {0}) WriteStop) → IsWholeRun run outside h
-    → OnOk wrote (Appends start after (report_text report h)) → (IsErrOf wrote stop.Failed → (report ≡ reports.Summary) × WroteStart start after (report_text report h))
+pub done_ends : (report : Report) (run : Script) (outside : Outside) (h : List Event) (start after : Option (List ℕ)) (wrote : Result (Unit {0}) WriteStop)
+    → IsWholeRun run outside h
+    → OnOk wrote (Appends start after (report_text report h))
+    → (IsErrOf wrote stop.Failed → (report ≡ reports.Summary) × WroteStart start after (report_text report h))
     → (IsErrOf wrote stop.NoMemory → WroteStart start after (report_text report h)) → EndsAs report run outside h start after (status_after wrote status.Done)
 done_ends report run outside h start after (Ok done) whole written failed memory = (whole, written)
 done_ends report run outside h start after (Err stop.Failed) whole written failed memory =
@@ -156,9 +177,12 @@ done_ends report run outside h start after (Err stop.Failed) whole written faile
 done_ends report run outside h start after (Err stop.NoMemory) whole written failed memory = (whole_so_far run outside h whole, memory refl)
 
 -- and of a run that came to a full history
-pub full_ends : (report : Report) (run : Script) (outside : Outside) (h : List Event) (start after : Option (List ℕ)) (wrote : Result (Unit {0}) WriteStop) → IsOutOfEvents run outside h
-    → OnOk wrote (Appends start after (report_text report h)) → (IsErrOf wrote stop.Failed → (report ≡ reports.Summary) × WroteStart start after (report_text report h))
-    → (IsErrOf wrote stop.NoMemory → WroteStart start after (report_text report h)) → EndsAs report run outside h start after (status_after wrote status.EventLimit)
+pub full_ends : (report : Report) (run : Script) (outside : Outside) (h : List Event) (start after : Option (List ℕ)) (wrote : Result (Unit {0}) WriteStop)
+    → IsOutOfEvents run outside h
+    → OnOk wrote (Appends start after (report_text report h))
+    → (IsErrOf wrote stop.Failed → (report ≡ reports.Summary) × WroteStart start after (report_text report h))
+    → (IsErrOf wrote stop.NoMemory → WroteStart start after (report_text report h))
+    → EndsAs report run outside h start after (status_after wrote status.EventLimit)
 full_ends report run outside h start after (Ok done) full written failed memory = (full, written)
 full_ends report run outside h start after (Err stop.Failed) full written failed memory =
     summary_failed report run outside h start after (full_so_far run outside h full) (failed refl)

@@ -27,7 +27,8 @@ use Rattle.vm_top.specs.Run.{are_told, areas_told, is_told, outside_of, told_of 
 use Rattle.vm_system.specs.declared.state.State.{State}
 
 -- a page that has a slot, and of which bytes were stored, is kept there
-kept_of : (count size : ℕ) (has : Option Held) (s : ℕ) (bytes : List ℕ) → IsHeldAs count size has (Some (Kept bytes)) → held_slot has ≡ Some s → has ≡ Some (held.Kept s)
+kept_of : (count size : ℕ) (has : Option Held) (s : ℕ) (bytes : List ℕ) → IsHeldAs count size has (Some (Kept bytes)) → held_slot has ≡ Some s
+    → has ≡ Some (held.Kept s)
 kept_of count size None s bytes is slot = absurd is
 kept_of count size (Some (held.Kept t)) s bytes is slot = let same : t ≡ s = cc in ap (λ z. Some (held.Kept z)) same
 kept_of count size (Some (held.Torn t)) s bytes is slot = absurd is
@@ -37,17 +38,20 @@ no_slot : (has : Option Held) (s : ℕ) → has ≡ None → held_slot has ≡ S
 no_slot has s none is = let bad : None ≡ Some s = sym (ap held_slot none) ∙ is in cc
 
 -- a page that has a slot is a temporary object's that hasn't ended
-stored_at : (slots : SlotTable) (header : Header) (host : ℕ) (h : List Event) (o p s : ℕ) (bytes : List ℕ) → PagerStands header host slots h → held_slot (held_at slots o p) ≡ Some s → last_return host o p h ≡ Some bytes → is_lost o p h ≡ false
+stored_at : (slots : SlotTable) (header : Header) (host : ℕ) (h : List Event) (o p s : ℕ) (bytes : List ℕ) → PagerStands header host slots h
+    → held_slot (held_at slots o p) ≡ Some s → last_return host o p h ≡ Some bytes → is_lost o p h ≡ false
     → content_of header host h o p ≡ Some (Kept bytes)
 stored_at slots header host h o p s bytes stands slot returned fine = by_tests (nat_lt o (named header)) (is_ended host o h) refl refl
   where
     by_tests : (a b : Bool) → nat_lt o (named header) ≡ a → is_ended host o h ≡ b → content_of header host h o p ≡ Some (Kept bytes)
-    by_tests true b is ended = let below : o < named header = grind (arith, nat_tests) in absurd (no_slot (held_at slots o p) s (stands.declared o p below) slot)
+    by_tests true b is ended =
+        let below : o < named header = grind (arith, nat_tests) in absurd (no_slot (held_at slots o p) s (stands.declared o p below) slot)
     by_tests false true is ended = absurd (no_slot (held_at slots o p) s (stands.ended o p ended) slot)
     by_tests false false is ended = rw (is, ended, returned, fine) refl
 
 -- where the paging area of a host told before, it tells, and has the bytes of each page that was returned and isn't lost
-pub kept_pages : (header : Header) (host : ℕ) (outside : Outside) (areas : List ℕ → Told) (s : State) (pager : SlotTable) → slice_get s.pagers.items host ≡ Some pager → SystemKept header outside areas s → PagingKeepsPages header host outside areas s.history.items
+pub kept_pages : (header : Header) (host : ℕ) (outside : Outside) (areas : List ℕ → Told) (s : State) (pager : SlotTable)
+    → slice_get s.pagers.items host ≡ Some pager → SystemKept header outside areas s → PagingKeepsPages header host outside areas s.history.items
 kept_pages header host outside areas s pager found kept = record { at = λ paging. by (areas (area_name host)) refl paging }
   where
     stands : PagerStands header host pager s.history.items
@@ -56,7 +60,8 @@ kept_pages header host outside areas s pager found kept = record { at = λ pagin
     tells : outside.paging ≡ true → IsSome (areas (area_name host))
     tells paging = subst (λ z. IsSome (areas (area_name z))) stands.host_is (kept.told paging host pager found)
 
-    at_page : outside.paging ≡ true → (was : Option (List ℕ)) → areas (area_name host) ≡ Some was → (o p at : ℕ) (bytes : List ℕ) → slot_at header host o p s.history.items ≡ Some at → is_lost o p s.history.items ≡ false
+    at_page : outside.paging ≡ true → (was : Option (List ℕ)) → areas (area_name host) ≡ Some was → (o p at : ℕ) (bytes : List ℕ)
+        → slot_at header host o p s.history.items ≡ Some at → is_lost o p s.history.items ≡ false
         → last_return host o p s.history.items ≡ Some bytes → read_at (unwrap_or was []) (at * header.size) header.size ≡ bytes
     at_page paging was told o p at bytes slotted fine returned =
         let fits = kept.fits paging host pager found in
@@ -94,15 +99,18 @@ area_told areas (suc hosts) host told below =
         subst (λ z. is_some (areas (area_name z)) ≡ true) same last
 
 -- the paging areas of the pagers are told, where the outside says so
-pub all_told : (header : Header) (files areas : List ℕ → Told) (pagers : List SlotTable) → AreNumbered header pagers → (outside_of files areas header).paging ≡ true → AllTold areas pagers
+pub all_told : (header : Header) (files areas : List ℕ → Told) (pagers : List SlotTable) → AreNumbered header pagers
+    → (outside_of files areas header).paging ≡ true → AllTold areas pagers
 all_told header files areas pagers numbered paging h pager found =
     let below : h < length header.frames.items = subst (λ z. h < z) numbered.count (slice_get_within pagers h pager found) in
     subst (λ z. is_some (areas (area_name z)) ≡ true) (sym (numbered.hosts h pager found)) (area_told areas (length header.frames.items) h paging below)
 
 -- nothing was returned yet
-pub kept_none : (header : Header) (files areas : List ℕ → Told) (h : List Event) → h ≡ [] → (host : ℕ) → host < length header.frames.items → PagingKeepsPages header host (outside_of files areas header) areas h
+pub kept_none : (header : Header) (files areas : List ℕ → Told) (h : List Event) → h ≡ [] → (host : ℕ) → host < length header.frames.items
+    → PagingKeepsPages header host (outside_of files areas header) areas h
 kept_none header files areas h none host below =
-    subst (PagingKeepsPages header host (outside_of files areas header) areas) (sym none) (record { at = λ paging. by (areas (area_name host)) refl (area_told areas (length header.frames.items) host paging below) })
+    subst (PagingKeepsPages header host (outside_of files areas header) areas) (sym none)
+    (record { at = λ paging. by (areas (area_name host)) refl (area_told areas (length header.frames.items) host paging below) })
   where
     by : (t : Option (Option (List ℕ))) → areas (area_name host) ≡ t → is_some (areas (area_name host)) ≡ true → PagingHasPages header host areas []
     by None is some = absurd (let bad : false ≡ true = ap is_some (sym is) ∙ some in cc)
@@ -137,15 +145,19 @@ told_some : (t : Told) → is_some t ≡ true → (was : Option (List ℕ)) × (
 told_some None some = absurd (cc)
 told_some (Some was) some = (was, refl)
 
-file_told : (header : Header) (areas : List ℕ → Told) (o : ℕ) → are_told areas header.objects.items ≡ true → is_file header o ≡ true → (was : Option (List ℕ)) × (areas (name_of header o) ≡ Some was)
+file_told : (header : Header) (areas : List ℕ → Told) (o : ℕ) → are_told areas header.objects.items ≡ true → is_file header o ≡ true → (was : Option (List ℕ))
+    × (areas (name_of header o) ≡ Some was)
 file_told header areas o told file =
     let found = each_declared (λ object. is_told areas object ≡ true) header o (all_tell areas header.objects.items told) (file_below header o file) in
     let named_so : name_of header o ≡ found.0.name = ap name_kept found.1 in
-    let kept : is_file_kind found.0.kind ≡ true = sym (ap is_file_kept found.1) ∙ (and_parts (nat_lt o (named header)) (is_file_kept (declared header o)) file).1 in
-    told_some (areas (name_of header o)) (subst (λ z. is_some (areas z) ≡ true) (sym named_so) (tells_file (is_file_kind found.0.kind) (is_some (areas found.0.name)) kept found.2))
+    let kept : is_file_kind found.0.kind ≡ true = sym (ap is_file_kept found.1)
+    ∙ (and_parts (nat_lt o (named header)) (is_file_kept (declared header o)) file).1 in
+    told_some (areas (name_of header o)) (subst (λ z. is_some (areas z) ≡ true) (sym named_so)
+    (tells_file (is_file_kind found.0.kind) (is_some (areas found.0.name)) kept found.2))
 
 -- what is told where
-told_apart : (told file paging : Bool) (pages : ℕ → ℕ → List ℕ) → file ≡ true → told ≡ false → (if file then not (are_untold (if told then FilesTold pages else Untold) && file) else paging) ≡ true → ⊥
+told_apart : (told file paging : Bool) (pages : ℕ → ℕ → List ℕ) → file ≡ true → told ≡ false
+    → (if file then not (are_untold (if told then FilesTold pages else Untold) && file) else paging) ≡ true → ⊥
 told_apart true file paging pages is none tells = absurd (cc)
 told_apart false false paging pages is none tells = absurd (cc)
 told_apart false true paging pages is none tells = absurd (cc)
@@ -163,7 +175,8 @@ files_told header files areas = record { at = λ o tells file. by (are_told file
 
     by : (b : Bool) → are_told files header.objects.items ≡ b → (o : ℕ) → tells header (outside_of files areas header) o ≡ true → is_file header o ≡ true
         → (was : Option (List ℕ)) × (files (name_of header o) ≡ Some was) × IsStartTold header (outside_of files areas header) o was
-    by false none o says file = absurd (told_apart (are_told files header.objects.items) (is_file header o) (outside_of files areas header).paging pages file none says)
+    by false none o says file =
+        absurd (told_apart (are_told files header.objects.items) (is_file header o) (outside_of files areas header).paging pages file none says)
     by true all o says file =
         let found = file_told header files o all file in (
           found.0,

@@ -19,12 +19,15 @@ use Rattle.vm_top.specs.Losses.{HasNotFailed, LosesUnslotted}
 use Rattle.vm_top.proofs.Resting.{causes_of, ends_legal}
 
 -- no failure of this backing is told
-none_told : (told before now arming whole : ℕ) → (told + before ≤ now + arming) ⊎ CountRises whole whole → now ≡ before → arming ≡ 0 → (CountRises whole whole → ⊥) → told ≡ 0
+none_told : (told before now arming whole : ℕ) → (told + before ≤ now + arming) ⊎ CountRises whole whole → now ≡ before → arming ≡ 0
+    → (CountRises whole whole → ⊥) → told ≡ 0
 none_told told before now arming whole (inl few) within unarmed counts = omega (arith, few, within, unarmed)
 none_told told before now arming whole (inr last) within unarmed counts = absurd (counts last)
 
-pub untold : (who : Device) (run : List Numbered) (before now whole : ℕ) (h : List Event) → FailuresBounded who run before now whole h → HasNotFailed who run before now whole → devices who h ≡ 0
-untold who run before now whole h bounded spared = none_told (devices who h) before now (armings (arms who) run) whole bounded spared.within spared.unarmed spared.counts
+pub untold : (who : Device) (run : List Numbered) (before now whole : ℕ) (h : List Event) → FailuresBounded who run before now whole h
+    → HasNotFailed who run before now whole → devices who h ≡ 0
+untold who run before now whole h bounded spared =
+    none_told (devices who h) before now (armings (arms who) run) whole bounded spared.within spared.unarmed spared.counts
 
 one_less : (n : ℕ) → n + 1 ≡ 0 → ⊥
 one_less n is = omega arith
@@ -37,7 +40,8 @@ no_device (event.DeviceFailed device.Paging way object page ∷ past) files pagi
 no_device (e ∷ past) files paging = no_device past files paging
 
 -- however a run ended
-pub loses_unslotted : (report : Report) (run : Script) (outside : Outside) (h : List Event) (before after : Option (List ℕ)) (s : Status) → EndsAs report run outside h before after s
+pub loses_unslotted : (report : Report) (run : Script) (outside : Outside) (h : List Event) (before after : Option (List ℕ)) (s : Status)
+    → EndsAs report run outside h before after s
     → devices device.Files h ≡ 0 → devices device.Paging h ≡ 0 → LosesUnslotted (Some run) h
 loses_unslotted report run outside h before after s ends files paging =
     let legal = ends_legal report run outside h before after s ends in

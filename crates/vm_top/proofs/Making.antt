@@ -11,4 +11,5 @@ use Rattle.vm_top.proofs.Ends.{runnable}
 
 pub made_runnable : (number lines : ℕ) (script : Script) → IsMade number lines script → KeepsRanges script → IsRunnable script
 made_runnable number lines script made ranges =
-    runnable script ranges (rw made.header.objects (All-cons (λ object. object.kind ≢ kinds.Temp) shared_object [] (λ is. absurd (let bad : kinds.Shared ≡ kinds.Temp = is in cc)) (All-nil (λ object. object.kind ≢ kinds.Temp))))
+    runnable script ranges (rw made.header.objects (All-cons (λ object. object.kind ≢ kinds.Temp) shared_object []
+    (λ is. absurd (let bad : kinds.Shared ≡ kinds.Temp = is in cc)) (All-nil (λ object. object.kind ≢ kinds.Temp))))

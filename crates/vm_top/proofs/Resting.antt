@@ -23,7 +23,8 @@ use Rattle.vm_top.proofs.Closing.{full_so_far, whole_so_far}
 use Rattle.vm_legal.proofs.Turns.{so_far_of as weak_so_far}
 
 -- also where a write failed
-failed_legal : (report : Report) (run : Script) (outside : Outside) (h : List Event) (before after : Option (List ℕ)) → WroteFailed report run outside h before after → CanonicalSoFar run outside h
+failed_legal : (report : Report) (run : Script) (outside : Outside) (h : List Event) (before after : Option (List ℕ))
+    → WroteFailed report run outside h before after → CanonicalSoFar run outside h
 failed_legal History run outside h before after failed = record {
   later = failed.later;
   run = failed.next ∷ failed.run;
@@ -38,7 +39,8 @@ failed_legal History run outside h before after failed = record {
 }
 failed_legal Summary run outside h before after failed = failed.0
 
-pub ends_legal : (report : Report) (run : Script) (outside : Outside) (h : List Event) (before after : Option (List ℕ)) (s : Status) → EndsAs report run outside h before after s → CanonicalSoFar run outside h
+pub ends_legal : (report : Report) (run : Script) (outside : Outside) (h : List Event) (before after : Option (List ℕ)) (s : Status)
+    → EndsAs report run outside h before after s → CanonicalSoFar run outside h
 ends_legal report run outside h before after status.Done ends = whole_so_far run outside h ends.0
 ends_legal report run outside h before after status.EventLimit ends = full_so_far run outside h ends.0
 ends_legal report run outside h before after status.OutputFault ends = failed_legal report run outside h before after ends
@@ -50,14 +52,17 @@ ends_legal report run outside h before after (status.BadScript line kind) ends =
 pub causes_of : (run : Script) (outside : Outside) (h : List Event) → CanonicalSoFar run outside h → EachEvent (HasCause run.header outside) h
 causes_of run outside h legal = so_far run.header outside legal.run h (weak_so_far run.header outside legal.run h legal.follows)
 
-pub waits_for_frames : (report : Report) (run : Script) (outside : Outside) (h : List Event) (before after : Option (List ℕ)) (s : Status) → IsRunnable run → EndsAs report run outside h before after s
+pub waits_for_frames : (report : Report) (run : Script) (outside : Outside) (h : List Event) (before after : Option (List ℕ)) (s : Status) → IsRunnable run
+    → EndsAs report run outside h before after s
     → WaitsForFramesAlone (Some run) h
 waits_for_frames report run outside h before after s runs ends delivered =
     let legal = ends_legal report run outside h before after s ends in
     let causes = causes_of run outside h legal in
-    nobody_waits run.header outside h (none_temporary run.header runs.served.ranged) causes legal.holds.own_bytes legal.holds.paid legal.rests.paid legal.rests.served legal.rests.prompt delivered
+    nobody_waits run.header outside h (none_temporary run.header runs.served.ranged) causes legal.holds.own_bytes legal.holds.paid legal.rests.paid
+    legal.rests.served legal.rests.prompt delivered
 
-pub carries_all : (report : Report) (run : Script) (outside : Outside) (h : List Event) (before after : Option (List ℕ)) (s : Status) → IsRunnable run → EndsAs report run outside h before after s
+pub carries_all : (report : Report) (run : Script) (outside : Outside) (h : List Event) (before after : Option (List ℕ)) (s : Status) → IsRunnable run
+    → EndsAs report run outside h before after s
     → CarriesAll (Some run) h
 carries_all report run outside h before after s runs ends =
     let legal = ends_legal report run outside h before after s ends in

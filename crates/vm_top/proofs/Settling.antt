@@ -52,13 +52,15 @@ pub record Took {F P : Type 0} (given : RunTaking F P) (old new : List Event) (f
   pub devices : (who : Device) → DevicesHaveCause who (counted who e0) (counted who e1) old new
 
 -- a taking was made
-pub record Held {F P : Type 0} (given : RunTaking F P) (line : ℕ) (run : List Numbered) (old new : List Event) (f1 : Arming F) (p1 : Arming P) (e1 : FaultCounts) : Type 0 where
+pub record Held {F P : Type 0} (given : RunTaking F P) (line : ℕ) (run : List Numbered) (old new : List Event) (f1 : Arming F) (p1 : Arming P)
+    (e1 : FaultCounts) : Type 0 where
   pub lines : count_of is_line new ≡ count_of is_line old
   pub here : ran_of given.running.script new ≡ settle_at given line ∷ run
   pub legal : TakesMore given.running.script.header given.running.outside (settle_at given line) run old new
   pub left : Left given.running new f1 p1 e1
 
-pub held : {F P : Type 0} (report : Report) (given : RunTaking F P) (old new : List Event) (was : Option (List ℕ)) (f0 f1 : Arming F) (p0 p1 : Arming P) (e0 e1 : FaultCounts)
+pub held : {F P : Type 0} (report : Report) (given : RunTaking F P) (old new : List Event) (was : Option (List ℕ)) (f0 f1 : Arming F) (p0 p1 : Arming P)
+    (e0 e1 : FaultCounts)
     → (settles : Settles report given old was f0 p0 e0) → Took given old new f0 f1 p0 p1 e0 e1 → Held given settles.line settles.run old new f1 p1 e1
 held report given old new was f0 f1 p0 p1 e0 e1 settles took =
     let n = settle_at given settles.line in
@@ -86,7 +88,8 @@ held report given old new was f0 f1 p0 p1 e0 e1 settles took =
     }
 
 -- the settle goes on, where the taking was shown
-pub settles_on : {F P : Type 0} (report : Report) (given : RunTaking F P) (line : ℕ) (run : List Numbered) (old new : List Event) (now : Option (List ℕ)) (f1 : Arming F) (p1 : Arming P) (e1 : FaultCounts)
+pub settles_on : {F P : Type 0} (report : Report) (given : RunTaking F P) (line : ℕ) (run : List Numbered) (old new : List Event) (now : Option (List ℕ))
+    (f1 : Arming F) (p1 : Arming P) (e1 : FaultCounts)
     → Held given line run old new f1 p1 e1 → Appends given.running.start now (text_so_far report new) → Settles report given new now f1 p1 e1
 settles_on report given line run old new now f1 p1 e1 step wrote = record {
   keeps = record { below = step.left.below; written = wrote; arms = step.left.arms; failed = step.left.failed };
@@ -100,12 +103,15 @@ settles_on report given line run old new now f1 p1 e1 step wrote = record {
 abbrev pub behind : {F P : Type 0} → RunTaking F P → List Event → List Numbered
 behind given h = take (length given.running.script.commands.items - count_of is_line h) given.running.script.commands.items
 
-order_of : {F P : Type 0} (given : RunTaking F P) (n : Numbered) (run : List Numbered) (h : List Event) → ran_of given.running.script h ≡ n ∷ run → given.running.script.commands.items ≡ behind given h ++ n ∷ run
+order_of : {F P : Type 0} (given : RunTaking F P) (n : Numbered) (run : List Numbered) (h : List Event) → ran_of given.running.script h ≡ n ∷ run
+    → given.running.script.commands.items ≡ behind given h ++ n ∷ run
 order_of given n run h here = order_at given.running.script.commands.items (count_of is_line h) ∙ ap (λ z. behind given h ++ z) here
 
 -- a write failed behind the taking
-take_failed : {F P : Type 0} (report : Report) (given : RunTaking F P) (line : ℕ) (run : List Numbered) (old new : List Event) (now : Option (List ℕ)) (f1 : Arming F) (p1 : Arming P) (e1 : FaultCounts)
-    → HasMore given.command old → before_step new ≡ old → Held given line run old new f1 p1 e1 → (report ≡ reports.History) × WroteBeyond given.running.start now (text old) (text new)
+take_failed : {F P : Type 0} (report : Report) (given : RunTaking F P) (line : ℕ) (run : List Numbered) (old new : List Event) (now : Option (List ℕ))
+    (f1 : Arming F) (p1 : Arming P) (e1 : FaultCounts)
+    → HasMore given.command old → before_step new ≡ old → Held given line run old new f1 p1 e1 → (report ≡ reports.History)
+    × WroteBeyond given.running.start now (text old) (text new)
     → RanAs report given.running.script given.running.outside new ends.Failed given.running.start now
 take_failed report given line run old new now f1 p1 e1 more front step wrote =
     let shows : front_of given.command new ≡ old = ap (λ z. front_of z new) more.is ∙ front in (
@@ -121,28 +127,45 @@ take_failed report given line run old new now f1 p1 e1 more front step wrote =
     )
 
 -- memory ended behind the taking
-take_unshown : {F P : Type 0} (report : Report) (given : RunTaking F P) (line : ℕ) (run : List Numbered) (old new : List Event) (now : Option (List ℕ)) (f1 : Arming F) (p1 : Arming P) (e1 : FaultCounts)
-    → GrowsWithinLimit old new → Held given line run old new f1 p1 e1 → Appends given.running.start now (text_so_far report old) → RanAs report given.running.script given.running.outside new ends.NoMemory given.running.start now
+take_unshown : {F P : Type 0} (report : Report) (given : RunTaking F P) (line : ℕ) (run : List Numbered) (old new : List Event) (now : Option (List ℕ))
+    (f1 : Arming F) (p1 : Arming P) (e1 : FaultCounts)
+    → GrowsWithinLimit old new → Held given line run old new f1 p1 e1 → Appends given.running.start now (text_so_far report old)
+    → RanAs report given.running.script given.running.outside new ends.NoMemory given.running.start now
 take_unshown report given line run old new now f1 p1 e1 grew step wrote = (
-  open_so_far given.running.script given.running.outside (behind given new) (settle_at given line ∷ run) new (order_of given (settle_at given line) run new step.here) step.legal.so_far,
+  open_so_far given.running.script given.running.outside (behind given new) (settle_at given line ∷ run) new
+      (order_of given (settle_at given line) run new step.here) step.legal.so_far,
   shown_grown report given.running.start now old new grew wrote,
 )
 
 -- how the run stops behind a taking: a write failed, or memory ended
-pub held_stops : {F P : Type 0} (report : Report) (given : RunTaking F P) (line : ℕ) (run : List Numbered) (old new : List Event) (now : Option (List ℕ)) (f1 : Arming F) (p1 : Arming P) (e1 : FaultCounts) (how : RunEnd)
+pub held_stops : {F P : Type 0} (report : Report) (given : RunTaking F P) (line : ℕ) (run : List Numbered) (old new : List Event) (now : Option (List ℕ))
+    (f1 : Arming F) (p1 : Arming P) (e1 : FaultCounts) (how : RunEnd)
     → HasMore given.command old → before_step new ≡ old → GrowsWithinLimit old new → Held given line run old new f1 p1 e1
-    → (how ≡ ends.Failed → (report ≡ reports.History) × WroteBeyond given.running.start now (text old) (text new)) → (how ≡ ends.NoMemory → Appends given.running.start now (text_so_far report old))
+    → (how ≡ ends.Failed → (report ≡ reports.History) × WroteBeyond given.running.start now (text old) (text new))
+    → (how ≡ ends.NoMemory → Appends given.running.start now (text_so_far report old))
     → (how ≡ ends.Failed) ⊎ (how ≡ ends.NoMemory) → RunStops report given.running new now f1 p1 e1 how
 held_stops report given line run old new now f1 p1 e1 how more front grew step failed none (inl is) =
     subst (RunStops report given.running new now f1 p1 e1) (sym is)
-    (record { ran = take_failed report given line run old new now f1 p1 e1 more front step (failed is); below = step.left.below; arms = step.left.arms; failed = step.left.failed })
+    (record {
+      ran = take_failed report given line run old new now f1 p1 e1 more front step (failed is);
+      below = step.left.below;
+      arms = step.left.arms;
+      failed = step.left.failed;
+    })
 held_stops report given line run old new now f1 p1 e1 how more front grew step failed none (inr is) =
     subst (RunStops report given.running new now f1 p1 e1) (sym is)
-    (record { ran = take_unshown report given line run old new now f1 p1 e1 grew step (none is); below = step.left.below; arms = step.left.arms; failed = step.left.failed })
+    (record {
+      ran = take_unshown report given line run old new now f1 p1 e1 grew step (none is);
+      below = step.left.below;
+      arms = step.left.arms;
+      failed = step.left.failed;
+    })
 
 -- for want of memory the taking was not made
-pub take_stops : {F P : Type 0} (report : Report) (given : RunTaking F P) (old new : List Event) (now : Option (List ℕ)) (f0 f1 : Arming F) (p0 p1 : Arming P) (e0 e1 : FaultCounts)
-    → Settles report given old now f0 p0 e0 → GrowsWithinLimit old new → new ≡ old → KeepsArming f0 f1 → KeepsArming p0 p1 → ((who : Device) → DevicesHaveCause who (counted who e0) (counted who e1) old new)
+pub take_stops : {F P : Type 0} (report : Report) (given : RunTaking F P) (old new : List Event) (now : Option (List ℕ)) (f0 f1 : Arming F) (p0 p1 : Arming P)
+    (e0 e1 : FaultCounts)
+    → Settles report given old now f0 p0 e0 → GrowsWithinLimit old new → new ≡ old → KeepsArming f0 f1 → KeepsArming p0 p1
+    → ((who : Device) → DevicesHaveCause who (counted who e0) (counted who e1) old new)
     → RunStops report given.running new now f1 p1 e1 ends.NoMemory
 take_stops report given old new now f0 f1 p0 p1 e0 e1 settles grew same files paging devices =
     let script = given.running.script in
@@ -158,8 +181,10 @@ take_stops report given old new now f0 f1 p0 p1 e0 e1 settles grew same files pa
     }
 
 -- the history is full, and something is there to take
-pub take_full : {F P : Type 0} (report : Report) (given : RunTaking F P) (h : List Event) (now : Option (List ℕ)) (f : Arming F) (p : Arming P) (e : FaultCounts)
-    → Settles report given h now f p e → HasMore given.command h → most_events ≤ length h → undelivered h ≢ [] → RunStops report given.running h now f p e ends.EventLimit
+pub take_full : {F P : Type 0} (report : Report) (given : RunTaking F P) (h : List Event) (now : Option (List ℕ)) (f : Arming F) (p : Arming P)
+    (e : FaultCounts)
+    → Settles report given h now f p e → HasMore given.command h → most_events ≤ length h → undelivered h ≢ []
+    → RunStops report given.running h now f p e ends.EventLimit
 take_full report given h now f p e settles more full some = record {
   ran = (
     record {
@@ -189,8 +214,10 @@ pub counts_same : (a b c d : ℕ) → a ≡ c → b ≡ d → counts_of a b ≡ 
 counts_same a b c d files paging = ap (λ z. counts_of z b) files ∙ ap (counts_of c) paging
 
 -- nothing has changed
-pub stops_same : {F P : Type 0} (report : Report) (given : RunTaking F P) (old new : List Event) (now : Option (List ℕ)) (f0 f1 : Arming F) (p0 p1 : Arming P) (e0 e1 : FaultCounts) (how end : RunEnd)
-    → new ≡ old → f1 ≡ f0 → p1 ≡ p0 → e1 ≡ e0 → end ≡ how → RunStops report given.running old now f0 p0 e0 how → RunStops report given.running new now f1 p1 e1 end
+pub stops_same : {F P : Type 0} (report : Report) (given : RunTaking F P) (old new : List Event) (now : Option (List ℕ)) (f0 f1 : Arming F) (p0 p1 : Arming P)
+    (e0 e1 : FaultCounts) (how end : RunEnd)
+    → new ≡ old → f1 ≡ f0 → p1 ≡ p0 → e1 ≡ e0 → end ≡ how → RunStops report given.running old now f0 p0 e0 how
+    → RunStops report given.running new now f1 p1 e1 end
 stops_same report given old new now f0 f1 p0 p1 e0 e1 how end h f p e is was =
     subst (λ z. RunStops report given.running z now f1 p1 e1 end) (sym h)
     (subst (λ z. RunStops report given.running old now z p1 e1 end) (sym f)
@@ -200,14 +227,26 @@ stops_same report given old new now f0 f1 p0 p1 e0 e1 how end h f p e is was =
 
 -- a settle that has taken its messages, or all, is whole
 settled : (header : Header) (outside : Outside) (line count : ℕ) (run : List Numbered) (h : List Event) → (takings h ≡ count) ⊎ (undelivered h ≡ [])
-    → CanonicalOpen header outside (record { line = line; command = command.Settle count } ∷ run) h → CanonicalFor header outside (record { line = line; command = command.Settle count } ∷ run) h
-settled header outside line count run h end legal = record { follows = whole_of legal.follows; holds = legal.holds; rests = legal.rests; ended = legal.ended; last = legal.last; recalled = legal.recalled; recalls = legal.recalls }
+    → CanonicalOpen header outside (record { line = line; command = command.Settle count } ∷ run) h
+    → CanonicalFor header outside (record { line = line; command = command.Settle count } ∷ run) h
+settled header outside line count run h end legal =
+    record {
+      follows = whole_of legal.follows;
+      holds = legal.holds;
+      rests = legal.rests;
+      ended = legal.ended;
+      last = legal.last;
+      recalled = legal.recalled;
+      recalls = legal.recalls;
+    }
   where
-    whole_of : FollowsSoFarInTurn header outside (record { line = line; command = command.Settle count } ∷ run) h → FollowsInTurn header outside (record { line = line; command = command.Settle count } ∷ run) h
+    whole_of : FollowsSoFarInTurn header outside (record { line = line; command = command.Settle count } ∷ run) h
+        → FollowsInTurn header outside (record { line = line; command = command.Settle count } ∷ run) h
     whole_of (past, group, is, made, done, follows) = (past, group, is, made, subst (λ z. (takings z ≡ count) ⊎ (undelivered z ≡ [])) is end, follows)
 
 -- a settle has ended
-pub settle_runs : {F P : Type 0} (report : Report) (given : RunTaking F P) (count : ℕ) (h : List Event) (now : Option (List ℕ)) (f : Arming F) (p : Arming P) (e : FaultCounts) → given.command ≡ command.Settle count
+pub settle_runs : {F P : Type 0} (report : Report) (given : RunTaking F P) (count : ℕ) (h : List Event) (now : Option (List ℕ)) (f : Arming F) (p : Arming P)
+    (e : FaultCounts) → given.command ≡ command.Settle count
     → Settles report given h now f p e → (takings h ≡ count) ⊎ (undelivered h ≡ []) → IsBetweenCommands report given.running h now f p e
 settle_runs report given count h now f p e is settles end =
     let header = given.running.script.header in
@@ -216,11 +255,14 @@ settle_runs report given count h now f p e is settles end =
     let legal = settled header outside settles.line count settles.run h end open_is in
     record {
       keeps = settles.keeps;
-      legal = subst (λ z. CanonicalFor header outside z h) (sym settles.here) (subst (λ z. CanonicalFor header outside (record { line = settles.line; command = z } ∷ settles.run) h) (sym is) legal);
+      legal =
+          subst (λ z. CanonicalFor header outside z h) (sym settles.here) (subst (λ z. CanonicalFor header outside
+          (record { line = settles.line; command = z } ∷ settles.run) h) (sym is) legal);
     }
 
 -- behind its line a settle has taken nothing
-pub turned_settles : {F P : Type 0} (report : Report) (given : Running F P) (n : Numbered) (count : ℕ) (h : List Event) (now : Option (List ℕ)) (f : Arming F) (p : Arming P) (e : FaultCounts) → n.command ≡ command.Settle count
+pub turned_settles : {F P : Type 0} (report : Report) (given : Running F P) (n : Numbered) (count : ℕ) (h : List Event) (now : Option (List ℕ)) (f : Arming F)
+    (p : Arming P) (e : FaultCounts) → n.command ≡ command.Settle count
     → Turned report given n h now f p e → Settles report (record { running = given; command = command.Settle count }) h now f p e
 turned_settles report given n count h now f p e is turned = record {
   keeps = turned.keeps;
@@ -230,7 +272,8 @@ turned_settles report given n count h now f p e is turned = record {
   legal = subst (λ z. CanonicalOpen given.script.header given.outside (record { line = n.line; command = z } ∷ turned.run) h) is turned.next.so_far;
 }
 
-pub turned_none : {F P : Type 0} (report : Report) (given : Running F P) (n : Numbered) (count : ℕ) (h : List Event) (now : Option (List ℕ)) (f : Arming F) (p : Arming P) (e : FaultCounts) → n.command ≡ command.Settle count
+pub turned_none : {F P : Type 0} (report : Report) (given : Running F P) (n : Numbered) (count : ℕ) (h : List Event) (now : Option (List ℕ)) (f : Arming F)
+    (p : Arming P) (e : FaultCounts) → n.command ≡ command.Settle count
     → Turned report given n h now f p e → takings h ≡ 0
 turned_none report given n count h now f p e is turned = elim turned.next.none [
   | inl none ↦ none

@@ -1,5 +1,6 @@
 -- A run begins with nothing, is given the commands one after another, and stays legal as far as it goes.
-use Rattle.std.proofs.Common.{false, true, ◌≡◌, ℕ, ◌+◌, ◌-◌, ◌<◌, ◌≤◌, List, [], ◌∷◌, ◌++◌, length, drop, take, get_or, reverse, refl, ap, sym, ◌∙◌, subst, arith, slice_get, None, Some, Option, append_assoc}
+use Rattle.std.proofs.Common.{false, true, ◌≡◌, ℕ, ◌+◌, ◌-◌, ◌<◌, ◌≤◌, List, [], ◌∷◌, ◌++◌, length, drop, take, get_or, reverse, refl, ap, sym, ◌∙◌, subst}
+use Rattle.std.proofs.Common.{arith, slice_get, None, Some, Option, append_assoc}
 use Rattle.std.specs.Prelude.{IfSome}
 use Rattle.std.proofs.lemmas.List.Elements.{All-get_or}
 use Rattle.std.proofs.lemmas.List.{take-append-drop, get_or-reverse, length-reverse}
@@ -63,12 +64,27 @@ legal_start header outside = record {
     pages = λ object page shared. legal header outside [] tt tt object page shared;
   };
   rests = record {
-    prompt = λ host below. record { leads = start_leads header host; waits = start_waits header host; swept = record { pages = λ object page temporary away. refl; controls = λ object temporary away. refl; declared_pages = λ object page below unheld. refl; declared_controls = λ object below unheld. refl } };
+    prompt =
+        λ host below. record {
+          leads = start_leads header host;
+          waits = start_waits header host;
+          swept = record {
+            pages = λ object page temporary away. refl;
+            controls = λ object temporary away. refl;
+            declared_pages = λ object page below unheld. refl;
+            declared_controls = λ object below unheld. refl;
+          };
+        };
     paid = start_paid header;
     served = λ object page shared some. absurd (some refl);
   };
   ended = tt;
-  last = record { ended = λ host object page is. absurd (nothing is); served = one_served header 0 [] [] tt tt tt tt; awake = λ host below task comes. absurd (nothing comes.waits.waits) };
+  last =
+      record {
+        ended = λ host object page is. absurd (nothing is);
+        served = one_served header 0 [] [] tt tt tt tt;
+        awake = λ host below task comes. absurd (nothing comes.waits.waits);
+      };
   recalled = tt;
   recalls = start_recalled header;
 }
@@ -87,7 +103,8 @@ pub oldest_all : {A : Type 0} (items : List A) (n : ℕ) → length items ≤ n 
 oldest_all items n le = let nothing : length items - n ≡ 0 = omega arith in ap (λ z. drop z items) nothing
 
 -- the commands, one after another
-pub range_at : (script : Script) (i : ℕ) (n : Numbered) → IsRunnable script → slice_get (reverse script.commands.items) i ≡ Some n → InRange script.header n.command
+pub range_at : (script : Script) (i : ℕ) (n : Numbered) → IsRunnable script → slice_get (reverse script.commands.items) i ≡ Some n
+    → InRange script.header n.command
 range_at script i n runs found =
     let items = script.commands.items in
     let inside = slice_get_within (reverse items) i n found in
@@ -100,9 +117,11 @@ range_at script i n runs found =
 pub order_at : {A : Type 0} (items : List A) (i : ℕ) → items ≡ take (length items - i) items ++ oldest_items i items
 order_at items i = sym (take-append-drop (length items - i) items)
 
-pub order_next : {A : Type 0} (items : List A) (i : ℕ) (n : A) → oldest_items (i + 1) items ≡ n ∷ oldest_items i items → items ≡ take (length items - (i + 1)) items ++ n ∷ oldest_items i items
+pub order_next : {A : Type 0} (items : List A) (i : ℕ) (n : A) → oldest_items (i + 1) items ≡ n ∷ oldest_items i items
+    → items ≡ take (length items - (i + 1)) items ++ n ∷ oldest_items i items
 order_next items i n next = order_at items (i + 1) ∙ ap (λ z. take (length items - (i + 1)) items ++ z) next
 
 -- the same, with the command among those that are left
-pub order_left : {A : Type 0} (items : List A) (i : ℕ) (n : A) → oldest_items (i + 1) items ≡ n ∷ oldest_items i items → items ≡ (take (length items - (i + 1)) items ++ n ∷ []) ++ oldest_items i items
+pub order_left : {A : Type 0} (items : List A) (i : ℕ) (n : A) → oldest_items (i + 1) items ≡ n ∷ oldest_items i items
+    → items ≡ (take (length items - (i + 1)) items ++ n ∷ []) ++ oldest_items i items
 order_left items i n next = order_next items i n next ∙ sym (append_assoc (take (length items - (i + 1)) items) (n ∷ []) (oldest_items i items))

@@ -1,5 +1,6 @@
 -- A command's step keeps what a run keeps, or stops it.
-use Rattle.std.proofs.Common.{◌≡◌, ℕ, ◌+◌, ◌-◌, ◌<◌, ◌≤◌, ◌⊎◌, inl, inr, List, [], ◌∷◌, ◌++◌, length, reverse, slice_get, take, Option, Some, None, Err, refl, ap, sym, ◌∙◌, subst, arith, append_assoc, append-nil}
+use Rattle.std.proofs.Common.{◌≡◌, ℕ, ◌+◌, ◌-◌, ◌<◌, ◌≤◌, ◌⊎◌, inl, inr, List, [], ◌∷◌, ◌++◌, length, reverse, slice_get, take, Option, Some, None, Err, refl}
+use Rattle.std.proofs.Common.{ap, sym, ◌∙◌, subst, arith, append_assoc, append-nil}
 use Rattle.std.specs.Prelude.{IsErrOf}
 use Rattle.std.specs.Io.KnownBytes.{Appends}
 use Rattle.std.proofs.KnownBytes.{Appends-nil}
@@ -21,7 +22,8 @@ use Rattle.vm_legal.specs.Outside.{Outside}
 use Rattle.vm_legal.specs.Steps.{takings}
 use Rattle.vm_legal.proofs.Turns.{legal_of, open_in_turn}
 use Rattle.vm_outside.specs.Arming.{Arming, ArmedLater, KeepsArming}
-use Rattle.vm_system.specs.Steps.{DevicesHaveCause, GrowsWithinLimit, IsNextCanonical, KeepsCanonical, LeavesBacking, CanonicalOpen, IsBelowLimit, arms, settles}
+use Rattle.vm_system.specs.Steps.{DevicesHaveCause, GrowsWithinLimit, IsNextCanonical, KeepsCanonical, LeavesBacking, CanonicalOpen, IsBelowLimit, arms}
+use Rattle.vm_system.specs.Steps.{settles}
 use Rattle.vm_system.specs.declared.stop.SystemStop.{SystemStop}
 use Rattle.vm_system.specs.declared.stop.SystemStop.TheVariants as stops
 use Rattle.vm_top.specs.Arming.{BackingLeft, FailuresCounted, ran_of}
@@ -43,7 +45,8 @@ pub record BackingStep {B : Type 0} (header : Header) (who : Device) (n : Number
   pub later : arms who n.command ≡ None → ArmedLater before.left before.reached after.left after.reached
 
 -- what a command's step does, where it is made
-pub record Stepped {F P : Type 0} (header : Header) (outside : Outside) (n : Numbered) (old new : List Event) (f0 f1 : Arming F) (p0 p1 : Arming P) (e0 e1 : FaultCounts) : Type 0 where
+pub record Stepped {F P : Type 0} (header : Header) (outside : Outside) (n : Numbered) (old new : List Event) (f0 f1 : Arming F) (p0 p1 : Arming P)
+    (e0 e1 : FaultCounts) : Type 0 where
   pub legal : KeepsCanonical header outside n old new
   pub grew : GrowsWithinLimit old new
   pub front : before_last_line new ≡ old
@@ -52,7 +55,8 @@ pub record Stepped {F P : Type 0} (header : Header) (outside : Outside) (n : Num
   pub devices : (who : Device) → DevicesHaveCause who (counted who e0) (counted who e1) old new
 
 -- the command's line is one more
-pub lines_step : (header : Header) (outside : Outside) (n : Numbered) (run : List Numbered) (old new : List Event) → before_last_line new ≡ old → IsNextCanonical header outside n run new
+pub lines_step : (header : Header) (outside : Outside) (n : Numbered) (run : List Numbered) (old new : List Event) → before_last_line new ≡ old
+    → IsNextCanonical header outside n run new
     → count_of is_line new ≡ count_of is_line old + 1
 lines_step header outside n run old new front next = by_group next.so_far
   where
@@ -72,7 +76,8 @@ pub record Made {F P : Type 0} (given : Running F P) (n : Numbered) (old new : L
   pub next : IsNextCanonical given.script.header given.outside n (ran_of given.script old) new
   pub left : Left given new f1 p1 e1
 
-pub made : {F P : Type 0} (report : Report) (given : Running F P) (n : Numbered) (old new : List Event) (was : Option (List ℕ)) (f0 f1 : Arming F) (p0 p1 : Arming P) (e0 e1 : FaultCounts)
+pub made : {F P : Type 0} (report : Report) (given : Running F P) (n : Numbered) (old new : List Event) (was : Option (List ℕ)) (f0 f1 : Arming F)
+    (p0 p1 : Arming P) (e0 e1 : FaultCounts)
     → IsBetweenCommands report given old was f0 p0 e0 → IsNextOf given.script n old → InRange given.script.header n.command → length old < most_events
     → Stepped given.script.header given.outside n old new f0 f1 p0 p1 e0 e1 → Made given n old new f1 p1 e1
 made {F = F} {P = P} report given n old new was f0 f1 p0 p1 e0 e1 runs follows range below step =
@@ -80,8 +85,10 @@ made {F = F} {P = P} report given n old new was f0 f1 p0 p1 e0 e1 runs follows r
     let next = step.legal run runs.legal in
     let lines = lines_step given.script.header given.outside n run old new step.front next in
     let here : ran_of given.script new ≡ n ∷ run = ap (λ z. oldest_items z given.script.commands.items) lines ∙ follows in
-    let files = backing_step given.script.header device.Files n run old new given.files f0 f1 range step.files.leaves step.files.later step.front runs.keeps.arms.files in
-    let paging = backing_step given.script.header device.Paging n run old new given.paging p0 p1 range step.paging.leaves step.paging.later step.front runs.keeps.arms.paging in
+    let files = backing_step given.script.header device.Files n run old new given.files f0 f1 range step.files.leaves step.files.later step.front
+    runs.keeps.arms.files in
+    let paging = backing_step given.script.header device.Paging n run old new given.paging p0 p1 range step.paging.leaves step.paging.later step.front
+    runs.keeps.arms.paging in
     record {
       lines = lines;
       here = here;
@@ -106,7 +113,8 @@ text_grown (e ∷ more) old =
     let front = text_grown more old in
     (front.0 ++ line_of e, ap (λ z. z ++ line_of e) front.1 ∙ append_assoc (text old) front.0 (line_of e))
 
-pub shown_grown : (report : Report) (start now : Option (List ℕ)) (old new : List Event) → GrowsWithinLimit old new → Appends start now (text_so_far report old) → WroteStart start now (text_so_far report new)
+pub shown_grown : (report : Report) (start now : Option (List ℕ)) (old new : List Event) → GrowsWithinLimit old new → Appends start now (text_so_far report old)
+    → WroteStart start now (text_so_far report new)
 shown_grown reports.History start now old new grew wrote =
     let grown = text_grown grew.more old in
     subst (WroteStart start now) (sym (ap text grew.is ∙ grown.1)) (front_start start now (text old) grown.0 wrote)
@@ -114,7 +122,8 @@ shown_grown reports.Summary start now old new grew wrote = start_all start now [
 
 -- what is canonical for the first commands is so as far as it goes
 
-pub open_so_far : (script : Script) (outside : Outside) (later run : List Numbered) (h : List Event) → script.commands.items ≡ later ++ run → CanonicalOpen script.header outside run h → CanonicalSoFar script outside h
+pub open_so_far : (script : Script) (outside : Outside) (later run : List Numbered) (h : List Event) → script.commands.items ≡ later ++ run
+    → CanonicalOpen script.header outside run h → CanonicalSoFar script outside h
 open_so_far script outside later run h order legal = record {
   later = later;
   run = run;
@@ -128,7 +137,8 @@ open_so_far script outside later run h order legal = record {
   recalls = legal.recalls;
 }
 
-pub open_whole : (header : Header) (outside : Outside) (run : List Numbered) (h : List Event) → CanonicalFor header outside run h → CanonicalOpen header outside run h
+pub open_whole : (header : Header) (outside : Outside) (run : List Numbered) (h : List Event) → CanonicalFor header outside run h
+    → CanonicalOpen header outside run h
 open_whole header outside run h legal = record {
   follows = open_in_turn header outside run h legal.follows;
   holds = legal.holds;
@@ -143,12 +153,15 @@ open_whole header outside run h legal = record {
 abbrev pub left_of : {F P : Type 0} → Running F P → List Event → List Numbered
 left_of given old = take (length given.script.commands.items - (count_of is_line old + 1)) given.script.commands.items
 
-order_made : {F P : Type 0} (given : Running F P) (n : Numbered) (old : List Event) → IsNextOf given.script n old → given.script.commands.items ≡ left_of given old ++ n ∷ ran_of given.script old
+order_made : {F P : Type 0} (given : Running F P) (n : Numbered) (old : List Event) → IsNextOf given.script n old
+    → given.script.commands.items ≡ left_of given old ++ n ∷ ran_of given.script old
 order_made given n old follows = order_next given.script.commands.items (count_of is_line old) n follows
 
 -- a write failed behind a whole step
-pub turn_failed : {F P : Type 0} (report : Report) (given : Running F P) (n : Numbered) (old new : List Event) (now : Option (List ℕ)) (f1 : Arming F) (p1 : Arming P) (e1 : FaultCounts)
-    → IsNextOf given.script n old → before_last_line new ≡ old → Made given n old new f1 p1 e1 → (report ≡ reports.History) × WroteBeyond given.start now (text old) (text new)
+pub turn_failed : {F P : Type 0} (report : Report) (given : Running F P) (n : Numbered) (old new : List Event) (now : Option (List ℕ)) (f1 : Arming F)
+    (p1 : Arming P) (e1 : FaultCounts)
+    → IsNextOf given.script n old → before_last_line new ≡ old → Made given n old new f1 p1 e1 → (report ≡ reports.History)
+    × WroteBeyond given.start now (text old) (text new)
     → RanAs report given.script given.outside new ends.Failed given.start now
 turn_failed report given n old new now f1 p1 e1 follows front step wrote = (
   wrote.0,
@@ -163,7 +176,8 @@ turn_failed report given n old new now f1 p1 e1 follows front step wrote = (
 )
 
 -- memory ended behind a whole step
-pub turn_unshown : {F P : Type 0} (report : Report) (given : Running F P) (n : Numbered) (old new : List Event) (now : Option (List ℕ)) (f1 : Arming F) (p1 : Arming P) (e1 : FaultCounts)
+pub turn_unshown : {F P : Type 0} (report : Report) (given : Running F P) (n : Numbered) (old new : List Event) (now : Option (List ℕ)) (f1 : Arming F)
+    (p1 : Arming P) (e1 : FaultCounts)
     → IsNextOf given.script n old → GrowsWithinLimit old new → Made given n old new f1 p1 e1 → Appends given.start now (text_so_far report old)
     → RanAs report given.script given.outside new ends.NoMemory given.start now
 turn_unshown report given n old new now f1 p1 e1 follows grew step wrote = (
@@ -172,29 +186,44 @@ turn_unshown report given n old new now f1 p1 e1 follows grew step wrote = (
 )
 
 -- for want of memory the step was not made
-pub turn_refused : {F P : Type 0} (report : Report) (given : Running F P) (old new : List Event) (now : Option (List ℕ)) → CanonicalFor given.script.header given.outside (ran_of given.script old) old → new ≡ old
+pub turn_refused : {F P : Type 0} (report : Report) (given : Running F P) (old new : List Event) (now : Option (List ℕ))
+    → CanonicalFor given.script.header given.outside (ran_of given.script old) old → new ≡ old
     → Appends given.start now (text_so_far report old) → RanAs report given.script given.outside new ends.NoMemory given.start now
 turn_refused report given old new now legal same wrote =
     let script = given.script in
     let run = ran_of script old in
     let later = take (length script.commands.items - count_of is_line old) script.commands.items in
     subst (λ z. RanAs report script given.outside z ends.NoMemory given.start now) (sym same) (
-      open_so_far script given.outside later run old (order_at script.commands.items (count_of is_line old)) (open_whole script.header given.outside run old legal),
+      open_so_far script given.outside later run old (order_at script.commands.items (count_of is_line old))
+          (open_whole script.header given.outside run old legal),
       start_all given.start now (text_so_far report old) wrote,
     )
 
 -- how a turn stops behind its step: a write failed, or memory ended
-pub shown_stops : {F P : Type 0} (report : Report) (given : Running F P) (n : Numbered) (old new : List Event) (now : Option (List ℕ)) (f1 : Arming F) (p1 : Arming P) (e1 : FaultCounts) (how : RunEnd)
+pub shown_stops : {F P : Type 0} (report : Report) (given : Running F P) (n : Numbered) (old new : List Event) (now : Option (List ℕ)) (f1 : Arming F)
+    (p1 : Arming P) (e1 : FaultCounts) (how : RunEnd)
     → IsNextOf given.script n old → before_last_line new ≡ old → GrowsWithinLimit old new → Made given n old new f1 p1 e1
-    → (how ≡ ends.Failed → (report ≡ reports.History) × WroteBeyond given.start now (text old) (text new)) → (how ≡ ends.NoMemory → Appends given.start now (text_so_far report old))
+    → (how ≡ ends.Failed → (report ≡ reports.History) × WroteBeyond given.start now (text old) (text new))
+    → (how ≡ ends.NoMemory → Appends given.start now (text_so_far report old))
     → (how ≡ ends.Failed) ⊎ (how ≡ ends.NoMemory) → RunStops report given new now f1 p1 e1 how
 shown_stops report given n old new now f1 p1 e1 how follows front grew step failed none (inl is) =
-    subst (RunStops report given new now f1 p1 e1) (sym is) (record { ran = turn_failed report given n old new now f1 p1 e1 follows front step (failed is); below = step.left.below; arms = step.left.arms; failed = step.left.failed })
+    subst (RunStops report given new now f1 p1 e1) (sym is) (record {
+      ran = turn_failed report given n old new now f1 p1 e1 follows front step (failed is);
+      below = step.left.below;
+      arms = step.left.arms;
+      failed = step.left.failed;
+    })
 shown_stops report given n old new now f1 p1 e1 how follows front grew step failed none (inr is) =
-    subst (RunStops report given new now f1 p1 e1) (sym is) (record { ran = turn_unshown report given n old new now f1 p1 e1 follows grew step (none is); below = step.left.below; arms = step.left.arms; failed = step.left.failed })
+    subst (RunStops report given new now f1 p1 e1) (sym is) (record {
+      ran = turn_unshown report given n old new now f1 p1 e1 follows grew step (none is);
+      below = step.left.below;
+      arms = step.left.arms;
+      failed = step.left.failed;
+    })
 
 -- a backing whose arming was kept is armed as it was
-backing_kept : {B : Type 0} (header : Header) (who : Device) (run : List Numbered) (h : List Event) (start before after : Arming B) → KeepsArming before after → BackingRuns header who run h start before → BackingRuns header who run h start after
+backing_kept : {B : Type 0} (header : Header) (who : Device) (run : List Numbered) (h : List Event) (start before after : Arming B) → KeepsArming before after
+    → BackingRuns header who run h start before → BackingRuns header who run h start after
 backing_kept header who run h start before after kept was = record {
   left = record {
     none = λ none. rw (kept.0, kept.1) (was.left.none none);
@@ -205,7 +234,8 @@ backing_kept header who run h start before after kept was = record {
   rising = rw kept.1 was.rising;
 }
 
-pub arms_kept : {F P : Type 0} (given : Running F P) (old new : List Event) (f0 f1 : Arming F) (p0 p1 : Arming P) → new ≡ old → KeepsArming f0 f1 → KeepsArming p0 p1 → Arms given old f0 p0 → Arms given new f1 p1
+pub arms_kept : {F P : Type 0} (given : Running F P) (old new : List Event) (f0 f1 : Arming F) (p0 p1 : Arming P) → new ≡ old → KeepsArming f0 f1
+    → KeepsArming p0 p1 → Arms given old f0 p0 → Arms given new f1 p1
 arms_kept given old new f0 f1 p0 p1 same files paging was =
     let script = given.script in
     subst (λ z. Arms given z f1 p1) (sym same) (record {
@@ -214,8 +244,10 @@ arms_kept given old new f0 f1 p0 p1 same files paging was =
     })
 
 -- how a turn stops in its step
-pub step_stops : {F P : Type 0} (report : Report) (given : Running F P) (old new : List Event) (now : Option (List ℕ)) (f0 f1 : Arming F) (p0 p1 : Arming P) (e0 e1 : FaultCounts)
-    → IsBetweenCommands report given old now f0 p0 e0 → GrowsWithinLimit old new → new ≡ old → KeepsArming f0 f1 → KeepsArming p0 p1 → ((who : Device) → DevicesHaveCause who (counted who e0) (counted who e1) old new)
+pub step_stops : {F P : Type 0} (report : Report) (given : Running F P) (old new : List Event) (now : Option (List ℕ)) (f0 f1 : Arming F) (p0 p1 : Arming P)
+    (e0 e1 : FaultCounts)
+    → IsBetweenCommands report given old now f0 p0 e0 → GrowsWithinLimit old new → new ≡ old → KeepsArming f0 f1 → KeepsArming p0 p1
+    → ((who : Device) → DevicesHaveCause who (counted who e0) (counted who e1) old new)
     → RunStops report given new now f1 p1 e1 ends.NoMemory
 step_stops report given old new now f0 f1 p0 p1 e0 e1 runs grew same files paging devices = record {
   ran = turn_refused report given old new now runs.legal same runs.keeps.written;
@@ -225,7 +257,8 @@ step_stops report given old new now f0 f1 p0 p1 e0 e1 runs grew same files pagin
 }
 
 -- behind the step, where it was shown
-pub turned : {F P : Type 0} (report : Report) (given : Running F P) (n : Numbered) (old new : List Event) (now : Option (List ℕ)) (f1 : Arming F) (p1 : Arming P) (e1 : FaultCounts) → Made given n old new f1 p1 e1
+pub turned : {F P : Type 0} (report : Report) (given : Running F P) (n : Numbered) (old new : List Event) (now : Option (List ℕ)) (f1 : Arming F)
+    (p1 : Arming P) (e1 : FaultCounts) → Made given n old new f1 p1 e1
     → Appends given.start now (text_so_far report new) → Turned report given n new now f1 p1 e1
 turned report given n old new now f1 p1 e1 step wrote = record {
   keeps = record { below = step.left.below; written = wrote; arms = step.left.arms; failed = step.left.failed };
@@ -235,18 +268,21 @@ turned report given n old new now f1 p1 e1 step wrote = record {
 }
 
 -- why a step stops the run
-pub step_ends : (stop : SystemStop) (got end : RunEnd) → (stop ≡ stops.EventLimit → got ≡ ends.EventLimit) → (stop ≡ stops.NoMemory → got ≡ ends.NoMemory) → got ≡ end
+pub step_ends : (stop : SystemStop) (got end : RunEnd) → (stop ≡ stops.EventLimit → got ≡ ends.EventLimit) → (stop ≡ stops.NoMemory → got ≡ ends.NoMemory)
+    → got ≡ end
     → ((stop ≡ stops.EventLimit) × (end ≡ ends.EventLimit)) ⊎ ((stop ≡ stops.NoMemory) × (end ≡ ends.NoMemory))
 step_ends stops.EventLimit got end full none is = inl (refl, sym is ∙ full refl)
 step_ends stops.NoMemory got end full none is = inr (refl, sym is ∙ none refl)
 
 -- and that no write failed in it
-pub step_wrote : (stop : SystemStop) (got : RunEnd) → (stop ≡ stops.EventLimit → got ≡ ends.EventLimit) → (stop ≡ stops.NoMemory → got ≡ ends.NoMemory) → got ≡ ends.Failed → ⊥
+pub step_wrote : (stop : SystemStop) (got : RunEnd) → (stop ≡ stops.EventLimit → got ≡ ends.EventLimit) → (stop ≡ stops.NoMemory → got ≡ ends.NoMemory)
+    → got ≡ ends.Failed → ⊥
 step_wrote stops.EventLimit got full none is = let other = full refl in absurd (cc)
 step_wrote stops.NoMemory got full none is = let other = none refl in absurd (cc)
 
 -- the commands in front of the next one were run
-part_of : {F P : Type 0} (report : Report) (given : Running F P) (n : Numbered) (h : List Event) (now : Option (List ℕ)) (f : Arming F) (p : Arming P) (e : FaultCounts) → IsBetweenCommands report given h now f p e → IsNextOf given.script n h
+part_of : {F P : Type 0} (report : Report) (given : Running F P) (n : Numbered) (h : List Event) (now : Option (List ℕ)) (f : Arming F) (p : Arming P)
+    (e : FaultCounts) → IsBetweenCommands report given h now f p e → IsNextOf given.script n h
     → IsPart given.script given.outside (left_of given h ++ n ∷ []) (ran_of given.script h) h
 part_of report given n h now f p e runs follows = record {
   order = order_left given.script.commands.items (count_of is_line h) n follows;
@@ -254,7 +290,8 @@ part_of report given n h now f p e runs follows = record {
 }
 
 -- the history is full
-pub full_stops : {F P : Type 0} (report : Report) (given : Running F P) (n : Numbered) (h : List Event) (now : Option (List ℕ)) (f : Arming F) (p : Arming P) (e : FaultCounts) → IsBetweenCommands report given h now f p e → IsNextOf given.script n h
+pub full_stops : {F P : Type 0} (report : Report) (given : Running F P) (n : Numbered) (h : List Event) (now : Option (List ℕ)) (f : Arming F) (p : Arming P)
+    (e : FaultCounts) → IsBetweenCommands report given h now f p e → IsNextOf given.script n h
     → most_events ≤ length h → RunStops report given h now f p e ends.EventLimit
 full_stops report given n h now f p e runs follows full = record {
   ran = (
@@ -270,7 +307,8 @@ full_stops report given n h now f p e runs follows full = record {
 }
 
 -- a command other than a settle is whole behind its step
-pub turned_runs : {F P : Type 0} (report : Report) (given : Running F P) (n : Numbered) (h : List Event) (now : Option (List ℕ)) (f : Arming F) (p : Arming P) (e : FaultCounts) → Turned report given n h now f p e → settles n.command ≡ None
+pub turned_runs : {F P : Type 0} (report : Report) (given : Running F P) (n : Numbered) (h : List Event) (now : Option (List ℕ)) (f : Arming F) (p : Arming P)
+    (e : FaultCounts) → Turned report given n h now f p e → settles n.command ≡ None
     → IsBetweenCommands report given h now f p e
 turned_runs report given n h now f p e turned other = record {
   keeps = turned.keeps;
@@ -285,20 +323,25 @@ pub same_end : {T : Type 0} {a b : RunEnd} → IsErrOf {T = T} (Err a) b → a �
 same_end is = cc
 
 -- the command at an index is the next one where so many have a line
-pub next_at : (given script : Script) (i : ℕ) (n : Numbered) (h : List Event) → given ≡ script → slice_get (reverse script.commands.items) i ≡ Some n → count_of is_line h ≡ i → IsNextOf given n h
+pub next_at : (given script : Script) (i : ℕ) (n : Numbered) (h : List Event) → given ≡ script → slice_get (reverse script.commands.items) i ≡ Some n
+    → count_of is_line h ≡ i → IsNextOf given n h
 next_at given script i n h same found lines =
     subst (λ z. IsNextOf z n h) (sym same)
-    (subst (λ z. oldest_items (z + 1) script.commands.items ≡ n ∷ oldest_items z script.commands.items) (sym lines) (oldest_step script.commands.items i n found))
+    (subst (λ z. oldest_items (z + 1) script.commands.items ≡ n ∷ oldest_items z script.commands.items) (sym lines)
+    (oldest_step script.commands.items i n found))
 
-pub range_of : (given script : Script) (i : ℕ) (n : Numbered) → given ≡ script → IsRunnable script → slice_get (reverse script.commands.items) i ≡ Some n → InRange given.header n.command
+pub range_of : (given script : Script) (i : ℕ) (n : Numbered) → given ≡ script → IsRunnable script → slice_get (reverse script.commands.items) i ≡ Some n
+    → InRange given.header n.command
 range_of given script i n same runs found = subst (λ z. InRange z.header n.command) (sym same) (range_at script i n runs found)
 
 -- all commands have a line
-pub all_stops : {F P : Type 0} (report : Report) (given : Running F P) (h : List Event) (now : Option (List ℕ)) (f : Arming F) (p : Arming P) (e : FaultCounts) → IsBetweenCommands report given h now f p e
+pub all_stops : {F P : Type 0} (report : Report) (given : Running F P) (h : List Event) (now : Option (List ℕ)) (f : Arming F) (p : Arming P) (e : FaultCounts)
+    → IsBetweenCommands report given h now f p e
     → length given.script.commands.items ≤ count_of is_line h → RunStops report given h now f p e ends.Done
 all_stops report given h now f p e runs all =
     let whole = oldest_all given.script.commands.items (count_of is_line h) all in
-    let canonical : CanonicalFor given.script.header given.outside given.script.commands.items h = subst (λ z. CanonicalFor given.script.header given.outside z h) whole runs.legal in
+    let canonical : CanonicalFor given.script.header given.outside given.script.commands.items h = subst
+    (λ z. CanonicalFor given.script.header given.outside z h) whole runs.legal in
     record {
       ran = (
         record { legal = legal_of given.script.header given.outside given.script.commands.items h canonical; canonical = canonical },
@@ -321,32 +364,40 @@ start_backing header who start unarmed = record {
   rising = omega arith;
 }
 
-pub start_left : {B : Type 0} (script : Script) (who : Device) (start : Arming B) (h : List Event) → h ≡ [] → start.left ≡ 0 → BackingLeft script.header who (ran_of script h) h start start
+pub start_left : {B : Type 0} (script : Script) (who : Device) (start : Arming B) (h : List Event) → h ≡ [] → start.left ≡ 0
+    → BackingLeft script.header who (ran_of script h) h start start
 start_left script who start h nothing unarmed =
     subst (λ z. BackingLeft script.header who (ran_of script z) z start start) (sym nothing)
     (subst (λ z. BackingLeft script.header who z [] start start) (sym (oldest_none script.commands.items)) (start_backing script.header who start unarmed).left)
 
 -- a run begins with nothing
-start_run : {F P : Type 0} (report : Report) (given : Running F P) → given.files.left ≡ 0 → given.paging.left ≡ 0 → IsBetweenCommands report given [] given.start given.files given.paging given.faults
+start_run : {F P : Type 0} (report : Report) (given : Running F P) → given.files.left ≡ 0 → given.paging.left ≡ 0
+    → IsBetweenCommands report given [] given.start given.files given.paging given.faults
 start_run report given files paging =
     let none = oldest_none given.script.commands.items in
     record {
       keeps = record {
         below = tt;
         written = shown_none given.start report;
-        arms = arms_of given [] [] given.files given.paging none (start_backing given.script.header device.Files given.files files) (start_backing given.script.header device.Paging given.paging paging);
+        arms =
+            arms_of given [] [] given.files given.paging none (start_backing given.script.header device.Files given.files files)
+            (start_backing given.script.header device.Paging given.paging paging);
         failed = λ who. record { few = inl (omega arith); none = λ none. refl };
       };
       legal = subst (λ z. CanonicalFor given.script.header given.outside z []) (sym none) (legal_start given.script.header given.outside);
     }
 
-pub start_runs : {F P : Type 0} (report : Report) (given : Running F P) (h : List Event) → h ≡ [] → given.files.left ≡ 0 → given.paging.left ≡ 0 → IsBetweenCommands report given h given.start given.files given.paging given.faults
-start_runs report given h nothing files paging = subst (λ z. IsBetweenCommands report given z given.start given.files given.paging given.faults) (sym nothing) (start_run report given files paging)
+pub start_runs : {F P : Type 0} (report : Report) (given : Running F P) (h : List Event) → h ≡ [] → given.files.left ≡ 0 → given.paging.left ≡ 0
+    → IsBetweenCommands report given h given.start given.files given.paging given.faults
+start_runs report given h nothing files paging =
+    subst (λ z. IsBetweenCommands report given z given.start given.files given.paging given.faults) (sym nothing) (start_run report given files paging)
 
 -- nothing was run
-pub nothing_ran : (report : Report) (script : Script) (outside : Outside) (h : List Event) (written : Option (List ℕ)) → h ≡ [] → RanAs report script outside h ends.NoMemory written written
+pub nothing_ran : (report : Report) (script : Script) (outside : Outside) (h : List Event) (written : Option (List ℕ)) → h ≡ []
+    → RanAs report script outside h ends.NoMemory written written
 nothing_ran report script outside h written nothing =
     subst (λ z. RanAs report script outside z ends.NoMemory written written) (sym nothing) (
-      open_so_far script outside script.commands.items [] [] (sym (append-nil script.commands.items)) (open_whole script.header outside [] [] (legal_start script.header outside)),
+      open_so_far script outside script.commands.items [] [] (sym (append-nil script.commands.items))
+          (open_whole script.header outside [] [] (legal_start script.header outside)),
       start_all written written (text_so_far report []) (shown_none written report),
     )

@@ -1,5 +1,6 @@
 -- What is written grows with the events.
-use Rattle.std.proofs.Common.{◌≡◌, ℕ, suc, ◌+◌, ◌-◌, ◌<◌, List, [], ◌∷◌, ◌++◌, length, drop, take, get_or, reverse, refl, ap, sym, ◌∙◌, append_assoc, append-nil, arith, slice_get, Some, None, Option}
+use Rattle.std.proofs.Common.{◌≡◌, ℕ, suc, ◌+◌, ◌-◌, ◌<◌, List, [], ◌∷◌, ◌++◌, length, drop, take, get_or, reverse, refl, ap, sym, ◌∙◌, append_assoc}
+use Rattle.std.proofs.Common.{append-nil, arith, slice_get, Some, None, Option}
 use Rattle.std.proofs.Math.Seq.{drop-cons, drop-append_seam, take-append-add, take-append_seam}
 use Rattle.std.proofs.Common.{length-append}
 use Rattle.std.proofs.lemmas.List.{get_or-reverse, length-reverse}
@@ -36,7 +37,8 @@ beyond_of start old new front piece whole n is one two =
     (length front + n, omega arith, rw (← is, take-append-add front piece n) (Appends-trans start old new front (take n piece) one two))
 
 -- one event's line more
-pub grown_more : (h : List Event) (i : ℕ) (e : Event) (front begun : List ℕ) → oldest_items (i + 1) h ≡ e ∷ oldest_items i h → front ++ begun ≡ text (oldest_items i h)
+pub grown_more : (h : List Event) (i : ℕ) (e : Event) (front begun : List ℕ) → oldest_items (i + 1) h ≡ e ∷ oldest_items i h
+    → front ++ begun ≡ text (oldest_items i h)
     → front ++ (begun ++ line_of e) ≡ text (oldest_items (i + 1) h)
 grown_more h i e front begun step is =
     sym (append_assoc front begun (line_of e)) ∙ (ap (λ z. z ++ line_of e) is ∙ sym (ap text step))
@@ -82,7 +84,8 @@ start_none before after text kept = (0, keeps_nothing before after kept)
     keeps_nothing (Some b) (Some a) kept = kept ∙ sym (append-nil b)
 
 -- whatever a write answers, a first part of its piece was written
-pub start_of_write : (before after : Option (List ℕ)) (piece text : List ℕ) (result : Result (Unit {0}) WriteStop) → piece ≡ text → WriteEffects before after result piece → WroteStart before after text
+pub start_of_write : (before after : Option (List ℕ)) (piece text : List ℕ) (result : Result (Unit {0}) WriteStop) → piece ≡ text
+    → WriteEffects before after result piece → WroteStart before after text
 start_of_write before after piece text (Ok done) same wrote = start_all before after text (rw (← same) wrote)
 start_of_write before after piece text (Err stop.Failed) same wrote = rw (← same) wrote
 start_of_write before after piece text (Err stop.NoMemory) same wrote = start_none before after text wrote

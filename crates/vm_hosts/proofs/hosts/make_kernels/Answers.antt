@@ -14,7 +14,8 @@ new-requires c =
 pub hosts-preserved : goal.hosts-preserved
 hosts-preserved c =
     subst (AreNew c.args.header.now (c.hosts.host + 1)) (sym c.in_ok-push.ensures.items)
-    (new_more c.args.header.now c.hosts.host c.hosts.kernels.items c.in_ok-kernel.kernel c.hosts.invariant c.in_ok-kernel.ensures.rests (inl c.in_ok-kernel.ensures.queue))
+    (new_more c.args.header.now c.hosts.host c.hosts.kernels.items c.in_ok-kernel.kernel c.hosts.invariant c.in_ok-kernel.ensures.rests
+    (inl c.in_ok-kernel.ensures.queue))
 
 pub returns : goal.returns
 returns c =

@@ -1,6 +1,6 @@
 use Rattle.vm_kernel.proofs.Common.{ap, arith, by_address, copies, length-reverse, sym, ◌∙◌}
-use Rattle.vm_kernel.proofs.Copied.{drop_past}
-use Rattle.vm_kernel.proofs.Copied.{copies_one, copies_other}
+use Rattle.vm_kernel.proofs.space.CopiesCounted.{drop_past}
+use Rattle.vm_kernel.proofs.space.CopiesCounted.{copies_one, copies_other}
 use Rattle.vm_kernel.proofs.copying.copies.Goals as goal
 use Rattle.vm_kernel.proofs.copying.copies.Goals.{then-is_copied, else-is_copied}
 
@@ -18,5 +18,10 @@ all-preserved c =
 
 pub returns-clause-count : goal.returns-clause-count
 returns-clause-count c =
-    let past = drop_past (by_address c.args.entries.now) c.all.i (omega (arith, length-reverse c.args.entries.now.items, c.all-test.false, c.len-i-end.ensures)) in
+    let past = drop_past (by_address c.args.entries.now) c.all.i (omega (
+      arith,
+      length-reverse c.args.entries.now.items,
+      c.all-test.false,
+      c.len-i-end.ensures,
+    )) in
     omega (arith, ap copies past, c.all.invariant.sum)

@@ -1,5 +1,5 @@
 use Rattle.vm_kernel.proofs.Common.{Option, PutsEntries, RegionId, subst, ℕ, ◌+◌}
-use Rattle.vm_kernel.proofs.Boundaries.{raised_cut, raised_uncut}
+use Rattle.vm_kernel.proofs.space.EntriesAtBoundary.{raised_cut, raised_uncut}
 use Rattle.vm_kernel.specs.Sweeping.{IsCutOn}
 use Rattle.vm_kernel.proofs.counting.count_cut.Goals as goal
 

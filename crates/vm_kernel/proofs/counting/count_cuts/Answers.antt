@@ -1,12 +1,13 @@
 use Rattle.vm_kernel.proofs.Common.{arith, count_on, region_entries, ◌+◌}
-use Rattle.vm_kernel.proofs.Boundaries.{cut_still, one_is, one_on}
-use Rattle.vm_kernel.proofs.Recounts.{raised_few, raised_recounts, raised_twice}
+use Rattle.vm_kernel.proofs.space.EntriesAtBoundary.{cut_still, one_is, one_on}
+use Rattle.vm_kernel.proofs.space.CountsChanged.{raised_few, raised_recounts, raised_twice}
 use Rattle.vm_kernel.proofs.counting.count_cuts.Goals as goal
 
 pub count_cut-requires-2-clause-there : goal.count_cut-requires-2-clause-there
 count_cut-requires-2-clause-there c =
     let rows = one_on c.args.cuts.low in
-    cut_still c.args.cuts.high (λ r. region_entries c.args.chains.now r + count_on r rows) c.args.chains.now c.count_cut.new.chains (raised_recounts rows c.args.chains.now c.count_cut.new.chains (c.count_cut.ensures.raised rows (one_is c.args.cuts.low))) c.requires.high
+    cut_still c.args.cuts.high (λ r. region_entries c.args.chains.now r + count_on r rows) c.args.chains.now c.count_cut.new.chains
+    (raised_recounts rows c.args.chains.now c.count_cut.new.chains (c.count_cut.ensures.raised rows (one_is c.args.cuts.low))) c.requires.high
 
 pub count_cut-requires-2-clause-few : goal.count_cut-requires-2-clause-few
 count_cut-requires-2-clause-few c =
@@ -17,4 +18,6 @@ count_cut-requires-2-clause-few c =
     omega arith
 
 pub returns-clause-raised : goal.returns-clause-raised
-returns-clause-raised c = λ low high on over. raised_twice low high c.args.chains.now c.count_cut.new.chains c.count_cut-2.new.chains (c.count_cut.ensures.raised low on) (c.count_cut-2.ensures.raised high over)
+returns-clause-raised c =
+    λ low high on over. raised_twice low high c.args.chains.now c.count_cut.new.chains c.count_cut-2.new.chains (c.count_cut.ensures.raised low on)
+    (c.count_cut-2.ensures.raised high over)

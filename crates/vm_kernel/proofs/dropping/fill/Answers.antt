@@ -1,5 +1,5 @@
 use Rattle.std.proofs.Common.{ap, append_assoc, arith, sym, take, ◌++◌, ◌∙◌}
-use Rattle.vm_kernel.proofs.Sparing.{locked_more}
+use Rattle.vm_kernel.proofs.lists.PagesSpared.{locked_more}
 use Rattle.vm_kernel.specs.Serving.{frame_spared, frames_locked, option_list}
 use Rattle.vm_kernel.proofs.dropping.fill.Goals as goal
 
@@ -14,7 +14,8 @@ all-preserved c =
           one.frames
           ∙ (ap (λ z. z ++ option_list (frame_spared rs c.page_of.result)) c.all.invariant.items
           ∙ (append_assoc (option_list (frame_spared rs c.args.spared)) (frames_locked rs (take i rows)) (option_list (frame_spared rs c.page_of.result))
-          ∙ ap (λ z. option_list (frame_spared rs c.args.spared) ++ z) (ap (λ z. frames_locked rs (take i rows) ++ option_list (frame_spared rs z)) c.page_of.ensures ∙ sym (locked_more rs rows i _ c.all-test.true))));
+          ∙ ap (λ z. option_list (frame_spared rs c.args.spared) ++ z) (ap (λ z. frames_locked rs (take i rows) ++ option_list (frame_spared rs z))
+          c.page_of.ensures ∙ sym (locked_more rs rows i _ c.all-test.true))));
       room = omega (arith, one.room, c.all.invariant.room);
       few = omega (arith, one.more, c.all.invariant.few);
     }

@@ -10,7 +10,8 @@ use Rattle.vm_system.proofs.settling.settle.Goals as goal
 pub returns-in-Ok-false-clause-legal : goal.returns-in-Ok-false-clause-legal
 returns-in-Ok-false-clause-legal g c =
     let same = (c.in-Ok-false.ensures.quiet c.in-Ok-false.field-0-test).1 in
-    subst (λ (z : State). StaysOpen g.given.header g.given.outside g.given.command c.args.system.now.history.items z.history.items) (sym same) c.all.invariant.legal
+    subst (λ (z : State). StaysOpen g.given.header g.given.outside g.given.command c.args.system.now.history.items z.history.items) (sym same)
+    c.all.invariant.legal
 
 pub returns-in-Err-clause-stood : goal.returns-in-Err-clause-stood
 returns-in-Err-clause-stood g c =
@@ -22,20 +23,26 @@ returns-in-Err-clause-stood g c =
     by_stop c.in-Err.stop c.take_oldest.result _ c.in-Err.is
     (λ full.
     let same = (c.take_oldest.ensures.unchanged full).0 in
-    subst (λ (z : State). SystemStands header outside z × StaysOpen header outside g.given.command first z.history.items × LeavesAtRest header first z.history.items) (sym same)
+    subst (λ (z : State). SystemStands header outside z × StaysOpen header outside g.given.command first z.history.items
+    × LeavesAtRest header first z.history.items) (sym same)
     (before.stands, before.legal, left_at_rest header outside first c.all.system before.stands before.prompt))
     (λ none.
     let refused = c.take_oldest.ensures.refused none in
-    let same = refused.1.0 in
-    (refused.0, subst (λ (z : List Event). StaysOpen header outside g.given.command first z) (sym same) before.legal, left_at_rest header outside first new refused.0 (λ prompt. subst (λ (z : List Event). Prompt header z) (sym same) (before.prompt prompt))))
+    let same = refused.1.0 in (
+      refused.0,
+      subst (λ (z : List Event). StaysOpen header outside g.given.command first z) (sym same) before.legal,
+      left_at_rest header outside first new refused.0 (λ prompt. subst (λ (z : List Event). Prompt header z) (sym same) (before.prompt prompt)),
+    ))
 
 pub returns-in-Ok-false-clause-rests : goal.returns-in-Ok-false-clause-rests
 returns-in-Ok-false-clause-rests g c =
     let taking = c.in-Ok-false.ensures in
-    left_at_rest g.given.header g.given.outside c.args.system.now.history.items c.take_oldest.new.self taking.stands (λ first. taking.rests.prompt (c.all.invariant.prompt first))
+    left_at_rest g.given.header g.given.outside c.args.system.now.history.items c.take_oldest.new.self taking.stands
+    (λ first. taking.rests.prompt (c.all.invariant.prompt first))
 
 pub returns-clause-rests : goal.returns-clause-rests
-returns-clause-rests g c = left_at_rest g.given.header g.given.outside c.args.system.now.history.items c.all.system c.all.invariant.stands c.all.invariant.prompt
+returns-clause-rests g c =
+    left_at_rest g.given.header g.given.outside c.args.system.now.history.items c.all.system c.all.invariant.stands c.all.invariant.prompt
 
 pub returns-in-Err-clause-files_went : goal.returns-in-Err-clause-files_went
 returns-in-Err-clause-files_went g c =
@@ -58,7 +65,8 @@ returns-in-Ok-false-clause-paging_went g c =
     c.all.invariant.grew c.take_oldest.ensures.grew c.all.invariant.paging_went c.take_oldest.ensures.paging_goes
 
 pub returns-in-Ok-false-clause-count : goal.returns-in-Ok-false-clause-count
-returns-in-Ok-false-clause-count g c = ap (λ (z : State). takings z.history.items) (c.in-Ok-false.ensures.quiet c.in-Ok-false.field-0-test).1 ∙ c.all.invariant.count
+returns-in-Ok-false-clause-count g c =
+    ap (λ (z : State). takings z.history.items) (c.in-Ok-false.ensures.quiet c.in-Ok-false.field-0-test).1 ∙ c.all.invariant.count
 
 pub all-preserved : goal.all-preserved
 all-preserved g c =
@@ -68,10 +76,14 @@ all-preserved g c =
     record {
       stands = taking.stands;
       backings = λ start fit. c.take_oldest.ensures.backings start (before.backings start fit);
-      legal = stays_more g.given.header g.given.outside g.given.command c.args.system.now.history.items c.all.system.history.items c.take_oldest.new.self.history.items before.legal (taking.legal took);
+      legal =
+          stays_more g.given.header g.given.outside g.given.command c.args.system.now.history.items c.all.system.history.items
+          c.take_oldest.new.self.history.items before.legal (taking.legal took);
       prompt = λ first. taking.rests.prompt (before.prompt first);
       count = omega (arith, taking.count took, before.count);
-      grew = grew_more c.args.system.now.history.items c.all.system.history.items c.take_oldest.new.self.history.items before.grew c.take_oldest.ensures.grew (taking.below took);
+      grew =
+          grew_more c.args.system.now.history.items c.all.system.history.items c.take_oldest.new.self.history.items before.grew c.take_oldest.ensures.grew
+          (taking.below took);
       files_went =
           went_more device.Files g.F.Backing.later g.F.Backing.faults c.args.files.now c.all.files c.take_oldest.new.files _ _ _ g.met.F.Backing.later_more
           c.all.invariant.grew c.take_oldest.ensures.grew c.all.invariant.files_went c.take_oldest.ensures.files_go;
@@ -88,7 +100,8 @@ returns-in-Ok-false-clause-grew g c =
 pub returns-in-Err-clause-grew : goal.returns-in-Err-clause-grew
 returns-in-Err-clause-grew g c =
     let all = c.take_oldest.ensures in
-    grew_stop c.in-Err.stop c.take_oldest.result c.args.system.now.history.items c.all.system.history.items c.take_oldest.new.self.history.items c.in-Err.is (λ full. ap (λ (z : State). z.history.items) (all.unchanged full).0)
+    grew_stop c.in-Err.stop c.take_oldest.result c.args.system.now.history.items c.all.system.history.items c.take_oldest.new.self.history.items c.in-Err.is
+    (λ full. ap (λ (z : State). z.history.items) (all.unchanged full).0)
     all.calm all.full.1 c.all.invariant.grew all.grew
 
 pub returns-in-Err-clause-left : goal.returns-in-Err-clause-left

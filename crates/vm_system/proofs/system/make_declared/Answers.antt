@@ -6,7 +6,8 @@ use Rattle.vm_system.proofs.system.make_declared.Goals as goal
 
 pub objects-preserved : goal.objects-preserved
 objects-preserved c =
-    c.in_ok-push.ensures.items ∙ ap (λ (z : List Declared). z ++ c.at.result.now ∷ []) c.objects.invariant ∙ next_taken (reverse c.args.header.now.objects.items) c.objects.object c.at.result.now c.at.ensures
+    c.in_ok-push.ensures.items ∙ ap (λ (z : List Declared). z ++ c.at.result.now ∷ []) c.objects.invariant
+    ∙ next_taken (reverse c.args.header.now.objects.items) c.objects.object c.at.result.now c.at.ensures
 
 pub returns : goal.returns
 returns c =

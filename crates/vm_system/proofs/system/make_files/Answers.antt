@@ -8,7 +8,8 @@ objects-init c = subst (FilesAreMade c.args.header.now 0) (sym c.new-files.ensur
 pub objects-preserved : goal.objects-preserved
 objects-preserved c =
     subst (FilesAreMade c.args.header.now (c.objects.object + 1)) (sym c.in_ok-push.ensures.items)
-    (files_more c.args.header.now c.objects.object c.objects.files.items c.in_ok-pager.pager c.objects.invariant (table_is c.args.header.now c.objects.object c.at.result.now c.in_ok-pager.pager c.at.ensures c.in_ok-pager.ensures))
+    (files_more c.args.header.now c.objects.object c.objects.files.items c.in_ok-pager.pager c.objects.invariant
+    (table_is c.args.header.now c.objects.object c.at.result.now c.in_ok-pager.pager c.at.ensures c.in_ok-pager.ensures))
 
 pub returns : goal.returns
 returns c =

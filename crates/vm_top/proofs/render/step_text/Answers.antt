@@ -10,5 +10,7 @@ loop-i-preserved c =
     let step = oldest_step h c.loop-i.i c.at.result.now c.at.ensures in
     record {
       inside = omega arith;
-      goes_on = rw c.in_ok-put_event.ensures (grown_more h c.loop-i.i c.at.result.now (text (oldest_items c.args.from h)) c.loop-i.lines step c.loop-i.invariant.goes_on);
+      goes_on =
+          rw c.in_ok-put_event.ensures (grown_more h c.loop-i.i c.at.result.now (text (oldest_items c.args.from h)) c.loop-i.lines step
+          c.loop-i.invariant.goes_on);
     }

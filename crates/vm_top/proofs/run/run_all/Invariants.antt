@@ -12,8 +12,13 @@ ghost-run_one g a = g.given
 abbrev pub invariant-commands : goal.invariant-commands
 invariant-commands g l = record {
   stands : SystemStands g.given.script.header g.given.outside l.system;
-  backings : BackingsFit g.given.script.header g.given.outside (g.F.Backing.area g.given.files.inner) (g.F.Backing.area l.files.inner) (g.P.Backing.area l.paging.inner) l.system;
-  runs : IsBetweenCommands l.report g.given l.system.history.items (g.K.Sink.written l.out) l.files l.paging (record { files = sum_count (g.F.Backing.faults l.files.inner) l.files.reached; paging = sum_count (g.P.Backing.faults l.paging.inner) l.paging.reached });
+  backings : BackingsFit g.given.script.header g.given.outside (g.F.Backing.area g.given.files.inner) (g.F.Backing.area l.files.inner)
+      (g.P.Backing.area l.paging.inner) l.system;
+  runs : IsBetweenCommands l.report g.given l.system.history.items (g.K.Sink.written l.out) l.files l.paging
+      (record {
+        files = sum_count (g.F.Backing.faults l.files.inner) l.files.reached;
+        paging = sum_count (g.P.Backing.faults l.paging.inner) l.paging.reached;
+      });
   lines : count_of is_line l.system.history.items ≡ l.i;
   later : g.K.Sink.faults l.fn.out ≤ g.K.Sink.faults l.out;
 }

@@ -16,7 +16,9 @@ returns-clause-always g c =
       carried = carries_all c.args.report c.args.script _ _ _ _ status c.requires.run ends;
       kept = ran.kept;
       files_kept = ran.carried;
-      files_flat = files_flat c.args.report c.args.script _ (g.P.Backing.area c.args.paging.now.inner) _ _ (g.K.Sink.written c.args.out.now) (g.K.Sink.written c.finish-status.new.out) status c.requires.run ends ran.carried;
+      files_flat =
+          files_flat c.args.report c.args.script _ (g.P.Backing.area c.args.paging.now.inner) _ _ (g.K.Sink.written c.args.out.now)
+          (g.K.Sink.written c.finish-status.new.out) status c.requires.run ends ran.carried;
       linear = one_memory c.args.report c.args.script _ c.run_script-ran.result.history.items _ _ status ends;
     }
 
@@ -24,4 +26,5 @@ pub returns-clause-losses : goal.returns-clause-losses
 returns-clause-losses g c = λ files paging.
     let ran = c.run_script-ran.ensures in
     let h = c.run_script-ran.result.history.items in
-    loses_unslotted c.args.report c.args.script _ h _ _ c.finish-status.result (c.finish-status.ensures.ends c.args.script _ _ ran.ran) (untold device.Files _ _ _ _ h ran.files.bounded files) (untold device.Paging _ _ _ _ h ran.paging.bounded paging)
+    loses_unslotted c.args.report c.args.script _ h _ _ c.finish-status.result (c.finish-status.ensures.ends c.args.script _ _ ran.ran)
+    (untold device.Files _ _ _ _ h ran.files.bounded files) (untold device.Paging _ _ _ _ h ran.paging.bounded paging)

@@ -13,8 +13,10 @@ laundered-requires g c =
     let at = found given.header hosts given.past c.args.host.0 k all c.requires.1.known c.index_mut.ensures.value in (
       at.rests,
       (
-        laundered_front given.header given.outside given.command c.args.host given.past given.front c.args.washed k.host.0 c.if-washed.true at.number c.requires.1,
-        held_out given.header given.outside given.command c.args.host given.past given.front c.args.washed k hosts.ids c.if-washed.true c.requires.1 (all.rests c.args.host.0 k at.at),
+        laundered_front given.header given.outside given.command c.args.host given.past given.front c.args.washed k.host.0 c.if-washed.true at.number
+            c.requires.1,
+        held_out given.header given.outside given.command c.args.host given.past given.front c.args.washed k hosts.ids c.if-washed.true c.requires.1
+            (all.rests c.args.host.0 k at.at),
       ),
     )
 
@@ -25,7 +27,8 @@ returns-then-washed-clause-rests g c =
     let all : AllRest given.header hosts given.past = subst (λ (z : HostTable). AllRest given.header z given.past) (sym c.self.view_is) c.requires.0 in
     let k = c.index_mut.result.now in
     let at = found given.header hosts given.past c.args.host.0 k all c.requires.1.known c.index_mut.ensures.value in
-    behind_washed given.header given.outside given.command c.args.host given.past given.front c.args.washed hosts k.host.0 c.laundered.new.self hosts.ids [] c.if-washed.true at.number c.requires.1 all
+    behind_washed given.header given.outside given.command c.args.host given.past given.front c.args.washed hosts k.host.0 c.laundered.new.self hosts.ids []
+    c.if-washed.true at.number c.requires.1 all
     c.laundered.ensures.passed refl
 
 pub returns-then-washed-clause-ready : goal.returns-then-washed-clause-ready
@@ -35,7 +38,10 @@ returns-then-washed-clause-ready g c = λ breadth events room able.
     let all : AllRest given.header hosts given.past = subst (λ (z : HostTable). AllRest given.header z given.past) (sym c.self.view_is) c.requires.0 in
     let k = c.index_mut.result.now in
     let at = found given.header hosts given.past c.args.host.0 k all c.requires.1.known c.index_mut.ensures.value in
-    ready_same breadth hosts c.args.host.0 k c.laundered.new.self events room at.at (c.laundered.ensures.ready breadth) (c.laundered.ensures.most breadth) (subst (λ (z : HostTable). IsReady breadth events z room) (sym c.self.view_is) able)
+    ready_same breadth hosts c.args.host.0 k c.laundered.new.self events room at.at (c.laundered.ensures.ready breadth) (c.laundered.ensures.most breadth)
+    (subst (λ (z : HostTable). IsReady breadth events z room) (sym c.self.view_is) able)
 
 pub returns-else-washed-clause-rests : goal.returns-else-washed-clause-rests
-returns-else-washed-clause-rests g c = behind_kept g.given.header g.given.outside g.given.command c.args.host g.given.past g.given.front c.args.washed c.args.self.now c.if-washed.false c.requires.1 c.requires.0
+returns-else-washed-clause-rests g c =
+    behind_kept g.given.header g.given.outside g.given.command c.args.host g.given.past g.given.front c.args.washed c.args.self.now c.if-washed.false
+    c.requires.1 c.requires.0

@@ -16,7 +16,9 @@ pub returns : goal.returns
 returns g c =
     let given = g.given in
     record {
-      passed = passed_alone given.header given.outside given.command (given.front ++ given.past) c.args.log.now.items c.serve_all.new.self c.serve_all.new.log.items c.requires.1.1.0 c.serve_all.ensures.went;
+      passed =
+          passed_alone given.header given.outside given.command (given.front ++ given.past) c.args.log.now.items c.serve_all.new.self c.serve_all.new.log.items
+          c.requires.1.1.0 c.serve_all.ensures.went;
       few = λ breadth events ready.
           none_more (length c.serve_all.new.log.items) events c.args.log.now.items c.requires.1.1.0 c.serve_all.ensures.few
           (served_few breadth c.behind.new.self events c.args.log.now.room (c.behind.ensures.ready breadth events c.args.log.now.room ready));

@@ -15,8 +15,13 @@ take-requires g c =
     let all : AllRest given.header hosts given.past = subst (λ (z : HostTable). AllRest given.header z given.past) (sym c.self.view_is) c.requires.0 in
     let h = c.args.host.0 in
     let k = c.index_mut.result.now in
-    let at = found given.header hosts given.past h k all c.requires.1.1.0 c.index_mut.ensures.value in
-    (at.rests, (c.requires.1.1.1.0 ∙ ap (λ z. event.Taken (Down (host_id z) c.args.object c.args.control) c.args.message.now ∷ []) (sym at.number), (c.requires.1.1.1.1.0, c.requires.1.1.1.1.1.1.0)))
+    let at = found given.header hosts given.past h k all c.requires.1.1.0 c.index_mut.ensures.value in (
+      at.rests,
+      (
+        c.requires.1.1.1.0 ∙ ap (λ z. event.Taken (Down (host_id z) c.args.object c.args.control) c.args.message.now ∷ []) (sym at.number),
+        (c.requires.1.1.1.1.0, c.requires.1.1.1.1.1.1.0),
+      ),
+    )
 
 pub serve_all-requires : goal.serve_all-requires
 serve_all-requires g c =
@@ -27,10 +32,14 @@ serve_all-requires g c =
     let k = c.index_mut.result.now in
     let at = found given.header hosts given.past h k all c.requires.1.1.0 c.index_mut.ensures.value in
     let some = c.requires.1.1.1.1.1.1.1 in
-    let ready : IsReady (word_breadth c.args.message.now) some.0 hosts c.args.log.now.room = subst (λ (z : HostTable). IsReady (word_breadth c.args.message.now) some.0 z c.args.log.now.room) (sym c.self.view_is) some.1 in
-    let passed = subst (λ z. begun.Passed given.header z given.outside given.command (given.front ++ given.past) c.take.new.self c.take.new.ids c.take.new.log.items) at.number c.in_ok-take.ensures.passed in
-    let room = c.in_ok-take.ensures.room (other_dues h hosts.kernels) (ready.each h k at.at) (front_room hosts h c.take.new.self k c.take.new.ids at.at (word_breadth c.args.message.now) some.0 c.args.log.now.room ready) in (
-      taken_rests given.header given.outside given.command given.past given.front c.take.new.log.items hosts c.args.host c.args.object c.args.control c.args.message.now c.take.new.self c.take.new.ids c.requires.1.1.0 all c.requires.1.1.1.1.1.0 c.requires.1.1.1.0 passed,
+    let ready : IsReady (word_breadth c.args.message.now) some.0 hosts c.args.log.now.room = subst
+    (λ (z : HostTable). IsReady (word_breadth c.args.message.now) some.0 z c.args.log.now.room) (sym c.self.view_is) some.1 in
+    let passed = subst (λ z. begun.Passed given.header z given.outside given.command (given.front ++ given.past) c.take.new.self c.take.new.ids
+    c.take.new.log.items) at.number c.in_ok-take.ensures.passed in
+    let room = c.in_ok-take.ensures.room (other_dues h hosts.kernels) (ready.each h k at.at)
+    (front_room hosts h c.take.new.self k c.take.new.ids at.at (word_breadth c.args.message.now) some.0 c.args.log.now.room ready) in (
+      taken_rests given.header given.outside given.command given.past given.front c.take.new.log.items hosts c.args.host c.args.object c.args.control
+          c.args.message.now c.take.new.self c.take.new.ids c.requires.1.1.0 all c.requires.1.1.1.1.1.0 c.requires.1.1.1.0 passed,
       acted_room hosts h c.take.new.self k c.take.new.ids at.at (word_breadth c.args.message.now) some.0 c.args.log.now.room c.take.new.log.room ready room,
     )
 
@@ -42,24 +51,30 @@ returns-clause-passed g c =
     let h = c.args.host.0 in
     let k = c.index_mut.result.now in
     let at = found given.header hosts given.past h k all c.requires.1.1.0 c.index_mut.ensures.value in
-    let passed = subst (λ z. begun.Passed given.header z given.outside given.command (given.front ++ given.past) c.take.new.self c.take.new.ids c.take.new.log.items) at.number c.in_ok-take.ensures.passed in
+    let passed = subst (λ z. begun.Passed given.header z given.outside given.command (given.front ++ given.past) c.take.new.self c.take.new.ids
+    c.take.new.log.items) at.number c.in_ok-take.ensures.passed in
     passed_on given.header given.outside given.command (given.front ++ given.past) c.take.new.log.items c.serve_all.new.self c.serve_all.new.log.items
-    (taken_follows given.header given.outside given.command given.past given.front c.take.new.log.items hosts c.args.host c.args.object c.args.control c.args.message.now c.take.new.self c.take.new.ids c.requires.1.1.0 all c.requires.1.1.1.1.1.0 c.requires.1.1.1.0 passed)
-    (taken_turns given.header given.outside given.command given.past given.front c.take.new.log.items hosts c.args.host c.args.object c.args.control c.args.message.now c.take.new.self c.take.new.ids c.requires.1.1.0 all c.requires.1.1.1.1.1.0 c.requires.1.1.1.0 passed
+    (taken_follows given.header given.outside given.command given.past given.front c.take.new.log.items hosts c.args.host c.args.object c.args.control
+    c.args.message.now c.take.new.self c.take.new.ids c.requires.1.1.0 all c.requires.1.1.1.1.1.0 c.requires.1.1.1.0 passed)
+    (taken_turns given.header given.outside given.command given.past given.front c.take.new.log.items hosts c.args.host c.args.object c.args.control
+    c.args.message.now c.take.new.self c.take.new.ids c.requires.1.1.0 all c.requires.1.1.1.1.1.0 c.requires.1.1.1.0 passed
     c.serve_all.new.self c.serve_all.new.log.items c.serve_all.ensures.went)
     c.serve_all.ensures.went
 
 pub returns-clause-failed : goal.returns-clause-failed
 returns-clause-failed g c =
-    paid_went g.given.header g.given.outside g.given.command (g.given.front ++ g.given.past) c.take.new.log.items c.serve_all.new.log.items c.serve_all.new.self c.serve_all.ensures.went c.in_ok-take.ensures.failed
+    paid_went g.given.header g.given.outside g.given.command (g.given.front ++ g.given.past) c.take.new.log.items c.serve_all.new.log.items c.serve_all.new.self
+    c.serve_all.ensures.went c.in_ok-take.ensures.failed
 
 pub returns-clause-zeroed : goal.returns-clause-zeroed
 returns-clause-zeroed g c =
-    zeroed_went g.given.header g.given.outside g.given.command (g.given.front ++ g.given.past) c.take.new.log.items c.serve_all.new.log.items c.serve_all.new.self c.serve_all.ensures.went c.in_ok-take.ensures.zeroed
+    zeroed_went g.given.header g.given.outside g.given.command (g.given.front ++ g.given.past) c.take.new.log.items c.serve_all.new.log.items
+    c.serve_all.new.self c.serve_all.ensures.went c.in_ok-take.ensures.zeroed
 
 pub returns-clause-locked : goal.returns-clause-locked
 returns-clause-locked g c =
-    locked_went g.given.header g.given.outside g.given.command (g.given.front ++ g.given.past) c.take.new.log.items c.serve_all.new.log.items c.serve_all.new.self c.serve_all.ensures.went c.in_ok-take.ensures.locked
+    locked_went g.given.header g.given.outside g.given.command (g.given.front ++ g.given.past) c.take.new.log.items c.serve_all.new.log.items
+    c.serve_all.new.self c.serve_all.ensures.went c.in_ok-take.ensures.locked
 
 pub returns-clause-ended : goal.returns-clause-ended
 returns-clause-ended g c =
@@ -70,7 +85,8 @@ returns-clause-ended g c =
     let h = c.args.host.0 in
     let k = c.index_mut.result.now in
     let at = found given.header hosts given.past h k all c.requires.1.1.0 c.index_mut.ensures.value in
-    ends_went given.header given.outside given.command (given.front ++ given.past) c.take.new.log.items c.serve_all.new.log.items c.serve_all.new.self c.serve_all.ensures.went
+    ends_went given.header given.outside given.command (given.front ++ given.past) c.take.new.log.items c.serve_all.new.log.items c.serve_all.new.self
+    c.serve_all.ensures.went
     (c.in_ok-take.ensures.ended (subst (λ z. HasQueue given.header z k given.past) (sym at.number) (queues h k at.at)))
 
 pub returns-clause-few : goal.returns-clause-few
@@ -81,8 +97,10 @@ returns-clause-few g c = λ events able.
     let h = c.args.host.0 in
     let k = c.index_mut.result.now in
     let at = found given.header hosts given.past h k all c.requires.1.1.0 c.index_mut.ensures.value in
-    let ready : IsReady (word_breadth c.args.message.now) events hosts c.args.log.now.room = subst (λ (z : HostTable). IsReady (word_breadth c.args.message.now) events z c.args.log.now.room) (sym c.self.view_is) able in
-    acted_few hosts h c.take.new.self k c.take.new.ids at.at (word_breadth c.args.message.now) events c.args.log.now.room (length c.take.new.log.items) (length c.serve_all.new.log.items) ready c.in_ok-take.ensures.few c.serve_all.ensures.few
+    let ready : IsReady (word_breadth c.args.message.now) events hosts c.args.log.now.room = subst
+    (λ (z : HostTable). IsReady (word_breadth c.args.message.now) events z c.args.log.now.room) (sym c.self.view_is) able in
+    acted_few hosts h c.take.new.self k c.take.new.ids at.at (word_breadth c.args.message.now) events c.args.log.now.room (length c.take.new.log.items)
+    (length c.serve_all.new.log.items) ready c.in_ok-take.ensures.few c.serve_all.ensures.few
 
 pub returns-in_err-take-clause-err : goal.returns-in_err-take-clause-err
 returns-in_err-take-clause-err g c =
@@ -94,7 +112,11 @@ returns-in_err-take-clause-err g c =
     let k = c.index_mut.result.now in
     let at = found given.header hosts given.past h k all c.requires.1.1.0 c.index_mut.ensures.value in
     let some = c.requires.1.1.1.1.1.1.1 in
-    let ready : IsReady (word_breadth c.args.message.now) some.0 hosts c.args.log.now.room = subst (λ (z : HostTable). IsReady (word_breadth c.args.message.now) some.0 z c.args.log.now.room) (sym c.self.view_is) some.1 in
-    let failed = c.in_err-take.ensures.err (ready.each h k at.at) (front_fits hosts h c.take.new.self k c.take.new.ids at.at (word_breadth c.args.message.now) some.0 c.args.log.now.room ready) in
-    on_err c.from_residual.result
-    (all_rooms hosts h c.take.new.self k c.take.new.ids at.at failed.0 failed.1.0 given.header given.past all, (queued_rooms hosts h c.take.new.self k c.take.new.ids at.at failed.0 failed.1.0 given.header given.past queues, failed.1.1))
+    let ready : IsReady (word_breadth c.args.message.now) some.0 hosts c.args.log.now.room = subst
+    (λ (z : HostTable). IsReady (word_breadth c.args.message.now) some.0 z c.args.log.now.room) (sym c.self.view_is) some.1 in
+    let failed = c.in_err-take.ensures.err (ready.each h k at.at) (front_fits hosts h c.take.new.self k c.take.new.ids at.at (word_breadth c.args.message.now)
+    some.0 c.args.log.now.room ready) in
+    on_err c.from_residual.result (
+      all_rooms hosts h c.take.new.self k c.take.new.ids at.at failed.0 failed.1.0 given.header given.past all,
+      (queued_rooms hosts h c.take.new.self k c.take.new.ids at.at failed.0 failed.1.0 given.header given.past queues, failed.1.1),
+    )

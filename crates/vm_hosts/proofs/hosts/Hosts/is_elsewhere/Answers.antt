@@ -43,5 +43,6 @@ returns g c =
     let hosts : HostTable = record { kernels = c.self.inside.kernels.items; ids = c.self.inside.ids } in
     let all : AllRest g.given.header hosts g.given.past = subst (λ (z : HostTable). AllRest g.given.header z g.given.past) (sym c.self.view_is) c.requires in
     let count = all.count in
-    let was : NoneKnows hosts c.args.object.0 c.args.host.0 c.search.other = subst (λ (z : HostTable). NoneKnows z c.args.object.0 c.args.host.0 c.search.other) (sym c.self.view_is) c.search.invariant in
+    let was : NoneKnows hosts c.args.object.0 c.args.host.0 c.search.other = subst (λ (z : HostTable). NoneKnows z c.args.object.0 c.args.host.0 c.search.other)
+    (sym c.self.view_is) c.search.invariant in
     sym (known_nowhere g.given.header hosts g.given.past c.args.object.0 all c.args.host.0 c.search.other (omega (arith, count)) was)

@@ -68,7 +68,8 @@ rooms-preserved c =
     let at = kernel_read hosts.kernels c.rooms.host k within c.index_mut-kernel.ensures.value in
     record {
       reserving =
-          reserving_next c.args.breadth c.args.self.now hosts c.rooms.host c.rooms.most c.most.result c.in-Some.sum c.reserve.new.self k at c.reserve.ensures.is c.in_ok-reserve.ensures.ready c.most.ensures c.in-Some.ensures.1 was.reserving;
+          reserving_next c.args.breadth c.args.self.now hosts c.rooms.host c.rooms.most c.most.result c.in-Some.sum c.reserve.new.self k at c.reserve.ensures.is
+          c.in_ok-reserve.ensures.ready c.most.ensures c.in-Some.ensures.1 was.reserving;
       same = length-set {A = Parts} hosts.kernels c.rooms.host c.reserve.new.self ∙ same;
     }
 

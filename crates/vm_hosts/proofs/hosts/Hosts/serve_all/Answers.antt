@@ -8,7 +8,8 @@ pub hosts-init : goal.hosts-init
 hosts-init g c =
     let given = g.given in
     let hosts : HostTable = record { kernels = c.self.inside.kernels.items; ids = c.self.inside.ids } in
-    let all : AllRest given.header hosts (c.args.log.now.items ++ given.past) = subst (λ (z : HostTable). AllRest given.header z (c.args.log.now.items ++ given.past)) (sym c.self.view_is) c.requires.0 in
+    let all : AllRest given.header hosts (c.args.log.now.items ++ given.past) = subst
+    (λ (z : HostTable). AllRest given.header z (c.args.log.now.items ++ given.past)) (sym c.self.view_is) c.requires.0 in
     let can : CanServe hosts c.args.log.now.room = subst (λ (z : HostTable). CanServe z c.args.log.now.room) (sym c.self.view_is) c.requires.1 in
     record {
       serving = serving_start given.header given.outside given.command given.past c.args.log.now.items hosts all;
@@ -25,8 +26,13 @@ serve-requires g c =
     let known : c.hosts.host < length g.given.header.frames.items = omega (arith, count, same) in
     let k = c.index_mut.result.now in
     let at = found g.given.header hosts (c.hosts.log.items ++ g.given.past) c.hosts.host k was.rests known c.index_mut.ensures.value in
-    let total = length c.args.log.now.items + sum_of_dues c.self.inside.kernels.items in
-    (at.rests, (dues_from (c.hosts.host + 1) hosts.kernels, serves_room total c.hosts.host hosts k (length c.hosts.log.items) c.hosts.log.room at.at c.hosts.invariant.serves))
+    let total = length c.args.log.now.items + sum_of_dues c.self.inside.kernels.items in (
+      at.rests,
+      (
+        dues_from (c.hosts.host + 1) hosts.kernels,
+        serves_room total c.hosts.host hosts k (length c.hosts.log.items) c.hosts.log.room at.at c.hosts.invariant.serves,
+      ),
+    )
 
 pub hosts-preserved : goal.hosts-preserved
 hosts-preserved g c =
@@ -43,11 +49,13 @@ hosts-preserved g c =
     let room = serves_room total c.hosts.host hosts k (length c.hosts.log.items) c.hosts.log.room at.at serves in
     record {
       serving =
-          serving_more given.header given.outside given.command given.past c.args.log.now.items c.hosts.log.items c.serve.new.log.items c.hosts.host k.host.0 hosts c.serve.new.self c.serve.new.ids at.number at.within was
+          serving_more given.header given.outside given.command given.past c.args.log.now.items c.hosts.log.items c.serve.new.log.items c.hosts.host k.host.0
+          hosts c.serve.new.self c.serve.new.ids at.number at.within was
           c.serve.ensures.served;
       same = length-set {A = Parts} c.hosts.self-inside.kernels.items c.hosts.host c.serve.new.self ∙ same;
       serves =
-          serves_next total c.hosts.host hosts k (length c.hosts.log.items) c.hosts.log.room at.at serves c.serve.new.self c.serve.new.ids (length c.serve.new.log.items) c.serve.new.log.room c.serve.ensures.few
+          serves_next total c.hosts.host hosts k (length c.hosts.log.items) c.hosts.log.room at.at serves c.serve.new.self c.serve.new.ids
+          (length c.serve.new.log.items) c.serve.new.log.room c.serve.ensures.few
           (c.serve.ensures.left (dues_from (c.hosts.host + 1) hosts.kernels) room);
     }
 
@@ -60,7 +68,9 @@ returns g c =
     let all : length c.hosts.self-inside.kernels.items ≡ c.hosts.host = omega (arith, same) in
     let total = length c.args.log.now.items + sum_of_dues first.kernels in
     record {
-      went = serving_done given.header given.outside given.command given.past c.args.log.now.items c.hosts.log.items c.hosts.host hosts all c.hosts.invariant.serving;
+      went =
+          serving_done given.header given.outside given.command given.past c.args.log.now.items c.hosts.log.items c.hosts.host hosts all
+          c.hosts.invariant.serving;
       few =
           subst (λ (z : HostTable). length c.hosts.log.items ≤ length c.args.log.now.items + sum_of_dues z.kernels) c.self.view_is
           (serves_done total c.hosts.host hosts (length c.hosts.log.items) c.hosts.log.room c.hosts.invariant.serves);

@@ -1,12 +1,13 @@
-use Rattle.vm_kernel.proofs.Common.{ap, entry, false, frame_count, HostParts, Ids, length, length-append, List, Parts, refl, true, Waiting, WaitTable, ◌*◌, ◌+◌, ◌/◌, ◌∙◌, ◌≡◌, arith}
+use Rattle.vm_kernel.proofs.Common.{ap, entry, false, frame_count, HostParts, Ids, length, length-append, List, Parts, refl, true, Waiting, WaitTable, ◌*◌, ◌+◌}
+use Rattle.vm_kernel.proofs.Common.{◌/◌, ◌∙◌, ◌≡◌, arith}
 use Rattle.std.specs.Prelude.{vec_capacity}
-use Rattle.vm_kernel.proofs.CopyBegins.{copy_absent, copy_quiet, copy_ran, has_begun}
-use Rattle.vm_kernel.proofs.Growing.{on_ok}
-use Rattle.vm_kernel.proofs.Playing.{lists_same, plays_both, plays_told}
-use Rattle.vm_kernel.proofs.Served.{three_ok}
-use Rattle.vm_kernel.proofs.Turning.{restarts_behind}
-use Rattle.vm_kernel.proofs.Composing.{any_ok, few_behind, room_behind, told_behind}
-use Rattle.vm_kernel.proofs.Paying.{copies_all}
+use Rattle.vm_kernel.proofs.steps.CopyBegins.{copy_absent, copy_quiet, copy_ran, has_begun}
+use Rattle.vm_kernel.proofs.steps.EventsGrow.{on_ok}
+use Rattle.vm_kernel.proofs.lists.ListsAsTold.{lists_same, plays_both, plays_told}
+use Rattle.vm_kernel.proofs.steps.QueueServed.{three_ok}
+use Rattle.vm_kernel.proofs.steps.FramesInTurn.{restarts_behind}
+use Rattle.vm_kernel.proofs.room.PartsOfStep.{any_ok, few_behind, room_behind, told_behind}
+use Rattle.vm_kernel.proofs.room.RunPays.{copies_all}
 use Rattle.vm_kernel.specs.Rooms.{Spends}
 use Rattle.vm_waits.specs.Waits.{count_copies}
 use Rattle.vm_kernel.proofs.parts.Parts.begin_copy.Given as given
@@ -57,7 +58,8 @@ returns-clause-plays g c =
     let made = c.in_ok-make_range.ensures.made in
     on_ok c.restart.result _ _
     (λ more. plays_both (plays_told c.in_ok-push.ensures.ok refl)
-    (plays_both (plays_told c.in_ok-push-2.ensures.ok (lists_same c.args.self.now c.make_range.new.self (ap (λ z. z.resident) made.memory) (ap (λ z. z.queues) made.memory))) more))
+    (plays_both (plays_told c.in_ok-push-2.ensures.ok (lists_same c.args.self.now c.make_range.new.self (ap (λ z. z.resident) made.memory)
+    (ap (λ z. z.queues) made.memory))) more))
     c.restart.ensures.plays
 
 pub returns-clause-restarts : goal.returns-clause-restarts
@@ -65,7 +67,8 @@ returns-clause-restarts g c =
     let queue = c.begin.ensures.queue ∙ (ap (λ z. z.queue) c.in_ok-make_range.ensures.made.waits ∙ c.reserve.ensures.queue) in
     let quiet = copy_quiet queue c.in_ok-push.ensures.ok c.in_ok-push-2.ensures.ok in
     on_ok c.restart.result _ _
-    (restarts_behind g.given.header g.given.host c.restart.new.self.waits.rows g.given.past c.args.self.now.waits.queue c.begin.new.self.queue c.restart.new.self.waits.queue c.args.log.now.items c.push-2.new.self.items c.restart.new.log.items c.requires.1.0.nothing quiet)
+    (restarts_behind g.given.header g.given.host c.restart.new.self.waits.rows g.given.past c.args.self.now.waits.queue c.begin.new.self.queue
+    c.restart.new.self.waits.queue c.args.log.now.items c.push-2.new.self.items c.restart.new.log.items c.requires.1.0.nothing quiet)
     c.restart.ensures.restarts
 
 -- the parts in front of the accesses that are run
@@ -78,11 +81,13 @@ numbers g c = record c.args.ids.now { next_region = c.args.ids.now.next_region +
 more_rows : (g : given.Over) (c : goal.After-restart g) → length c.begin.new.self.rows ≡ length c.args.self.now.waits.rows + 1
 more_rows g c =
     ap length c.begin.ensures.rows
-    ∙ (length-append c.make_range.new.self.waits.rows _ ∙ ap (λ z. length z + 1) (ap (λ (z : WaitTable). z.rows) c.in_ok-make_range.ensures.made.waits ∙ c.reserve.ensures.rows))
+    ∙ (length-append c.make_range.new.self.waits.rows _
+    ∙ ap (λ z. length z + 1) (ap (λ (z : WaitTable). z.rows) c.in_ok-make_range.ensures.made.waits ∙ c.reserve.ensures.rows))
 
 -- the beginning takes two events, and a region over an object
 begun : (g : given.Over) (c : goal.After-restart g)
-    → Spends (2 * frame_count c.args.self.now.memory.frames + 5) (2 * frame_count c.args.self.now.memory.frames + 5) 0 c.args.self.now c.args.log.now (mid g c) c.push-2.new.self
+    → Spends (2 * frame_count c.args.self.now.memory.frames + 5) (2 * frame_count c.args.self.now.memory.frames + 5) 0 c.args.self.now c.args.log.now (mid g c)
+    c.push-2.new.self
 begun g c =
     let made = c.in_ok-make_range.ensures.made in
     let waits = more_rows g c in
@@ -101,7 +106,8 @@ begun g c =
 
 pub returns-clause-few : goal.returns-clause-few
 returns-clause-few g c =
-    let few = told_behind c.args.self.now (mid g c) c.args.log.now c.push-2.new.self _ _ (2 * frame_count c.args.self.now.memory.frames + 5) (omega arith) (begun g c) in
+    let few = told_behind c.args.self.now (mid g c) c.args.log.now c.push-2.new.self _ _ (2 * frame_count c.args.self.now.memory.frames + 5) (omega arith)
+    (begun g c) in
     on_ok c.restart.result _ _ (λ more. few_behind more few) c.restart.ensures.few
 
 pub returns-clause-room : goal.returns-clause-room
@@ -113,13 +119,16 @@ pub returns-in_err-reserve-clause-room : goal.returns-in_err-reserve-clause-room
 returns-in_err-reserve-clause-room g c = λ more had access. absurd (let bad : false ≡ true = c.in_err-reserve.ensures.succeeds (omega (arith, access)) in cc)
 
 pub returns-in_err-make_range-clause-room : goal.returns-in_err-make_range-clause-room
-returns-in_err-make_range-clause-room g c = λ more had access. absurd (let bad : false ≡ true = c.in_err-make_range.ensures.succeeds (omega (arith, had.tables.objects)) (omega (arith, had.tables.shadows)) in cc)
+returns-in_err-make_range-clause-room g c =
+    λ more had access. absurd (let bad : false ≡ true = c.in_err-make_range.ensures.succeeds (omega (arith, had.tables.objects))
+    (omega (arith, had.tables.shadows)) in cc)
 
 pub returns-in_err-push-clause-room : goal.returns-in_err-push-clause-room
 returns-in_err-push-clause-room g c = λ more had access. absurd (let bad : false ≡ true = c.in_err-push.ensures.succeeds (omega (arith, had.log)) in cc)
 
 pub returns-in_err-push-2-clause-room : goal.returns-in_err-push-2-clause-room
-returns-in_err-push-2-clause-room g c = λ more had access. absurd (let bad : false ≡ true = c.in_err-push-2.ensures.succeeds (omega (arith, had.log, c.push.ensures.room)) in cc)
+returns-in_err-push-2-clause-room g c =
+    λ more had access. absurd (let bad : false ≡ true = c.in_err-push-2.ensures.succeeds (omega (arith, had.log, c.push.ensures.room)) in cc)
 
 pub returns-clause-spare : goal.returns-clause-spare
 returns-clause-spare g c =
@@ -127,5 +136,6 @@ returns-clause-spare g c =
     let made = ap (λ (z : HostParts). z.buffers.count) c.in_ok-make_range.ensures.made.memory in
     let list = ap vec_capacity c.in_ok-make_range.ensures.skip in
     on_ok c.restart.result _ _
-    (λ keeps. let buffers = ap (λ z. z.count) keeps.buffers in let kept = ap vec_capacity keeps.skip in (omega (arith, made, buffers), (omega (arith, list, kept), omega (arith, one, keeps.fewer))))
+    (λ keeps. let buffers = ap (λ z. z.count) keeps.buffers in let kept = ap vec_capacity
+    keeps.skip in (omega (arith, made, buffers), (omega (arith, list, kept), omega (arith, one, keeps.fewer))))
     c.restart.ensures.spare

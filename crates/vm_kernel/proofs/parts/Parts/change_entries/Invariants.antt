@@ -11,4 +11,11 @@ abbrev pub ghost-inherit : goal.ghost-inherit
 ghost-inherit g a = g.given
 
 abbrev pub ghost-deallocate : goal.ghost-deallocate
-ghost-deallocate g a = record { header = g.given.header; host = g.given.host; outside = g.given.outside; past = g.given.past; command = command.Deallocate a.task a.address a.bytes }
+ghost-deallocate g a =
+    record {
+      header = g.given.header;
+      host = g.given.host;
+      outside = g.given.outside;
+      past = g.given.past;
+      command = command.Deallocate a.task a.address a.bytes;
+    }

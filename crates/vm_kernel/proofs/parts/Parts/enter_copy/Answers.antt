@@ -1,6 +1,6 @@
 use Rattle.vm_kernel.proofs.Common.{ap, arith, false, length, true, ◌≡◌}
-use Rattle.vm_kernel.proofs.Growing.{on_ok}
-use Rattle.vm_kernel.proofs.Spending.{marks_copied}
+use Rattle.vm_kernel.proofs.steps.EventsGrow.{on_ok}
+use Rattle.vm_kernel.proofs.room.CallsSpend.{marks_copied}
 use Rattle.vm_kernel.proofs.parts.Parts.enter_copy.Goals as goal
 
 pub returns-clause-spends : goal.returns-clause-spends

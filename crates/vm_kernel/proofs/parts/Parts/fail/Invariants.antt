@@ -1,8 +1,9 @@
-use Rattle.vm_kernel.proofs.Common.{Asker, FailsNow, IsAnswered, LegalEvents, Plays, RunsNobody, Works, [], fails_access, length, paging, since, true, ◌++◌, ◌≡◌}
+use Rattle.vm_kernel.proofs.Common.{Asker, FailsNow, IsAnswered, LegalEvents, Plays, RunsNobody, Works, [], fails_access, length, paging, since, true, ◌++◌}
+use Rattle.vm_kernel.proofs.Common.{◌≡◌}
 use Rattle.std.proofs.Common.{◌⊎◌}
 use Rattle.vm_supply.specs.declared.woken.Woken.TheVariants as woken
 use Rattle.vm_kernel.specs.Rooms.{HasBuffers, KeepsSkip, Spends, leaving}
-use Rattle.vm_kernel.proofs.Failing.{EndsBefore, EndsOr}
+use Rattle.vm_kernel.proofs.controls.WaitersFail.{EndsBefore, EndsOr}
 use Rattle.vm_kernel.proofs.parts.Parts.fail.Given as goal
 
 abbrev pub invariant-all : goal.invariant-all
@@ -25,4 +26,13 @@ abbrev pub decreases-all : goal.decreases-all
 decreases-all g l = length l.self.waits.rows
 
 abbrev pub ghost-end_region : goal.ghost-end_region
-ghost-end_region g a = record { header = g.given.header; host = g.given.host; outside = g.given.outside; past = g.given.past; command = g.given.command; who = woken.Fails g.given.page; rest = [] }
+ghost-end_region g a =
+    record {
+      header = g.given.header;
+      host = g.given.host;
+      outside = g.given.outside;
+      past = g.given.past;
+      command = g.given.command;
+      who = woken.Fails g.given.page;
+      rest = [];
+    }

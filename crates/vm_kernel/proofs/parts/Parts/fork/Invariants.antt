@@ -1,5 +1,5 @@
 use Rattle.vm_kernel.proofs.Common.{Plays, QueueIsStill, paging, rows_in, ◌*◌, ◌+◌}
-use Rattle.vm_kernel.proofs.Shares.{HasForked}
+use Rattle.vm_kernel.proofs.space.ForkShares.{HasForked}
 use Rattle.vm_kernel.specs.Rooms.{KeepsSpare, Spends}
 use Rattle.vm_kernel.proofs.parts.Parts.fork.Given as goal
 

@@ -1,21 +1,25 @@
 use Rattle.vm_kernel.proofs.Common.{Event, List, Ran, ap, arith, length, refl, rows_in, subst, sym, ◌+◌, ◌∙◌, ◌∷◌}
-use Rattle.vm_kernel.proofs.Playing.{plays_told}
+use Rattle.vm_kernel.proofs.lists.ListsAsTold.{plays_told}
 use Rattle.vm_model.specs.declared.event.Event.TheVariants as event
 use Rattle.vm_model.specs.declared.command.Command.TheVariants as command
-use Rattle.vm_kernel.proofs.Changing.{all_there, entries_few, may_protect, ran_protect}
-use Rattle.vm_kernel.proofs.Growing.{on_ok}
-use Rattle.vm_kernel.proofs.Boundaries.{cut_there}
-use Rattle.vm_kernel.proofs.Spending.{never_err}
+use Rattle.vm_kernel.proofs.space.EntriesChanged.{all_there, entries_few, may_protect, ran_protect}
+use Rattle.vm_kernel.proofs.steps.EventsGrow.{on_ok}
+use Rattle.vm_kernel.proofs.space.EntriesAtBoundary.{cut_there}
+use Rattle.vm_kernel.proofs.room.CallsSpend.{never_err}
 use Rattle.vm_kernel.proofs.parts.Parts.protect.Goals as goal
 
 pub cuts_of-cuts-requires-clause-end : goal.cuts_of-cuts-requires-clause-end
 cuts_of-cuts-requires-clause-end g c = (may_protect c.requires).below
 
 pub count_cuts-requires-clause-low : goal.count_cuts-requires-clause-low
-count_cuts-requires-clause-low g c = cut_there c.args.self.now.chains c.args.address (rows_in c.args.task.0 c.args.self.now.maps) _ (all_there c.args.task.0 c.requires.rests) c.cuts_of-cuts.ensures.low
+count_cuts-requires-clause-low g c =
+    cut_there c.args.self.now.chains c.args.address (rows_in c.args.task.0 c.args.self.now.maps) _ (all_there c.args.task.0 c.requires.rests)
+    c.cuts_of-cuts.ensures.low
 
 pub count_cuts-requires-clause-high : goal.count_cuts-requires-clause-high
-count_cuts-requires-clause-high g c = cut_there c.args.self.now.chains (c.args.address + c.args.bytes) (rows_in c.args.task.0 c.args.self.now.maps) _ (all_there c.args.task.0 c.requires.rests) c.cuts_of-cuts.ensures.high
+count_cuts-requires-clause-high g c =
+    cut_there c.args.self.now.chains (c.args.address + c.args.bytes) (rows_in c.args.task.0 c.args.self.now.maps) _ (all_there c.args.task.0 c.requires.rests)
+    c.cuts_of-cuts.ensures.high
 
 pub count_cuts-requires-clause-few : goal.count_cuts-requires-clause-few
 count_cuts-requires-clause-few g c = entries_few g.given.header.size c.args.self.now.maps c.args.self.now.chains c.requires.rests.matches.entries
@@ -23,9 +27,11 @@ count_cuts-requires-clause-few g c = entries_few g.given.header.size c.args.self
 pub returns-clause-ran : goal.returns-clause-ran
 returns-clause-ran g c =
     on_ok c.push.result _ _
-    (λ is. subst (λ (z : List Event). Ran g.given.header g.given.host g.given.outside (command.Protect c.args.task c.args.address c.args.bytes c.args.prot) g.given.past (record c.args.self.now { maps = c.protect.new.self; chains = c.count_cuts.new.chains }) c.args.ids.now z)
+    (λ is. subst (λ (z : List Event). Ran g.given.header g.given.host g.given.outside (command.Protect c.args.task c.args.address c.args.bytes c.args.prot)
+    g.given.past (record c.args.self.now { maps = c.protect.new.self; chains = c.count_cuts.new.chains }) c.args.ids.now z)
     (sym (is ∙ ap (λ z. event.Protected c.args.task c.args.address c.args.bytes c.args.prot ∷ z) c.requires.nothing))
-    (ran_protect g.given.header g.given.host g.given.outside c.args.task c.args.address c.args.bytes c.args.prot g.given.past _ c.args.self.now c.args.ids.now c.protect.new.self c.count_cuts.new.chains c.protection.result
+    (ran_protect g.given.header g.given.host g.given.outside c.args.task c.args.address c.args.bytes c.args.prot g.given.past _ c.args.self.now c.args.ids.now
+    c.protect.new.self c.count_cuts.new.chains c.protection.result
     c.requires c.protection.ensures c.in_ok-protect.ensures.changes (c.count_cuts.ensures.raised _ _ c.cuts_of-cuts.ensures.low c.cuts_of-cuts.ensures.high)))
     c.push.ensures.ok
 

@@ -1,6 +1,6 @@
 use Rattle.vm_kernel.proofs.Common.{Parts, ap, arith, frame_count, length, ◌∙◌}
-use Rattle.vm_kernel.proofs.Growing.{on_ok}
-use Rattle.vm_kernel.proofs.Readying.{making_same}
+use Rattle.vm_kernel.proofs.steps.EventsGrow.{on_ok}
+use Rattle.vm_kernel.proofs.room.KernelReady.{making_same}
 use Rattle.vm_kernel.specs.Rooms.{if_copies, returning}
 use Rattle.vm_waits.specs.Waits.{count_copies}
 use Rattle.vm_kernel.proofs.parts.Parts.reserve.Goals as goal
@@ -16,9 +16,12 @@ returns-clause-ready c =
     let rows = ap (λ (z : Parts). length z.waits.rows) is in
     let rows2 = ap (λ (z : Parts). length z.waits.rows) skipped in
     let frames = ap (λ (z : Parts). frame_count z.memory.frames) is ∙ ap (λ (z : Parts). frame_count z.memory.frames) skipped in
-    let copied = ap (λ (z : Parts). if_copies (count_copies z.waits.rows) (frame_count z.memory.frames)) is ∙ (ap (λ (z : Parts). if_copies (count_copies z.waits.rows) (frame_count z.memory.frames)) skipped ∙ ap (λ z. if_copies (count_copies z) (frame_count c.args.self.now.memory.frames)) c.in_ok-reserve-4.ensures.rows) in
+    let copied = ap (λ (z : Parts). if_copies (count_copies z.waits.rows) (frame_count z.memory.frames)) is
+    ∙ (ap (λ (z : Parts). if_copies (count_copies z.waits.rows) (frame_count z.memory.frames)) skipped
+    ∙ ap (λ z. if_copies (count_copies z) (frame_count c.args.self.now.memory.frames)) c.in_ok-reserve-4.ensures.rows) in
     let marked = ap (λ (z : Parts). z.chains.marked) is ∙ (ap (λ (z : Parts). z.chains.marked) skipped ∙ c.in_ok-reserve-3.ensures.marked) in
-    let first = making_same c.args.breadth c.args.self.now c.reserve_buffers.new.self frames in
+    let maps = ap (λ (z : Parts). z.maps) is ∙ ap (λ (z : Parts). z.maps) skipped in
+    let first = making_same c.args.breadth c.args.self.now c.reserve_buffers.new.self maps frames in
     let spare = ap (λ (z : Parts). z.memory.resident.spare) is ∙ ap (λ (z : Parts). z.memory.resident.spare) skipped in
     let shadows = ap (λ (z : Parts). z.chains.spare) is ∙ ap (λ (z : Parts). z.chains.spare) skipped in
     let objects = ap (λ (z : Parts). z.memory.objects.rows) is ∙ ap (λ (z : Parts). z.memory.objects.rows) skipped in

@@ -24,13 +24,28 @@ abbrev pub ghost-exit : goal.ghost-exit
 ghost-exit g a = record { header = g.given.header; host = g.given.host; outside = g.given.outside; past = g.given.past; command = command.Exit a.task }
 
 abbrev pub ghost-load : goal.ghost-load
-ghost-load g a = record { header = g.given.header; host = g.given.host; outside = g.given.outside; past = g.given.past; command = command.Load a.task a.address a.size }
+ghost-load g a =
+    record { header = g.given.header; host = g.given.host; outside = g.given.outside; past = g.given.past; command = command.Load a.task a.address a.size }
 
 abbrev pub ghost-store : goal.ghost-store
-ghost-store g a = record { header = g.given.header; host = g.given.host; outside = g.given.outside; past = g.given.past; command = command.Store a.task a.address a.size a.value }
+ghost-store g a =
+    record {
+      header = g.given.header;
+      host = g.given.host;
+      outside = g.given.outside;
+      past = g.given.past;
+      command = command.Store a.task a.address a.size a.value;
+    }
 
 abbrev pub ghost-pageout : goal.ghost-pageout
-ghost-pageout g a = record { header = g.given.header; host = g.given.host; outside = g.given.outside; past = g.given.past; command = command.Pageout (host_id g.given.host) a.count }
+ghost-pageout g a =
+    record {
+      header = g.given.header;
+      host = g.given.host;
+      outside = g.given.outside;
+      past = g.given.past;
+      command = command.Pageout (host_id g.given.host) a.count;
+    }
 
 abbrev pub ghost-change_entries : goal.ghost-change_entries
 ghost-change_entries g a = g.given

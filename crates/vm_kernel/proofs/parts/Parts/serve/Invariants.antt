@@ -1,5 +1,5 @@
 use Rattle.vm_kernel.proofs.Common.{KeepsOthers, LegalEvents, Rests, claimed, frame_count, length, queued, ℕ, ◌*◌, ◌++◌, ◌+◌, ◌≡◌, ◌≤◌}
-use Rattle.vm_kernel.proofs.Turning.{Serving}
+use Rattle.vm_kernel.proofs.steps.FramesInTurn.{Serving}
 use Rattle.vm_kernel.specs.Rooms.{ServeRoom, dues}
 use Rattle.vm_kernel.specs.Serving.{pages_to_copy}
 use Rattle.vm_kernel.proofs.parts.Parts.serve.Given as goal

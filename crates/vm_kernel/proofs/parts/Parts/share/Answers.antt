@@ -1,5 +1,5 @@
 use Rattle.vm_kernel.proofs.Common.{ap, arith, length}
-use Rattle.vm_kernel.proofs.Growing.{on_ok}
+use Rattle.vm_kernel.proofs.steps.EventsGrow.{on_ok}
 use Rattle.vm_kernel.proofs.parts.Parts.share.Goals as goal
 
 pub returns-clause-spends : goal.returns-clause-spends

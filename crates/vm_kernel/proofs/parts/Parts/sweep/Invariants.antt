@@ -4,7 +4,15 @@ use Rattle.vm_kernel.specs.Endings.{EndsSoFar}
 use Rattle.vm_kernel.proofs.parts.Parts.sweep.Given as goal
 
 abbrev pub ghost-release : goal.ghost-release
-ghost-release g a = record { header = g.given.header; host = g.given.host; outside = g.given.outside; past = g.given.past; command = g.given.command; rest = drop (a.i + 1) (by_address a.gone.now) }
+ghost-release g a =
+    record {
+      header = g.given.header;
+      host = g.given.host;
+      outside = g.given.outside;
+      past = g.given.past;
+      command = g.given.command;
+      rest = drop (a.i + 1) (by_address a.gone.now);
+    }
 
 abbrev pub invariant-all : goal.invariant-all
 invariant-all g l = record {

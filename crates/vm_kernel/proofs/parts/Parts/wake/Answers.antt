@@ -1,34 +1,45 @@
 use Rattle.vm_kernel.proofs.Common.{Still, [], ap, arith, length, refl, rules, woken_page, woken_ready, ◌∙◌, ◌≡◌}
-use Rattle.vm_kernel.proofs.Ordering.{woken_keeps}
-use Rattle.vm_kernel.proofs.Untold.{matches_with}
+use Rattle.vm_kernel.proofs.steps.RowsInOrder.{woken_keeps}
+use Rattle.vm_kernel.proofs.abroad.OtherLists.{matches_with}
 use Rattle.vm_state.proofs.Filling.{fills_waked, used_waked}
 use Rattle.vm_state.proofs.Waking.{waits_woken}
 use Rattle.std.proofs.lemmas.List.{length-map}
-use Rattle.vm_kernel.proofs.Departing.{roomy_fewer, spends_hand, spends_less, woken_spends}
-use Rattle.vm_kernel.proofs.Spending.{spends_nothing}
+use Rattle.vm_kernel.proofs.room.EndsSpend.{roomy_fewer, spends_hand, spends_less, woken_spends}
+use Rattle.vm_kernel.proofs.room.CallsSpend.{spends_nothing}
 use Rattle.vm_kernel.specs.Rooms.{leaving, waking}
-use Rattle.vm_kernel.proofs.Composing.{skip_rows}
-use Rattle.vm_kernel.proofs.Growing.{on_ok}
+use Rattle.vm_kernel.proofs.room.PartsOfStep.{skip_rows}
+use Rattle.vm_kernel.proofs.steps.EventsGrow.{on_ok}
 use Rattle.vm_kernel.proofs.parts.Parts.wake.Goals as goal
 
 pub returns-in-ReadyOf-clause-works : goal.returns-in-ReadyOf-clause-works
 returns-in-ReadyOf-clause-works g c =
     record {
-      matches = matches_with _ _ c.wake_ready.new.self (fills_waked _ c.args.self.now.waits.rows c.wake_ready.new.self.rows c.wake_ready.ensures.entry) c.requires.0.matches.fits.parts refl c.requires.0.matches;
+      matches =
+          matches_with _ _ c.wake_ready.new.self (fills_waked _ c.args.self.now.waits.rows c.wake_ready.new.self.rows c.wake_ready.ensures.entry)
+          c.requires.0.matches.fits.parts refl c.requires.0.matches;
       used = used_waked _ c.args.self.now.waits.rows c.wake_ready.new.self.rows c.requires.0.used c.wake_ready.ensures.entry;
       referred = search rules;
-      waits = waits_woken _ _ _ _ c.args.self.now.waits.rows c.wake_ready.new.self.rows _ _ (rw c.in-ReadyOf.is at c.requires.0).waits c.wake_ready.ensures.entry (λ o p row found awaits. refl);
-      order = (woken_keeps (woken_ready c.in-ReadyOf.object.0) c.args.self.now.waits.rows c.wake_ready.new.self.rows c.wake_ready.ensures.rows).keeps _ 0 c.requires.0.order;
+      waits =
+          waits_woken _ _ _ _ c.args.self.now.waits.rows c.wake_ready.new.self.rows _ _ (rw c.in-ReadyOf.is at c.requires.0).waits c.wake_ready.ensures.entry
+          (λ o p row found awaits. refl);
+      order =
+          (woken_keeps (woken_ready c.in-ReadyOf.object.0) c.args.self.now.waits.rows c.wake_ready.new.self.rows c.wake_ready.ensures.rows).keeps _ 0
+          c.requires.0.order;
     }
 
 pub returns-in-Page-clause-works : goal.returns-in-Page-clause-works
 returns-in-Page-clause-works g c =
     record {
-      matches = matches_with _ _ c.wake_page.new.self (fills_waked _ c.args.self.now.waits.rows c.wake_page.new.self.rows c.wake_page.ensures.entry) c.requires.0.matches.fits.parts refl c.requires.0.matches;
+      matches =
+          matches_with _ _ c.wake_page.new.self (fills_waked _ c.args.self.now.waits.rows c.wake_page.new.self.rows c.wake_page.ensures.entry)
+          c.requires.0.matches.fits.parts refl c.requires.0.matches;
       used = used_waked _ c.args.self.now.waits.rows c.wake_page.new.self.rows c.requires.0.used c.wake_page.ensures.entry;
       referred = search rules;
-      waits = waits_woken _ _ _ _ c.args.self.now.waits.rows c.wake_page.new.self.rows _ _ (rw c.in-Page.is at c.requires.0).waits c.wake_page.ensures.entry (rw c.in-Page.is at c.requires.1.1.1.1).at;
-      order = (woken_keeps (woken_page c.in-Page.key) c.args.self.now.waits.rows c.wake_page.new.self.rows c.wake_page.ensures.rows).keeps _ 0 c.requires.0.order;
+      waits =
+          waits_woken _ _ _ _ c.args.self.now.waits.rows c.wake_page.new.self.rows _ _ (rw c.in-Page.is at c.requires.0).waits c.wake_page.ensures.entry
+          (rw c.in-Page.is at c.requires.1.1.1.1).at;
+      order =
+          (woken_keeps (woken_page c.in-Page.key) c.args.self.now.waits.rows c.wake_page.new.self.rows c.wake_page.ensures.rows).keeps _ 0 c.requires.0.order;
     }
 
 pub returns-in-ReadyOf-clause-plays : goal.returns-in-ReadyOf-clause-plays
@@ -57,7 +68,8 @@ returns-in-Page-clause-spends g c = woken_spends _ c.args.self.now c.wake_page.n
 
 pub returns-in-Fails-clause-spends : goal.returns-in-Fails-clause-spends
 returns-in-Fails-clause-spends g c =
-    let same : waking c.args.woken c.args.self.now c.args.ids.now ≡ leaving c.args.self.now c.args.ids.now = ap (λ z. waking z c.args.self.now c.args.ids.now) c.in-Fails.is in
+    let same : waking c.args.woken c.args.self.now c.args.ids.now ≡ leaving c.args.self.now c.args.ids.now = ap (λ z. waking z c.args.self.now c.args.ids.now)
+    c.in-Fails.is in
     on_ok c.fail.result _ _
     (λ is.
     spends_hand c.args.self.now c.fail.new.self c.args.log.now c.fail.new.log _ 0 (waking c.args.woken c.args.self.now c.args.ids.now)
@@ -66,14 +78,18 @@ returns-in-Fails-clause-spends g c =
 
 pub returns-in-Fails-clause-succeeds : goal.returns-in-Fails-clause-succeeds
 returns-in-Fails-clause-succeeds g c = λ room has.
-    let same : waking c.args.woken c.args.self.now c.args.ids.now ≡ leaving c.args.self.now c.args.ids.now = ap (λ z. waking z c.args.self.now c.args.ids.now) c.in-Fails.is in
-    c.fail.ensures.succeeds (roomy_fewer _ 0 (leaving c.args.self.now c.args.ids.now) 0 c.args.self.now _ room (omega (arith, same)) (omega arith)) (has c.in-Fails.key c.in-Fails.is)
+    let same : waking c.args.woken c.args.self.now c.args.ids.now ≡ leaving c.args.self.now c.args.ids.now = ap (λ z. waking z c.args.self.now c.args.ids.now)
+    c.in-Fails.is in
+    c.fail.ensures.succeeds (roomy_fewer _ 0 (leaving c.args.self.now c.args.ids.now) 0 c.args.self.now _ room (omega (arith, same)) (omega arith))
+    (has c.in-Fails.key c.in-Fails.is)
 
 pub returns-in-Fails-clause-enough : goal.returns-in-Fails-clause-enough
-returns-in-Fails-clause-enough g c = on_ok c.fail.result _ _ (λ leaves has some. let left = leaves (has c.in-Fails.key c.in-Fails.is) in omega (arith, left)) c.fail.ensures.buffers
+returns-in-Fails-clause-enough g c =
+    on_ok c.fail.result _ _ (λ leaves has some. let left = leaves (has c.in-Fails.key c.in-Fails.is) in omega (arith, left)) c.fail.ensures.buffers
 
 pub returns-in-ReadyOf-clause-skip : goal.returns-in-ReadyOf-clause-skip
-returns-in-ReadyOf-clause-skip g c = skip_rows c.args.self.now c.wake_ready.new.self (ap length c.wake_ready.ensures.rows ∙ length-map c.args.self.now.waits.rows _)
+returns-in-ReadyOf-clause-skip g c =
+    skip_rows c.args.self.now c.wake_ready.new.self (ap length c.wake_ready.ensures.rows ∙ length-map c.args.self.now.waits.rows _)
 
 pub returns-in-Page-clause-skip : goal.returns-in-Page-clause-skip
 returns-in-Page-clause-skip g c = skip_rows c.args.self.now c.wake_page.new.self (ap length c.wake_page.ensures.rows ∙ length-map c.args.self.now.waits.rows _)

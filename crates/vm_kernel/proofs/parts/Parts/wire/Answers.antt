@@ -1,15 +1,16 @@
 use Rattle.vm_kernel.proofs.Common.{ap, arith, length, refl}
-use Rattle.vm_kernel.proofs.Playing.{plays_told}
-use Rattle.vm_kernel.proofs.Growing.{on_ok}
-use Rattle.vm_kernel.proofs.Wires.{ran_wire}
-use Rattle.vm_kernel.proofs.Departing.{framed}
-use Rattle.vm_kernel.proofs.Spending.{wired_count}
+use Rattle.vm_kernel.proofs.lists.ListsAsTold.{plays_told}
+use Rattle.vm_kernel.proofs.steps.EventsGrow.{on_ok}
+use Rattle.vm_kernel.proofs.memory.FramesWired.{ran_wire}
+use Rattle.vm_kernel.proofs.room.EndsSpend.{framed}
+use Rattle.vm_kernel.proofs.room.CallsSpend.{wired_count}
 use Rattle.vm_kernel.proofs.parts.Parts.wire.Goals as goal
 
 pub returns-clause-ran : goal.returns-clause-ran
 returns-clause-ran g c =
     on_ok c.tell_wired.result _ _
-    (ran_wire g.given.header g.given.host g.given.outside c.args.count g.given.past c.args.self.now c.args.ids.now c.args.log.now.items _ c.wire.new.self c.wire.result c.requires c.wire.ensures.enough c.wire.ensures.wired)
+    (ran_wire g.given.header g.given.host g.given.outside c.args.count g.given.past c.args.self.now c.args.ids.now c.args.log.now.items _ c.wire.new.self
+    c.wire.result c.requires c.wire.ensures.enough c.wire.ensures.wired)
     c.tell_wired.ensures.told
 
 pub returns-clause-plays : goal.returns-clause-plays

@@ -20,8 +20,15 @@ pub post-requires-clause-can : goal.post-requires-clause-can
 post-requires-clause-can c =
     let events = c.args.events.now.items in
     let past = c.all.self.history.items in
-    let next = told_at c.all.i c.at.result.now events c.all.self.size past c.at.ensures c.all.invariant.can in
-    (told c.all.i events past, record { posts = c.all.invariant.posts; can = next.can; at = c.index_behind-index.ensures ∙ sym (told_long c.all.i events past next.few) })
+    let next = told_at c.all.i c.at.result.now events c.all.self.size past c.at.ensures c.all.invariant.can in (
+      told c.all.i events past,
+      record {
+        posts = c.all.invariant.posts;
+        can = next.can;
+        at = c.index_behind-index.ensures
+            ∙ sym (told_long c.all.i events past next.few);
+      },
+    )
 
 pub all-preserved : goal.all-preserved
 all-preserved c =
@@ -31,15 +38,31 @@ all-preserved c =
     let past = s.history.items in
     let e = c.at.result.now in
     let next = told_at c.all.i e events s.size past c.at.ensures c.all.invariant.can in
-    let is : told (c.all.i + 1) events t.history.items ≡ e ∷ told c.all.i events past = ap (λ (h : Listed Event). told (c.all.i + 1) events h.items) c.post.ensures.history ∙ next.grows in
+    let is : told (c.all.i + 1) events t.history.items ≡ e ∷ told c.all.i events past = ap (λ (h : Listed Event). told (c.all.i + 1) events h.items)
+    c.post.ensures.history ∙ next.grows in
     let long = ap length next.left in
     let was = c.all.invariant.hosts in
     let now = c.post.ensures.hosts in
     record {
-      posts = subst (λ (all : List Event). Posts t all) (sym is) (c.post.ensures.posts (told c.all.i events past) (record { posts = c.all.invariant.posts; can = next.can; at = c.index_behind-index.ensures ∙ sym (told_long c.all.i events past next.few) }));
-      can = subst (λ (n : ℕ). CanTellAll n (reverse (drop (c.all.i + 1) (reverse events))) (told (c.all.i + 1) events t.history.items)) (sym now.size) (subst (λ (all : List Event). CanTellAll s.size (reverse (drop (c.all.i + 1) (reverse events))) all) (sym is) next.rest);
-      rest = λ n all. c.post.ensures.room (n + length (drop (c.all.i + 1) (reverse events))) (subst (λ (k : ℕ). HasRoom k s) (omega (arith, long)) (c.all.invariant.rest n all));
-      hosts = record { size = now.size ∙ was.size; hosts = now.hosts ∙ was.hosts; pagers = now.pagers ∙ was.pagers; declared = now.declared ∙ was.declared; files = now.files ∙ was.files; server = now.server ∙ was.server; log = now.log ∙ was.log };
+      posts =
+          subst (λ (all : List Event). Posts t all) (sym is) (c.post.ensures.posts (told c.all.i events past)
+          (record { posts = c.all.invariant.posts; can = next.can; at = c.index_behind-index.ensures ∙ sym (told_long c.all.i events past next.few) }));
+      can =
+          subst (λ (n : ℕ). CanTellAll n (reverse (drop (c.all.i + 1) (reverse events))) (told (c.all.i + 1) events t.history.items)) (sym now.size)
+          (subst (λ (all : List Event). CanTellAll s.size (reverse (drop (c.all.i + 1) (reverse events))) all) (sym is) next.rest);
+      rest =
+          λ n all. c.post.ensures.room (n + length (drop (c.all.i + 1) (reverse events)))
+          (subst (λ (k : ℕ). HasRoom k s) (omega (arith, long)) (c.all.invariant.rest n all));
+      hosts =
+          record {
+            size = now.size ∙ was.size;
+            hosts = now.hosts ∙ was.hosts;
+            pagers = now.pagers ∙ was.pagers;
+            declared = now.declared ∙ was.declared;
+            files = now.files ∙ was.files;
+            server = now.server ∙ was.server;
+            log = now.log ∙ was.log;
+          };
       history = c.post.ensures.history ∙ c.all.invariant.history;
     }
 

@@ -20,4 +20,5 @@ pub returns-clause-posts : goal.returns-clause-posts
 returns-clause-posts c = λ past may.
     let can = rw c.in-Sent.is at may.can in
     let sent = subst (λ (n : ℕ). Delivered c.in-Sent.channel c.in-Sent.message n c.args.self.now c.deliver.new.self) may.at c.deliver.ensures in
-    subst (λ (e : Event). Posts c.deliver.new.self (e ∷ past)) (sym c.in-Sent.is) (posts_sent c.in-Sent.channel c.in-Sent.message c.args.self.now c.deliver.new.self past can.0 can.1 may.posts sent)
+    subst (λ (e : Event). Posts c.deliver.new.self (e ∷ past)) (sym c.in-Sent.is)
+    (posts_sent c.in-Sent.channel c.in-Sent.message c.args.self.now c.deliver.new.self past can.0 can.1 may.posts sent)

@@ -1,4 +1,5 @@
-use Rattle.vm_system.proofs.Common.{Command, Makes, None, Some, ap, arms, false, none-some, on_err_weaker, on_ok_weaker, refl, refusal, subst, sym, takes_any, ◌∙◌, ◌≡◌}
+use Rattle.vm_system.proofs.Common.{Command, Makes, None, Some, ap, arms, false, none-some, on_err_weaker, on_ok_weaker, refl, refusal, subst, sym, takes_any}
+use Rattle.vm_system.proofs.Common.{◌∙◌, ◌≡◌}
 use Rattle.vm_model.specs.declared.command.Command.TheVariants as command
 use Rattle.vm_model.specs.declared.event.Device.TheVariants as device
 use Rattle.vm_system.proofs.Backed.{fit_spared, goes_still, still}
@@ -9,17 +10,25 @@ use Rattle.vm_system.proofs.state.State.step.Goals as goal
 pub returns-in-Some : goal.returns-in-Some
 returns-in-Some g c =
     let refused : refusal g.given.header c.args.self.now.history.items c.args.command.now ≡ Some c.in-Some.code = sym c.refusal.ensures ∙ c.in-Some.is in
-    let unarmed_files : arms device.Files c.args.command.now ≡ None = arms_refused device.Files g.given.header c.args.self.now.history.items c.args.command.now c.in-Some.code refused in
-    let unarmed_paging : arms device.Paging c.args.command.now ≡ None = arms_refused device.Paging g.given.header c.args.self.now.history.items c.args.command.now c.in-Some.code refused in
+    let unarmed_files : arms device.Files c.args.command.now ≡ None = arms_refused device.Files g.given.header c.args.self.now.history.items c.args.command.now
+    c.in-Some.code refused in
+    let unarmed_paging : arms device.Paging c.args.command.now ≡ None = arms_refused device.Paging g.given.header c.args.self.now.history.items
+    c.args.command.now c.in-Some.code refused in
     record {
       made = c.refuse.ensures.made;
       grew = on_either c.refuse.result (λ made. made.grew) (λ still. grew_none _ _ still.1) c.refuse.ensures.made c.refuse.ensures.err;
       err = c.refuse.ensures.err;
       unmoved = on_err_weaker c.refuse.result (λ still. ((refl, refl), (refl, refl))) c.refuse.ensures.err;
       backings = λ start fit. fit_spared _ _ start _ _ _ _ c.refuse.ensures.spares fit;
-      alone = on_ok_weaker c.refuse.result (λ made count is. absurd (settle_refused g.given.header c.args.self.now.history.items c.args.command.now c.in-Some.code refused count is)) c.refuse.ensures.made;
-      files = on_ok_weaker c.refuse.result (λ made. leaves_same g.given.header device.Files c.args.command.now _ c.args.files.now unarmed_files) c.refuse.ensures.made;
-      paging = on_ok_weaker c.refuse.result (λ made. leaves_same g.given.header device.Paging c.args.command.now _ c.args.paging.now unarmed_paging) c.refuse.ensures.made;
+      alone =
+          on_ok_weaker c.refuse.result (λ made count is. absurd (settle_refused g.given.header c.args.self.now.history.items c.args.command.now c.in-Some.code
+          refused count is)) c.refuse.ensures.made;
+      files =
+          on_ok_weaker c.refuse.result (λ made. leaves_same g.given.header device.Files c.args.command.now _ c.args.files.now unarmed_files)
+          c.refuse.ensures.made;
+      paging =
+          on_ok_weaker c.refuse.result (λ made. leaves_same g.given.header device.Paging c.args.command.now _ c.args.paging.now unarmed_paging)
+          c.refuse.ensures.made;
       calm = on_err_weaker c.refuse.result (λ still up. (still.1, refl, refl)) c.refuse.ensures.err;
       files_go = goes_still _ _ _ _ (λ unarmed. still g.F.Backing.later g.met.F.Backing.later_same c.args.files.now) c.refuse.ensures.spares.files.devices;
       paging_goes = goes_still _ _ _ _ (λ unarmed. still g.P.Backing.later g.met.P.Backing.later_same c.args.paging.now) c.refuse.ensures.spares.paging.devices;
@@ -28,14 +37,22 @@ returns-in-Some g c =
 pub returns-in-Take : goal.returns-in-Take
 returns-in-Take g c =
     record {
-      made = on_ok_weaker c.take_from.result (λ made. subst (λ (z : Command). Makes g.given.header g.given.outside (record { line = c.args.line; command = z }) c.args.self.now c.take_from.new.self) (sym c.in-Take.is) made) c.take_from.ensures.made;
+      made =
+          on_ok_weaker c.take_from.result (λ made. subst (λ (z : Command). Makes g.given.header g.given.outside (record { line = c.args.line; command = z })
+          c.args.self.now c.take_from.new.self) (sym c.in-Take.is) made) c.take_from.ensures.made;
       grew = c.take_from.ensures.grew;
       err = c.take_from.ensures.err;
       unmoved = c.take_from.ensures.unmoved;
       backings = c.take_from.ensures.backings;
-      alone = on_ok_weaker c.take_from.result (λ made count same. absurd (let bad : command.Take c.in-Take.channel ≡ command.Settle count = sym c.in-Take.is ∙ same in cc)) c.take_from.ensures.made;
-      files = on_ok_weaker c.take_from.result (λ asked. leaves_taken_by g.given.header device.Files c.args.command.now c.in-Take.channel _ _ _ c.in-Take.is c.take_from.ensures.files asked) c.take_from.ensures.files_unasked;
-      paging = on_ok_weaker c.take_from.result (λ asked. leaves_taken_by g.given.header device.Paging c.args.command.now c.in-Take.channel _ _ _ c.in-Take.is c.take_from.ensures.paging asked) c.take_from.ensures.unasked;
+      alone =
+          on_ok_weaker c.take_from.result (λ made count same. absurd (let bad : command.Take c.in-Take.channel ≡ command.Settle count = sym c.in-Take.is
+          ∙ same in cc)) c.take_from.ensures.made;
+      files =
+          on_ok_weaker c.take_from.result (λ asked. leaves_taken_by g.given.header device.Files c.args.command.now c.in-Take.channel _ _ _ c.in-Take.is
+          c.take_from.ensures.files asked) c.take_from.ensures.files_unasked;
+      paging =
+          on_ok_weaker c.take_from.result (λ asked. leaves_taken_by g.given.header device.Paging c.args.command.now c.in-Take.channel _ _ _ c.in-Take.is
+          c.take_from.ensures.paging asked) c.take_from.ensures.unasked;
       calm = on_err_weaker c.take_from.result (λ calm down. calm (subst (λ (z : Command). takes_any z ≡ false) c.in-Take.is down)) c.take_from.ensures.calm;
       files_go = record { later = λ unarmed. c.take_from.ensures.files_go.later; devices = c.take_from.ensures.files_go.devices };
       paging_goes = record { later = λ unarmed. c.take_from.ensures.paging_goes.later; devices = c.take_from.ensures.paging_goes.devices };
@@ -46,14 +63,20 @@ returns-in-Settle g c =
     let unarmed_files : arms device.Files c.args.command.now ≡ None = ap (arms device.Files) c.in-Settle.is in
     let unarmed_paging : arms device.Paging c.args.command.now ≡ None = ap (arms device.Paging) c.in-Settle.is in
     record {
-      made = on_ok_weaker c.settle.result (λ made. subst (λ (z : Command). Makes g.given.header g.given.outside (record { line = c.args.line; command = z }) c.args.self.now c.settle.new.self) (sym c.in-Settle.is) made) c.settle.ensures.made;
+      made =
+          on_ok_weaker c.settle.result (λ made. subst (λ (z : Command). Makes g.given.header g.given.outside (record { line = c.args.line; command = z })
+          c.args.self.now c.settle.new.self) (sym c.in-Settle.is) made) c.settle.ensures.made;
       grew = on_either c.settle.result (λ made. made.grew) (λ still. grew_none _ _ still.1) c.settle.ensures.made c.settle.ensures.err;
       err = c.settle.ensures.err;
       unmoved = on_err_weaker c.settle.result (λ still. ((refl, refl), (refl, refl))) c.settle.ensures.err;
       backings = λ start fit. fit_spared _ _ start _ _ _ _ c.settle.ensures.spares fit;
       alone = on_ok_weaker c.settle.result (λ line count is. line) c.settle.ensures.line;
-      files = on_ok_weaker c.settle.result (λ made. leaves_same g.given.header device.Files c.args.command.now _ c.args.files.now unarmed_files) c.settle.ensures.made;
-      paging = on_ok_weaker c.settle.result (λ made. leaves_same g.given.header device.Paging c.args.command.now _ c.args.paging.now unarmed_paging) c.settle.ensures.made;
+      files =
+          on_ok_weaker c.settle.result (λ made. leaves_same g.given.header device.Files c.args.command.now _ c.args.files.now unarmed_files)
+          c.settle.ensures.made;
+      paging =
+          on_ok_weaker c.settle.result (λ made. leaves_same g.given.header device.Paging c.args.command.now _ c.args.paging.now unarmed_paging)
+          c.settle.ensures.made;
       calm = on_err_weaker c.settle.result (λ still up. (still.1, refl, refl)) c.settle.ensures.err;
       files_go = goes_still _ _ _ _ (λ unarmed. still g.F.Backing.later g.met.F.Backing.later_same c.args.files.now) c.settle.ensures.spares.files.devices;
       paging_goes = goes_still _ _ _ _ (λ unarmed. still g.P.Backing.later g.met.P.Backing.later_same c.args.paging.now) c.settle.ensures.spares.paging.devices;
@@ -69,12 +92,20 @@ returns-in-Clean g c =
       err = c.pass-in-Clean.ensures.err;
       unmoved = on_err_weaker c.pass-in-Clean.result (λ still. ((refl, refl), (refl, refl))) c.pass-in-Clean.ensures.err;
       backings = λ start fit. fit_spared _ _ start _ _ _ _ c.pass-in-Clean.ensures.spares fit;
-      alone = on_ok_weaker c.pass-in-Clean.result (λ made count same. absurd (let bad : command.Clean c.in-Clean.object c.in-Clean.page c.in-Clean.count c.in-Clean.flush ≡ command.Settle count = sym c.in-Clean.is ∙ same in cc)) c.pass-in-Clean.ensures.made;
-      files = on_ok_weaker c.pass-in-Clean.result (λ made. leaves_same g.given.header device.Files c.args.command.now _ c.args.files.now unarmed_files) c.pass-in-Clean.ensures.made;
-      paging = on_ok_weaker c.pass-in-Clean.result (λ made. leaves_same g.given.header device.Paging c.args.command.now _ c.args.paging.now unarmed_paging) c.pass-in-Clean.ensures.made;
+      alone =
+          on_ok_weaker c.pass-in-Clean.result (λ made count same. absurd (let bad : command.Clean c.in-Clean.object c.in-Clean.page c.in-Clean.count
+          c.in-Clean.flush ≡ command.Settle count = sym c.in-Clean.is ∙ same in cc)) c.pass-in-Clean.ensures.made;
+      files =
+          on_ok_weaker c.pass-in-Clean.result (λ made. leaves_same g.given.header device.Files c.args.command.now _ c.args.files.now unarmed_files)
+          c.pass-in-Clean.ensures.made;
+      paging =
+          on_ok_weaker c.pass-in-Clean.result (λ made. leaves_same g.given.header device.Paging c.args.command.now _ c.args.paging.now unarmed_paging)
+          c.pass-in-Clean.ensures.made;
       calm = on_err_weaker c.pass-in-Clean.result (λ still up. (still.1, refl, refl)) c.pass-in-Clean.ensures.err;
-      files_go = goes_still _ _ _ _ (λ unarmed. still g.F.Backing.later g.met.F.Backing.later_same c.args.files.now) c.pass-in-Clean.ensures.spares.files.devices;
-      paging_goes = goes_still _ _ _ _ (λ unarmed. still g.P.Backing.later g.met.P.Backing.later_same c.args.paging.now) c.pass-in-Clean.ensures.spares.paging.devices;
+      files_go =
+          goes_still _ _ _ _ (λ unarmed. still g.F.Backing.later g.met.F.Backing.later_same c.args.files.now) c.pass-in-Clean.ensures.spares.files.devices;
+      paging_goes =
+          goes_still _ _ _ _ (λ unarmed. still g.P.Backing.later g.met.P.Backing.later_same c.args.paging.now) c.pass-in-Clean.ensures.spares.paging.devices;
     }
 
 pub returns-in-Say : goal.returns-in-Say
@@ -87,18 +118,27 @@ returns-in-Say g c =
       err = c.pass-in-Say.ensures.err;
       unmoved = on_err_weaker c.pass-in-Say.result (λ still. ((refl, refl), (refl, refl))) c.pass-in-Say.ensures.err;
       backings = λ start fit. fit_spared _ _ start _ _ _ _ c.pass-in-Say.ensures.spares fit;
-      alone = on_ok_weaker c.pass-in-Say.result (λ made count same. absurd (let bad : command.Say c.in-Say.host c.in-Say.object c.in-Say.message ≡ command.Settle count = sym c.in-Say.is ∙ same in cc)) c.pass-in-Say.ensures.made;
-      files = on_ok_weaker c.pass-in-Say.result (λ made. leaves_same g.given.header device.Files c.args.command.now _ c.args.files.now unarmed_files) c.pass-in-Say.ensures.made;
-      paging = on_ok_weaker c.pass-in-Say.result (λ made. leaves_same g.given.header device.Paging c.args.command.now _ c.args.paging.now unarmed_paging) c.pass-in-Say.ensures.made;
+      alone =
+          on_ok_weaker c.pass-in-Say.result (λ made count same. absurd (let bad : command.Say c.in-Say.host c.in-Say.object c.in-Say.message ≡ command.Settle
+          count = sym c.in-Say.is ∙ same in cc)) c.pass-in-Say.ensures.made;
+      files =
+          on_ok_weaker c.pass-in-Say.result (λ made. leaves_same g.given.header device.Files c.args.command.now _ c.args.files.now unarmed_files)
+          c.pass-in-Say.ensures.made;
+      paging =
+          on_ok_weaker c.pass-in-Say.result (λ made. leaves_same g.given.header device.Paging c.args.command.now _ c.args.paging.now unarmed_paging)
+          c.pass-in-Say.ensures.made;
       calm = on_err_weaker c.pass-in-Say.result (λ still up. (still.1, refl, refl)) c.pass-in-Say.ensures.err;
       files_go = goes_still _ _ _ _ (λ unarmed. still g.F.Backing.later g.met.F.Backing.later_same c.args.files.now) c.pass-in-Say.ensures.spares.files.devices;
-      paging_goes = goes_still _ _ _ _ (λ unarmed. still g.P.Backing.later g.met.P.Backing.later_same c.args.paging.now) c.pass-in-Say.ensures.spares.paging.devices;
+      paging_goes =
+          goes_still _ _ _ _ (λ unarmed. still g.P.Backing.later g.met.P.Backing.later_same c.args.paging.now) c.pass-in-Say.ensures.spares.paging.devices;
     }
 
 pub returns-in_default-command : goal.returns-in_default-command
 returns-in_default-command g c =
-    let unarmed_files : arms device.Files c.args.command.now ≡ None = arms_none device.Files c.args.command.now c.in_default-command.not-FailFiles c.in_default-command.not-FailPaging in
-    let unarmed_paging : arms device.Paging c.args.command.now ≡ None = arms_none device.Paging c.args.command.now c.in_default-command.not-FailFiles c.in_default-command.not-FailPaging in
+    let unarmed_files : arms device.Files c.args.command.now ≡ None = arms_none device.Files c.args.command.now c.in_default-command.not-FailFiles
+    c.in_default-command.not-FailPaging in
+    let unarmed_paging : arms device.Paging c.args.command.now ≡ None = arms_none device.Paging c.args.command.now c.in_default-command.not-FailFiles
+    c.in_default-command.not-FailPaging in
     record {
       made = c.begin.ensures.made;
       grew = on_either c.begin.result (λ made. made.grew) (λ still. grew_none _ _ still.1) c.begin.ensures.made c.begin.ensures.err;
@@ -106,8 +146,12 @@ returns-in_default-command g c =
       unmoved = on_err_weaker c.begin.result (λ still. ((refl, refl), (refl, refl))) c.begin.ensures.err;
       backings = λ start fit. fit_spared _ _ start _ _ _ _ c.begin.ensures.spares fit;
       alone = on_ok_weaker c.begin.result (λ made count is. absurd (c.in_default-command.not-Settle count is)) c.begin.ensures.made;
-      files = on_ok_weaker c.begin.result (λ made. leaves_same g.given.header device.Files c.args.command.now _ c.args.files.now unarmed_files) c.begin.ensures.made;
-      paging = on_ok_weaker c.begin.result (λ made. leaves_same g.given.header device.Paging c.args.command.now _ c.args.paging.now unarmed_paging) c.begin.ensures.made;
+      files =
+          on_ok_weaker c.begin.result (λ made. leaves_same g.given.header device.Files c.args.command.now _ c.args.files.now unarmed_files)
+          c.begin.ensures.made;
+      paging =
+          on_ok_weaker c.begin.result (λ made. leaves_same g.given.header device.Paging c.args.command.now _ c.args.paging.now unarmed_paging)
+          c.begin.ensures.made;
       calm = on_err_weaker c.begin.result (λ still up. (still.1, refl, refl)) c.begin.ensures.err;
       files_go = goes_still _ _ _ _ (λ unarmed. still g.F.Backing.later g.met.F.Backing.later_same c.args.files.now) c.begin.ensures.spares.files.devices;
       paging_goes = goes_still _ _ _ _ (λ unarmed. still g.P.Backing.later g.met.P.Backing.later_same c.args.paging.now) c.begin.ensures.spares.paging.devices;
@@ -127,7 +171,11 @@ returns-in_ok-pass-in-FailFiles g c =
       files = leaves_armed g.given.header device.Files c.args.command.now _ c.in-FailFiles.count _ c.args.files.now _ armed c.from.ensures c.arm.ensures;
       paging = leaves_same g.given.header device.Paging c.args.command.now _ c.args.paging.now unarmed;
       calm = tt;
-      files_go = record { later = λ none. absurd (none-some c.in-FailFiles.count (sym none ∙ armed)); devices = rw c.arm.ensures (causes_same _ _ _ _ c.pass.ensures.spares.files.devices) };
+      files_go =
+          record {
+            later = λ none. absurd (none-some c.in-FailFiles.count (sym none ∙ armed));
+            devices = rw c.arm.ensures (causes_same _ _ _ _ c.pass.ensures.spares.files.devices);
+          };
       paging_goes = goes_still _ _ _ _ (λ unarmed. still g.P.Backing.later g.met.P.Backing.later_same c.args.paging.now) c.pass.ensures.spares.paging.devices;
     }
 
@@ -154,10 +202,17 @@ returns-in_ok-pass-in-FailPaging g c =
       backings = λ start fit. rw c.arm-in-FailPaging.ensures (fit_spared _ _ start _ _ _ _ c.pass-in-FailPaging.ensures.spares fit);
       alone = λ count same. absurd (let bad : command.FailPaging c.in-FailPaging.count ≡ command.Settle count = sym c.in-FailPaging.is ∙ same in cc);
       files = leaves_same g.given.header device.Files c.args.command.now _ c.args.files.now unarmed;
-      paging = leaves_armed g.given.header device.Paging c.args.command.now _ c.in-FailPaging.count _ c.args.paging.now _ armed c.from-in-FailPaging.ensures c.arm-in-FailPaging.ensures;
+      paging =
+          leaves_armed g.given.header device.Paging c.args.command.now _ c.in-FailPaging.count _ c.args.paging.now _ armed c.from-in-FailPaging.ensures
+          c.arm-in-FailPaging.ensures;
       calm = tt;
-      files_go = goes_still _ _ _ _ (λ unarmed. still g.F.Backing.later g.met.F.Backing.later_same c.args.files.now) c.pass-in-FailPaging.ensures.spares.files.devices;
-      paging_goes = record { later = λ none. absurd (none-some c.in-FailPaging.count (sym none ∙ armed)); devices = rw c.arm-in-FailPaging.ensures (causes_same _ _ _ _ c.pass-in-FailPaging.ensures.spares.paging.devices) };
+      files_go =
+          goes_still _ _ _ _ (λ unarmed. still g.F.Backing.later g.met.F.Backing.later_same c.args.files.now) c.pass-in-FailPaging.ensures.spares.files.devices;
+      paging_goes =
+          record {
+            later = λ none. absurd (none-some c.in-FailPaging.count (sym none ∙ armed));
+            devices = rw c.arm-in-FailPaging.ensures (causes_same _ _ _ _ c.pass-in-FailPaging.ensures.spares.paging.devices);
+          };
     }
 
 pub returns-in_err-pass-in-FailPaging-clause-backings : goal.returns-in_err-pass-in-FailPaging-clause-backings

@@ -10,7 +10,8 @@ abbrev pub ghost-refuse : goal.ghost-refuse
 ghost-refuse g a = g.given
 
 abbrev pub ghost-take_from : goal.ghost-take_from
-ghost-take_from g a = record { header = g.given.header; outside = g.given.outside; command = command.Take a.channel; past = event.Line a.line ∷ a.self.now.history.items }
+ghost-take_from g a =
+    record { header = g.given.header; outside = g.given.outside; command = command.Take a.channel; past = event.Line a.line ∷ a.self.now.history.items }
 
 abbrev pub ghost-settle : goal.ghost-settle
 ghost-settle g a = g.given

@@ -1,12 +1,15 @@
-use Rattle.vm_system.proofs.Common.{Channel, Event, Followed, Going, List, Listed, PagerHasAnswered, Up, [], ap, arith, devices, length, queue, refl, set, subst, sym, take, ℕ, ◌++◌, ◌+◌, ◌∙◌, ◌∷◌, ◌≡◌}
+use Rattle.vm_system.proofs.Common.{Channel, Event, Followed, Going, List, Listed, PagerHasAnswered, Up, [], ap, arith, devices, length, queue, refl, set}
+use Rattle.vm_system.proofs.Common.{subst, sym, take, ℕ, ◌++◌, ◌+◌, ◌∙◌, ◌∷◌, ◌≡◌}
 use Rattle.pg_file.specs.Files.{FileTable}
 use Rattle.vm_model.specs.declared.event.Device.TheVariants.{Files}
 use Rattle.vm_model.specs.declared.event.Event.TheVariants as event
 use Rattle.vm_system.proofs.Beginning.{same_hosts}
 use Rattle.vm_system.proofs.Following.{both_paging, filed_same, same_files, same_declared, same_paging, same_pagers}
-use Rattle.vm_system.proofs.Roomed.{arming_kept, behind_answers, behind_first, may_roomed, on_err, ready_still, room_for, roomed_files, roomed_pagers, still_alike, still_roomed}
+use Rattle.vm_system.proofs.Roomed.{arming_kept, behind_answers, behind_first, may_roomed, on_err, ready_still, room_for, roomed_files, roomed_pagers}
+use Rattle.vm_system.proofs.Roomed.{still_alike, still_roomed}
 use Rattle.vm_system.proofs.Taken.{first_told, may_head, may_only, may_port, may_read, may_some, may_there}
-use Rattle.vm_system.proofs.TakenFiled.{answered_filed, can_reply_filed, carried_failed, carried_filed, devices_filed, filed_failed, filed_known, filed_reply, kept_filed, spares_filed, stands_filed, took_filed, up_filed}
+use Rattle.vm_system.proofs.TakenFiled.{answered_filed, can_reply_filed, carried_failed, carried_filed, devices_filed, filed_failed, filed_known, filed_reply}
+use Rattle.vm_system.proofs.TakenFiled.{kept_filed, spares_filed, stands_filed, took_filed, up_filed}
 use Rattle.vm_system.proofs.TakenUp.{front_is, front_length, pager_read, set_same}
 use Rattle.vm_kernel.specs.declared.breadth.Breadth.TheVariants as wide
 use Rattle.vm_system.proofs.state.State.take_filed.Goals as goal
@@ -70,7 +73,8 @@ answer-requires-clause-whole g c =
     let m = c.sent-message.result.now in
     let at = may_head given c.args.line c.args.number channel c.in-Some.index.now m t any c.in-Some.ensures c.sent-message.ensures in
     let old = c.index_mut.result.now in
-    let found = pager_read t.files.items c.args.object.0 old (filed_known given c.args.line c.args.number c.args.host c.args.object t any c.requires.1.1.0) c.index_mut.ensures.value in
+    let found = pager_read t.files.items c.args.object.0 old (filed_known given c.args.line c.args.number c.args.host c.args.object t any c.requires.1.1.0)
+    c.index_mut.ensures.value in
     let word = up_filed given c.args.line c.args.number c.args.host c.args.object m t any at in
     rw (stands_filed given c.args.line c.args.number c.args.host c.args.object t old any c.requires.1.1.0 found).size_is word.1
 
@@ -84,7 +88,8 @@ returns-in_err-replies-clause-files_kept g c =
     let m = c.sent-message.result.now in
     let at = may_head given c.args.line c.args.number channel c.in-Some.index.now m t any c.in-Some.ensures c.sent-message.ensures in
     let old = c.index_mut.result.now in
-    let found = pager_read t.files.items c.args.object.0 old (filed_known given c.args.line c.args.number c.args.host c.args.object t any c.requires.1.1.0) c.index_mut.ensures.value in
+    let found = pager_read t.files.items c.args.object.0 old (filed_known given c.args.line c.args.number c.args.host c.args.object t any c.requires.1.1.0)
+    c.index_mut.ensures.value in
     let had = filed_same given.header given.outside _ c.args.self.now t (roomed_files _ _ r) r.history c.requires.1.1.1 in
     let e = c.in_err-replies.ensures in
     let same = ap (λ (z : FileTable). set t.files.items c.args.object.0 z) e.err ∙ set_same t.files.items c.args.object.0 old found in
@@ -129,12 +134,14 @@ commit-requires-clause-can g c =
     let m = c.sent-message.result.now in
     let at = may_head given c.args.line c.args.number channel c.in-Some.index.now m t any c.in-Some.ensures c.sent-message.ensures in
     let old = c.index_mut.result.now in
-    let found = pager_read t.files.items c.args.object.0 old (filed_known given c.args.line c.args.number c.args.host c.args.object t any c.requires.1.1.0) c.index_mut.ensures.value in
+    let found = pager_read t.files.items c.args.object.0 old (filed_known given c.args.line c.args.number c.args.host c.args.object t any c.requires.1.1.0)
+    c.index_mut.ensures.value in
     let had = filed_same given.header given.outside _ c.args.self.now t (roomed_files _ _ r) r.history c.requires.1.1.1 in
     let e = c.in_ok-replies.ensures in
     let events = c.in_ok-replies.replies.items in
     let table = c.answer.new.self in
-    let reply = filed_reply given c.args.line c.args.number c.args.host c.args.object m _ t old table events any c.requires.1.1.0 at found e.answered had e.bytes in
+    let reply = filed_reply given c.args.line c.args.number c.args.host c.args.object m _ t old table events any c.requires.1.1.0 at found e.answered had
+    e.bytes in
     let told = first_told given c.args.line c.args.number channel m t t c.take_first.new.self any at refl refl c.take_first.ensures.history in
     rw (c.take_first.ensures.hosts.size, any.stands.agrees.size, told) (can_reply_filed given c.args.host c.args.object m t old table events reply)
 
@@ -150,7 +157,9 @@ take_first-requires-clause-buffer g c = c.in_ok-prepare.ensures.ready.1.buffer
 pub commit-requires-clause-room : goal.commit-requires-clause-room
 commit-requires-clause-room g c =
     let ready = c.in_ok-prepare.ensures.ready in
-    room_for ready.0 2 (length c.in_ok-replies.replies.items) c.take_first.new.self c.in_ok-replies.ensures.few (behind_first ready.0 2 c.prepare.new.self c.take_first.new.self ready.1.room (λ n h d s l. c.take_first.ensures.room n (record { history = h; channels = d; numbers = s; letters = l })))
+    room_for ready.0 2 (length c.in_ok-replies.replies.items) c.take_first.new.self c.in_ok-replies.ensures.few
+    (behind_first ready.0 2 c.prepare.new.self c.take_first.new.self ready.1.room
+    (λ n h d s l. c.take_first.ensures.room n (record { history = h; channels = d; numbers = s; letters = l })))
 
 pub follow-requires : goal.follow-requires
 follow-requires g c =
@@ -162,12 +171,14 @@ follow-requires g c =
     let m = c.sent-message.result.now in
     let at = may_head given c.args.line c.args.number channel c.in-Some.index.now m t any c.in-Some.ensures c.sent-message.ensures in
     let old = c.index_mut.result.now in
-    let found = pager_read t.files.items c.args.object.0 old (filed_known given c.args.line c.args.number c.args.host c.args.object t any c.requires.1.1.0) c.index_mut.ensures.value in
+    let found = pager_read t.files.items c.args.object.0 old (filed_known given c.args.line c.args.number c.args.host c.args.object t any c.requires.1.1.0)
+    c.index_mut.ensures.value in
     let had = filed_same given.header given.outside _ c.args.self.now t (roomed_files _ _ r) r.history c.requires.1.1.1 in
     let e = c.in_ok-replies.ensures in
     let events = c.in_ok-replies.replies.items in
     let table = c.answer.new.self in
-    let reply = filed_reply given c.args.line c.args.number c.args.host c.args.object m _ t old table events any c.requires.1.1.0 at found e.answered had e.bytes in
+    let reply = filed_reply given c.args.line c.args.number c.args.host c.args.object m _ t old table events any c.requires.1.1.0 at found e.answered had
+    e.bytes in
     let told = first_told given c.args.line c.args.number channel m t t c.take_first.new.self any at refl refl c.take_first.ensures.history in
     let both = same_hosts _ _ _ c.take_first.ensures.hosts c.commit.ensures.hosts in
     let now = c.commit.new.self in
@@ -175,14 +186,21 @@ follow-requires g c =
     let items : now.history.items ≡ events ++ event.Taken channel m ∷ given.past = c.commit.ensures.history ∙ ap (λ (z : List Event). events ++ z) told in
     let n = c.len-fresh.result + 1 in
     let count : n ≡ length events + 1 = ap (λ (z : ℕ). z + 1) c.len-fresh.ensures in
-    let front : take n now.history.items ≡ events ++ event.Taken channel m ∷ [] = front_is n events (event.Taken channel m) given.past now.history.items count items in
+    let front : take n now.history.items ≡ events ++ event.Taken channel m ∷ [] = front_is n events (event.Taken channel m) given.past now.history.items count
+    items in
     let going : List Event → Going = λ z. record { header = given.header; outside = given.outside; command = given.command; past = given.past; front = z } in
     let done : PagerHasAnswered (going (take n now.history.items)) c.args.host c.gives_frame-washed.result now =
     rw (front, c.gives_frame-washed.ensures)
-    (answered_filed given c.args.host c.args.object m t now old table events reply (same_pagers _ _ both) files (same_declared _ _ both ∙ any.stands.agrees.declared) both.server both.hosts (both.size ∙ any.stands.agrees.size) items c.commit.ensures.posts (ap (λ (z : Listed Event). z.items) both.log ∙ any.stands.log)) in
+    (answered_filed given c.args.host c.args.object m t now old table events reply (same_pagers _ _ both) files
+    (same_declared _ _ both ∙ any.stands.agrees.declared) both.server both.hosts (both.size ∙ any.stands.agrees.size) items c.commit.ensures.posts
+    (ap (λ (z : Listed Event). z.items) both.log ∙ any.stands.log)) in
     let ready = c.in_ok-prepare.ensures.ready in
-    let room = behind_answers ready.0 2 (length events) c.take_first.new.self now c.in_ok-replies.ensures.few (behind_first ready.0 2 t c.take_first.new.self ready.1.room (λ n h d s l. c.take_first.ensures.room n (record { history = h; channels = d; numbers = s; letters = l }))) c.commit.ensures.room in
-    (front_length n now.history.items events (event.Taken channel m) front count, (done, (ready.0, (ready_still wide.Few ready.0 t now both.hosts both.log ready.1.hosts, room))))
+    let room = behind_answers ready.0 2 (length events) c.take_first.new.self now c.in_ok-replies.ensures.few
+    (behind_first ready.0 2 t c.take_first.new.self ready.1.room (λ n h d s l. c.take_first.ensures.room n
+    (record { history = h; channels = d; numbers = s; letters = l }))) c.commit.ensures.room in (
+      front_length n now.history.items events (event.Taken channel m) front count,
+      (done, (ready.0, (ready_still wide.Few ready.0 t now both.hosts both.log ready.1.hosts, room))),
+    )
 
 pub returns-clause-files_kept : goal.returns-clause-files_kept
 returns-clause-files_kept g c =
@@ -194,18 +212,21 @@ returns-clause-files_kept g c =
     let m = c.sent-message.result.now in
     let at = may_head given c.args.line c.args.number channel c.in-Some.index.now m t any c.in-Some.ensures c.sent-message.ensures in
     let old = c.index_mut.result.now in
-    let found = pager_read t.files.items c.args.object.0 old (filed_known given c.args.line c.args.number c.args.host c.args.object t any c.requires.1.1.0) c.index_mut.ensures.value in
+    let found = pager_read t.files.items c.args.object.0 old (filed_known given c.args.line c.args.number c.args.host c.args.object t any c.requires.1.1.0)
+    c.index_mut.ensures.value in
     let had = filed_same given.header given.outside _ c.args.self.now t (roomed_files _ _ r) r.history c.requires.1.1.1 in
     let e = c.in_ok-replies.ensures in
     let events = c.in_ok-replies.replies.items in
     let table = c.answer.new.self in
-    let reply = filed_reply given c.args.line c.args.number c.args.host c.args.object m _ t old table events any c.requires.1.1.0 at found e.answered had e.bytes in
+    let reply = filed_reply given c.args.line c.args.number c.args.host c.args.object m _ t old table events any c.requires.1.1.0 at found e.answered had
+    e.bytes in
     let told = first_told given c.args.line c.args.number channel m t t c.take_first.new.self any at refl refl c.take_first.ensures.history in
     let both = same_hosts _ _ _ c.take_first.ensures.hosts c.commit.ensures.hosts in
     let now = c.commit.new.self in
     let files : now.files.items ≡ set t.files.items c.args.object.0 table = same_files _ _ both in
     let items : now.history.items ≡ events ++ event.Taken channel m ∷ given.past = c.commit.ensures.history ∙ ap (λ (z : List Event). events ++ z) told in
-    c.follow.ensures.spares.files.kept _ (kept_filed given c.args.line c.args.number c.args.host c.args.object m t now old table c.in_ok-replies.replies _ _ any reply e.told had files items)
+    c.follow.ensures.spares.files.kept _ (kept_filed given c.args.line c.args.number c.args.host c.args.object m t now old table c.in_ok-replies.replies _ _ any
+    reply e.told had files items)
 
 pub returns-clause-carried : goal.returns-clause-carried
 returns-clause-carried g c =
@@ -217,18 +238,21 @@ returns-clause-carried g c =
     let m = c.sent-message.result.now in
     let at = may_head given c.args.line c.args.number channel c.in-Some.index.now m t any c.in-Some.ensures c.sent-message.ensures in
     let old = c.index_mut.result.now in
-    let found = pager_read t.files.items c.args.object.0 old (filed_known given c.args.line c.args.number c.args.host c.args.object t any c.requires.1.1.0) c.index_mut.ensures.value in
+    let found = pager_read t.files.items c.args.object.0 old (filed_known given c.args.line c.args.number c.args.host c.args.object t any c.requires.1.1.0)
+    c.index_mut.ensures.value in
     let had = filed_same given.header given.outside _ c.args.self.now t (roomed_files _ _ r) r.history c.requires.1.1.1 in
     let e = c.in_ok-replies.ensures in
     let events = c.in_ok-replies.replies.items in
     let table = c.answer.new.self in
-    let reply = filed_reply given c.args.line c.args.number c.args.host c.args.object m _ t old table events any c.requires.1.1.0 at found e.answered had e.bytes in
+    let reply = filed_reply given c.args.line c.args.number c.args.host c.args.object m _ t old table events any c.requires.1.1.0 at found e.answered had
+    e.bytes in
     let told = first_told given c.args.line c.args.number channel m t t c.take_first.new.self any at refl refl c.take_first.ensures.history in
     let now = c.commit.new.self in
     let items : now.history.items ≡ events ++ event.Taken channel m ∷ given.past = c.commit.ensures.history ∙ ap (λ (z : List Event). events ++ z) told in
     λ start carry.
     c.follow.ensures.spares.files.carried start _
-    (carried_filed given c.args.line c.args.number c.args.host c.args.object m t now old table c.in_ok-replies.replies start _ _ any reply e.told items (rw r.history carry))
+    (carried_filed given c.args.line c.args.number c.args.host c.args.object m t now old table c.in_ok-replies.replies start _ _ any reply e.told items
+    (rw r.history carry))
 
 pub returns-clause-files_go : goal.returns-clause-files_go
 returns-clause-files_go g c =
@@ -240,16 +264,22 @@ returns-clause-files_go g c =
     let m = c.sent-message.result.now in
     let at = may_head given c.args.line c.args.number channel c.in-Some.index.now m t any c.in-Some.ensures c.sent-message.ensures in
     let old = c.index_mut.result.now in
-    let found = pager_read t.files.items c.args.object.0 old (filed_known given c.args.line c.args.number c.args.host c.args.object t any c.requires.1.1.0) c.index_mut.ensures.value in
+    let found = pager_read t.files.items c.args.object.0 old (filed_known given c.args.line c.args.number c.args.host c.args.object t any c.requires.1.1.0)
+    c.index_mut.ensures.value in
     let had = filed_same given.header given.outside _ c.args.self.now t (roomed_files _ _ r) r.history c.requires.1.1.1 in
     let e = c.in_ok-replies.ensures in
     let events = c.in_ok-replies.replies.items in
     let table = c.answer.new.self in
-    let reply = filed_reply given c.args.line c.args.number c.args.host c.args.object m _ t old table events any c.requires.1.1.0 at found e.answered had e.bytes in
+    let reply = filed_reply given c.args.line c.args.number c.args.host c.args.object m _ t old table events any c.requires.1.1.0 at found e.answered had
+    e.bytes in
     let told = first_told given c.args.line c.args.number channel m t t c.take_first.new.self any at refl refl c.take_first.ensures.history in
     let now = c.commit.new.self in
     let items : now.history.items ≡ events ++ event.Taken channel m ∷ given.past = c.commit.ensures.history ∙ ap (λ (z : List Event). events ++ z) told in
-    record { later = e.later; devices = rw (sym r.history) (devices_filed given c.args.line c.args.number c.args.host c.args.object m t old table c.in_ok-replies.replies _ _ c.follow.new.self.history.items any reply e.cause (c.follow.ensures.spares.files.devices ∙ ap (devices Files) items)) }
+    record {
+      later = e.later;
+      devices = rw (sym r.history) (devices_filed given c.args.line c.args.number c.args.host c.args.object m t old table
+          c.in_ok-replies.replies _ _ c.follow.new.self.history.items any reply e.cause (c.follow.ensures.spares.files.devices ∙ ap (devices Files) items));
+    }
 
 pub returns-clause-spares : goal.returns-clause-spares
 returns-clause-spares g c =
@@ -261,12 +291,14 @@ returns-clause-spares g c =
     let m = c.sent-message.result.now in
     let at = may_head given c.args.line c.args.number channel c.in-Some.index.now m t any c.in-Some.ensures c.sent-message.ensures in
     let old = c.index_mut.result.now in
-    let found = pager_read t.files.items c.args.object.0 old (filed_known given c.args.line c.args.number c.args.host c.args.object t any c.requires.1.1.0) c.index_mut.ensures.value in
+    let found = pager_read t.files.items c.args.object.0 old (filed_known given c.args.line c.args.number c.args.host c.args.object t any c.requires.1.1.0)
+    c.index_mut.ensures.value in
     let had = filed_same given.header given.outside _ c.args.self.now t (roomed_files _ _ r) r.history c.requires.1.1.1 in
     let e = c.in_ok-replies.ensures in
     let events = c.in_ok-replies.replies.items in
     let table = c.answer.new.self in
-    let reply = filed_reply given c.args.line c.args.number c.args.host c.args.object m _ t old table events any c.requires.1.1.0 at found e.answered had e.bytes in
+    let reply = filed_reply given c.args.line c.args.number c.args.host c.args.object m _ t old table events any c.requires.1.1.0 at found e.answered had
+    e.bytes in
     let told = first_told given c.args.line c.args.number channel m t t c.take_first.new.self any at refl refl c.take_first.ensures.history in
     let both = same_hosts _ _ _ c.take_first.ensures.hosts c.commit.ensures.hosts in
     let now = c.commit.new.self in
@@ -274,7 +306,8 @@ returns-clause-spares g c =
     let header = given.header in
     let outside = given.outside in
     both_paging header outside c.args.self.now t c.follow.new.self (same_paging header outside c.args.self.now t (roomed_pagers _ _ r) r.history)
-    (both_paging header outside t now c.follow.new.self (spares_filed given c.args.line c.args.number c.args.host c.args.object m t now old table events any reply (same_pagers _ _ both) items) c.follow.ensures.spares.paging)
+    (both_paging header outside t now c.follow.new.self (spares_filed given c.args.line c.args.number c.args.host c.args.object m t now old table events any
+    reply (same_pagers _ _ both) items) c.follow.ensures.spares.paging)
 
 pub returns-clause-took : goal.returns-clause-took
 returns-clause-took g c =
@@ -286,27 +319,34 @@ returns-clause-took g c =
     let m = c.sent-message.result.now in
     let at = may_head given c.args.line c.args.number channel c.in-Some.index.now m t any c.in-Some.ensures c.sent-message.ensures in
     let old = c.index_mut.result.now in
-    let found = pager_read t.files.items c.args.object.0 old (filed_known given c.args.line c.args.number c.args.host c.args.object t any c.requires.1.1.0) c.index_mut.ensures.value in
+    let found = pager_read t.files.items c.args.object.0 old (filed_known given c.args.line c.args.number c.args.host c.args.object t any c.requires.1.1.0)
+    c.index_mut.ensures.value in
     let had = filed_same given.header given.outside _ c.args.self.now t (roomed_files _ _ r) r.history c.requires.1.1.1 in
     let e = c.in_ok-replies.ensures in
     let events = c.in_ok-replies.replies.items in
     let table = c.answer.new.self in
-    let reply = filed_reply given c.args.line c.args.number c.args.host c.args.object m _ t old table events any c.requires.1.1.0 at found e.answered had e.bytes in
+    let reply = filed_reply given c.args.line c.args.number c.args.host c.args.object m _ t old table events any c.requires.1.1.0 at found e.answered had
+    e.bytes in
     let told = first_told given c.args.line c.args.number channel m t t c.take_first.new.self any at refl refl c.take_first.ensures.history in
     let now = c.commit.new.self in
     let items : now.history.items ≡ events ++ event.Taken channel m ∷ given.past = c.commit.ensures.history ∙ ap (λ (z : List Event). events ++ z) told in
     let n = c.len-fresh.result + 1 in
     let count : n ≡ length events + 1 = ap (λ (z : ℕ). z + 1) c.len-fresh.ensures in
-    let front : take n now.history.items ≡ events ++ event.Taken channel m ∷ [] = front_is n events (event.Taken channel m) given.past now.history.items count items in
+    let front : take n now.history.items ≡ events ++ event.Taken channel m ∷ [] = front_is n events (event.Taken channel m) given.past now.history.items count
+    items in
     let new = c.follow.new.self in
     let going : List Event → Going = λ z. record { header = given.header; outside = given.outside; command = given.command; past = given.past; front = z } in
-    took_filed given c.args.host c.args.object m t new old table events reply (subst (λ (z : List Event). Followed (going z) new) front c.follow.ensures.followed)
+    took_filed given c.args.host c.args.object m t new old table events reply (subst (λ (z : List Event). Followed (going z) new) front
+    c.follow.ensures.followed)
 
 pub returns-in_err-prepare-clause-files_kept : goal.returns-in_err-prepare-clause-files_kept
-returns-in_err-prepare-clause-files_kept g c = filed_same g.given.header g.given.outside _ c.args.self.now c.prepare.new.self (roomed_files _ _ c.prepare.ensures.same) c.prepare.ensures.same.history c.requires.1.1.1
+returns-in_err-prepare-clause-files_kept g c =
+    filed_same g.given.header g.given.outside _ c.args.self.now c.prepare.new.self (roomed_files _ _ c.prepare.ensures.same) c.prepare.ensures.same.history
+    c.requires.1.1.1
 
 pub returns-in_err-prepare-clause-spares : goal.returns-in_err-prepare-clause-spares
-returns-in_err-prepare-clause-spares g c = same_paging g.given.header g.given.outside c.args.self.now c.prepare.new.self (roomed_pagers _ _ c.prepare.ensures.same) c.prepare.ensures.same.history
+returns-in_err-prepare-clause-spares g c =
+    same_paging g.given.header g.given.outside c.args.self.now c.prepare.new.self (roomed_pagers _ _ c.prepare.ensures.same) c.prepare.ensures.same.history
 
 pub returns-in_err-prepare-clause-err : goal.returns-in_err-prepare-clause-err
 returns-in_err-prepare-clause-err g c =
@@ -314,7 +354,8 @@ returns-in_err-prepare-clause-err g c =
     (still_roomed g.given.header g.given.outside c.args.self.now c.prepare.new.self c.prepare.ensures.same c.requires.1.0.stands)
 
 pub returns-in_err-replies-clause-spares : goal.returns-in_err-replies-clause-spares
-returns-in_err-replies-clause-spares g c = same_paging g.given.header g.given.outside c.args.self.now _ (roomed_pagers _ _ c.prepare.ensures.same) c.prepare.ensures.same.history
+returns-in_err-replies-clause-spares g c =
+    same_paging g.given.header g.given.outside c.args.self.now _ (roomed_pagers _ _ c.prepare.ensures.same) c.prepare.ensures.same.history
 
 pub returns-in_err-replies-clause-err : goal.returns-in_err-replies-clause-err
 returns-in_err-replies-clause-err g c =
@@ -327,7 +368,8 @@ returns-in_err-replies-clause-err g c =
     let m = c.sent-message.result.now in
     let at = may_head given c.args.line c.args.number channel c.in-Some.index.now m t any c.in-Some.ensures c.sent-message.ensures in
     let old = c.index_mut.result.now in
-    let found = pager_read t.files.items c.args.object.0 old (filed_known given c.args.line c.args.number c.args.host c.args.object t any c.requires.1.1.0) c.index_mut.ensures.value in
+    let found = pager_read t.files.items c.args.object.0 old (filed_known given c.args.line c.args.number c.args.host c.args.object t any c.requires.1.1.0)
+    c.index_mut.ensures.value in
     let e = c.in_err-replies.ensures in
     let same = ap (λ (z : FileTable). set t.files.items c.args.object.0 z) e.err ∙ set_same t.files.items c.args.object.0 old found in
     let still = still_roomed given.header given.outside c.args.self.now t r c.requires.1.0.stands in

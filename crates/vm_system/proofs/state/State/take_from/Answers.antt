@@ -34,10 +34,12 @@ returns-clause-grew g c =
     c.take.ensures.took c.take.ensures.err
 
 pub returns-clause-paging : goal.returns-clause-paging
-returns-clause-paging g c = λ apart. c.take.ensures.paging c.args.channel (number_read c.args.channel c.args.self.now.channels.made c.in-Some.number.0 (sym c.in-Some.ensures)) apart
+returns-clause-paging g c =
+    λ apart. c.take.ensures.paging c.args.channel (number_read c.args.channel c.args.self.now.channels.made c.in-Some.number.0 (sym c.in-Some.ensures)) apart
 
 pub returns-clause-files : goal.returns-clause-files
-returns-clause-files g c = λ apart. c.take.ensures.files c.args.channel (number_read c.args.channel c.args.self.now.channels.made c.in-Some.number.0 (sym c.in-Some.ensures)) apart
+returns-clause-files g c =
+    λ apart. c.take.ensures.files c.args.channel (number_read c.args.channel c.args.self.now.channels.made c.in-Some.number.0 (sym c.in-Some.ensures)) apart
 
 pub returns-clause-unasked : goal.returns-clause-unasked
 returns-clause-unasked g c =
@@ -47,7 +49,8 @@ returns-clause-unasked g c =
     let made = number_read c.args.channel old.channels.made c.in-Some.number.0 (sym c.in-Some.ensures) in
     on_ok_weaker c.take.result
     (λ took none. c.take.ensures.paging c.args.channel made
-    (not_up_from given.header given.outside device.Paging c.args.line c.args.channel old.history.items new.history.items (subst (λ (z : Step). Took z new) c.requires.1.1.0 took).step none))
+    (not_up_from given.header given.outside device.Paging c.args.line c.args.channel old.history.items new.history.items
+    (subst (λ (z : Step). Took z new) c.requires.1.1.0 took).step none))
     c.take.ensures.took
 
 pub returns-clause-files_unasked : goal.returns-clause-files_unasked
@@ -58,7 +61,8 @@ returns-clause-files_unasked g c =
     let made = number_read c.args.channel old.channels.made c.in-Some.number.0 (sym c.in-Some.ensures) in
     on_ok_weaker c.take.result
     (λ took none. c.take.ensures.files c.args.channel made
-    (not_up_from given.header given.outside device.Files c.args.line c.args.channel old.history.items new.history.items (subst (λ (z : Step). Took z new) c.requires.1.1.0 took).step none))
+    (not_up_from given.header given.outside device.Files c.args.line c.args.channel old.history.items new.history.items
+    (subst (λ (z : Step). Took z new) c.requires.1.1.0 took).step none))
     c.take.ensures.took
 
 pub returns-clause-calm : goal.returns-clause-calm

@@ -1,11 +1,14 @@
-use Rattle.vm_system.proofs.Common.{Channel, Event, Followed, Going, List, Listed, PagerHasAnswered, SlotTable, Up, [], ap, arith, devices, length, queue, refl, set, subst, sym, take, ℕ, ◌++◌, ◌+◌, ◌∙◌, ◌∷◌, ◌≡◌}
+use Rattle.vm_system.proofs.Common.{Channel, Event, Followed, Going, List, Listed, PagerHasAnswered, SlotTable, Up, [], ap, arith, devices, length, queue, refl}
+use Rattle.vm_system.proofs.Common.{set, subst, sym, take, ℕ, ◌++◌, ◌+◌, ◌∙◌, ◌∷◌, ◌≡◌}
 use Rattle.vm_model.specs.declared.event.Device.TheVariants.{Paging}
 use Rattle.vm_model.specs.declared.event.Event.TheVariants as event
 use Rattle.vm_system.proofs.Beginning.{same_hosts}
 use Rattle.vm_system.proofs.Following.{both_filing, kept_same, same_files, same_filing, same_declared, same_pagers}
-use Rattle.vm_system.proofs.Roomed.{arming_kept, behind_answers, behind_first, may_roomed, on_err, ready_still, room_for, roomed_files, roomed_pagers, still_alike, still_roomed}
+use Rattle.vm_system.proofs.Roomed.{arming_kept, behind_answers, behind_first, may_roomed, on_err, ready_still, room_for, roomed_files, roomed_pagers}
+use Rattle.vm_system.proofs.Roomed.{still_alike, still_roomed}
 use Rattle.vm_system.proofs.Taken.{first_told, may_head, may_only, may_port, may_read, may_some, may_there}
-use Rattle.vm_system.proofs.TakenUp.{answered_up, can_reply, devices_up, front_is, front_length, kept_failed, kept_up, pager_read, reply_of, set_same, spares_up, took_up, up_known, up_word}
+use Rattle.vm_system.proofs.TakenUp.{answered_up, can_reply, devices_up, front_is, front_length, kept_failed, kept_up, pager_read, reply_of, set_same}
+use Rattle.vm_system.proofs.TakenUp.{spares_up, took_up, up_known, up_word}
 use Rattle.vm_kernel.specs.declared.breadth.Breadth.TheVariants as wide
 use Rattle.vm_system.proofs.state.State.take_paged.Goals as goal
 
@@ -70,7 +73,8 @@ answer-requires-clause-whole g c =
     let m = c.sent-message.result.now in
     let at = may_head given c.args.line c.args.number channel c.in-Some.index.now m t any c.in-Some.ensures c.sent-message.ensures in
     let old = c.index_mut.result.now in
-    let found = pager_read t.pagers.items c.args.host.0 old (up_known given c.args.line c.args.number c.args.host c.args.object m t any at) c.index_mut.ensures.value in
+    let found = pager_read t.pagers.items c.args.host.0 old (up_known given c.args.line c.args.number c.args.host c.args.object m t any at)
+    c.index_mut.ensures.value in
     let word = up_word given c.args.line c.args.number c.args.host c.args.object m t any at in
     rw (any.stands.agrees.pagers.stand c.args.host.0 old found).size word.1
 
@@ -84,7 +88,8 @@ returns-in_err-answers-clause-kept g c =
     let m = c.sent-message.result.now in
     let at = may_head given c.args.line c.args.number channel c.in-Some.index.now m t any c.in-Some.ensures c.sent-message.ensures in
     let old = c.index_mut.result.now in
-    let found = pager_read t.pagers.items c.args.host.0 old (up_known given c.args.line c.args.number c.args.host c.args.object m t any at) c.index_mut.ensures.value in
+    let found = pager_read t.pagers.items c.args.host.0 old (up_known given c.args.line c.args.number c.args.host c.args.object m t any at)
+    c.index_mut.ensures.value in
     let had = kept_same given.header given.outside _ c.args.self.now t (roomed_pagers _ _ r) r.history c.requires.1.1.1 in
     let e = c.in_err-answers.ensures in
     let same = ap (λ (z : SlotTable). set t.pagers.items c.args.host.0 z) e.err ∙ set_same t.pagers.items c.args.host.0 old found in
@@ -118,12 +123,14 @@ commit-requires-clause-can g c =
     let m = c.sent-message.result.now in
     let at = may_head given c.args.line c.args.number channel c.in-Some.index.now m t any c.in-Some.ensures c.sent-message.ensures in
     let old = c.index_mut.result.now in
-    let found = pager_read t.pagers.items c.args.host.0 old (up_known given c.args.line c.args.number c.args.host c.args.object m t any at) c.index_mut.ensures.value in
+    let found = pager_read t.pagers.items c.args.host.0 old (up_known given c.args.line c.args.number c.args.host c.args.object m t any at)
+    c.index_mut.ensures.value in
     let had = kept_same given.header given.outside _ c.args.self.now t (roomed_pagers _ _ r) r.history c.requires.1.1.1 in
     let e = c.in_ok-answers.ensures in
     let events = c.in_ok-answers.answers.items in
     let slots = c.answer.new.self in
-    let reply = reply_of given c.args.line c.args.number c.args.host c.args.object m _ t old slots events any c.requires.1.1.0 at found e.answered e.shape had e.bytes in
+    let reply = reply_of given c.args.line c.args.number c.args.host c.args.object m _ t old slots events any c.requires.1.1.0 at found e.answered e.shape had
+    e.bytes in
     let told = first_told given c.args.line c.args.number channel m t t c.take_first.new.self any at refl refl c.take_first.ensures.history in
     rw (c.take_first.ensures.hosts.size, any.stands.agrees.size, told) (can_reply given c.args.host c.args.object m t old slots events reply)
 
@@ -139,7 +146,9 @@ take_first-requires-clause-buffer g c = c.in_ok-prepare.ensures.ready.1.buffer
 pub commit-requires-clause-room : goal.commit-requires-clause-room
 commit-requires-clause-room g c =
     let ready = c.in_ok-prepare.ensures.ready in
-    room_for ready.0 2 (length c.in_ok-answers.answers.items) c.take_first.new.self c.in_ok-answers.ensures.few (behind_first ready.0 2 c.prepare.new.self c.take_first.new.self ready.1.room (λ n h d s l. c.take_first.ensures.room n (record { history = h; channels = d; numbers = s; letters = l })))
+    room_for ready.0 2 (length c.in_ok-answers.answers.items) c.take_first.new.self c.in_ok-answers.ensures.few
+    (behind_first ready.0 2 c.prepare.new.self c.take_first.new.self ready.1.room
+    (λ n h d s l. c.take_first.ensures.room n (record { history = h; channels = d; numbers = s; letters = l })))
 
 pub follow-requires : goal.follow-requires
 follow-requires g c =
@@ -151,12 +160,14 @@ follow-requires g c =
     let m = c.sent-message.result.now in
     let at = may_head given c.args.line c.args.number channel c.in-Some.index.now m t any c.in-Some.ensures c.sent-message.ensures in
     let old = c.index_mut.result.now in
-    let found = pager_read t.pagers.items c.args.host.0 old (up_known given c.args.line c.args.number c.args.host c.args.object m t any at) c.index_mut.ensures.value in
+    let found = pager_read t.pagers.items c.args.host.0 old (up_known given c.args.line c.args.number c.args.host c.args.object m t any at)
+    c.index_mut.ensures.value in
     let had = kept_same given.header given.outside _ c.args.self.now t (roomed_pagers _ _ r) r.history c.requires.1.1.1 in
     let e = c.in_ok-answers.ensures in
     let events = c.in_ok-answers.answers.items in
     let slots = c.answer.new.self in
-    let reply = reply_of given c.args.line c.args.number c.args.host c.args.object m _ t old slots events any c.requires.1.1.0 at found e.answered e.shape had e.bytes in
+    let reply = reply_of given c.args.line c.args.number c.args.host c.args.object m _ t old slots events any c.requires.1.1.0 at found e.answered e.shape had
+    e.bytes in
     let told = first_told given c.args.line c.args.number channel m t t c.take_first.new.self any at refl refl c.take_first.ensures.history in
     let both = same_hosts _ _ _ c.take_first.ensures.hosts c.commit.ensures.hosts in
     let now = c.commit.new.self in
@@ -164,13 +175,20 @@ follow-requires g c =
     let items : now.history.items ≡ events ++ event.Taken channel m ∷ given.past = c.commit.ensures.history ∙ ap (λ (z : List Event). events ++ z) told in
     let n = c.len-fresh.result + 1 in
     let count : n ≡ length events + 1 = ap (λ (z : ℕ). z + 1) c.len-fresh.ensures in
-    let front : take n now.history.items ≡ events ++ event.Taken channel m ∷ [] = front_is n events (event.Taken channel m) given.past now.history.items count items in
+    let front : take n now.history.items ≡ events ++ event.Taken channel m ∷ [] = front_is n events (event.Taken channel m) given.past now.history.items count
+    items in
     let going : List Event → Going = λ z. record { header = given.header; outside = given.outside; command = given.command; past = given.past; front = z } in
     let done : PagerHasAnswered (going (take n now.history.items)) c.args.host c.gives_frame-washed.result now =
-    rw (front, c.gives_frame-washed.ensures) (answered_up given c.args.host c.args.object m t now old slots events reply pagers (same_files _ _ both) (same_declared _ _ both ∙ any.stands.agrees.declared) both.server both.hosts (both.size ∙ any.stands.agrees.size) items c.commit.ensures.posts (ap (λ (z : Listed Event). z.items) both.log ∙ any.stands.log)) in
+    rw (front, c.gives_frame-washed.ensures) (answered_up given c.args.host c.args.object m t now old slots events reply pagers (same_files _ _ both)
+    (same_declared _ _ both ∙ any.stands.agrees.declared) both.server both.hosts (both.size ∙ any.stands.agrees.size) items c.commit.ensures.posts
+    (ap (λ (z : Listed Event). z.items) both.log ∙ any.stands.log)) in
     let ready = c.in_ok-prepare.ensures.ready in
-    let room = behind_answers ready.0 2 (length events) c.take_first.new.self now c.in_ok-answers.ensures.few (behind_first ready.0 2 t c.take_first.new.self ready.1.room (λ n h d s l. c.take_first.ensures.room n (record { history = h; channels = d; numbers = s; letters = l }))) c.commit.ensures.room in
-    (front_length n now.history.items events (event.Taken channel m) front count, (done, (ready.0, (ready_still wide.Few ready.0 t now both.hosts both.log ready.1.hosts, room))))
+    let room = behind_answers ready.0 2 (length events) c.take_first.new.self now c.in_ok-answers.ensures.few
+    (behind_first ready.0 2 t c.take_first.new.self ready.1.room (λ n h d s l. c.take_first.ensures.room n
+    (record { history = h; channels = d; numbers = s; letters = l }))) c.commit.ensures.room in (
+      front_length n now.history.items events (event.Taken channel m) front count,
+      (done, (ready.0, (ready_still wide.Few ready.0 t now both.hosts both.log ready.1.hosts, room))),
+    )
 
 pub returns-clause-kept : goal.returns-clause-kept
 returns-clause-kept g c =
@@ -182,18 +200,21 @@ returns-clause-kept g c =
     let m = c.sent-message.result.now in
     let at = may_head given c.args.line c.args.number channel c.in-Some.index.now m t any c.in-Some.ensures c.sent-message.ensures in
     let old = c.index_mut.result.now in
-    let found = pager_read t.pagers.items c.args.host.0 old (up_known given c.args.line c.args.number c.args.host c.args.object m t any at) c.index_mut.ensures.value in
+    let found = pager_read t.pagers.items c.args.host.0 old (up_known given c.args.line c.args.number c.args.host c.args.object m t any at)
+    c.index_mut.ensures.value in
     let had = kept_same given.header given.outside _ c.args.self.now t (roomed_pagers _ _ r) r.history c.requires.1.1.1 in
     let e = c.in_ok-answers.ensures in
     let events = c.in_ok-answers.answers.items in
     let slots = c.answer.new.self in
-    let reply = reply_of given c.args.line c.args.number c.args.host c.args.object m _ t old slots events any c.requires.1.1.0 at found e.answered e.shape had e.bytes in
+    let reply = reply_of given c.args.line c.args.number c.args.host c.args.object m _ t old slots events any c.requires.1.1.0 at found e.answered e.shape had
+    e.bytes in
     let told = first_told given c.args.line c.args.number channel m t t c.take_first.new.self any at refl refl c.take_first.ensures.history in
     let both = same_hosts _ _ _ c.take_first.ensures.hosts c.commit.ensures.hosts in
     let now = c.commit.new.self in
     let pagers : now.pagers.items ≡ set t.pagers.items c.args.host.0 slots = same_pagers _ _ both in
     let items : now.history.items ≡ events ++ event.Taken channel m ∷ given.past = c.commit.ensures.history ∙ ap (λ (z : List Event). events ++ z) told in
-    c.follow.ensures.spares.paging.kept _ (kept_up given c.args.line c.args.number c.args.host c.args.object m t now old slots _ _ c.in_ok-answers.answers any reply e.fits e.told had pagers items)
+    c.follow.ensures.spares.paging.kept _ (kept_up given c.args.line c.args.number c.args.host c.args.object m t now old slots _ _ c.in_ok-answers.answers any
+    reply e.fits e.told had pagers items)
 
 pub returns-clause-paging_goes : goal.returns-clause-paging_goes
 returns-clause-paging_goes g c =
@@ -205,18 +226,25 @@ returns-clause-paging_goes g c =
     let m = c.sent-message.result.now in
     let at = may_head given c.args.line c.args.number channel c.in-Some.index.now m t any c.in-Some.ensures c.sent-message.ensures in
     let old = c.index_mut.result.now in
-    let found = pager_read t.pagers.items c.args.host.0 old (up_known given c.args.line c.args.number c.args.host c.args.object m t any at) c.index_mut.ensures.value in
+    let found = pager_read t.pagers.items c.args.host.0 old (up_known given c.args.line c.args.number c.args.host c.args.object m t any at)
+    c.index_mut.ensures.value in
     let had = kept_same given.header given.outside _ c.args.self.now t (roomed_pagers _ _ r) r.history c.requires.1.1.1 in
     let e = c.in_ok-answers.ensures in
     let events = c.in_ok-answers.answers.items in
     let slots = c.answer.new.self in
-    let reply = reply_of given c.args.line c.args.number c.args.host c.args.object m _ t old slots events any c.requires.1.1.0 at found e.answered e.shape had e.bytes in
+    let reply = reply_of given c.args.line c.args.number c.args.host c.args.object m _ t old slots events any c.requires.1.1.0 at found e.answered e.shape had
+    e.bytes in
     let told = first_told given c.args.line c.args.number channel m t t c.take_first.new.self any at refl refl c.take_first.ensures.history in
     let both = same_hosts _ _ _ c.take_first.ensures.hosts c.commit.ensures.hosts in
     let now = c.commit.new.self in
     let pagers : now.pagers.items ≡ set t.pagers.items c.args.host.0 slots = same_pagers _ _ both in
     let items : now.history.items ≡ events ++ event.Taken channel m ∷ given.past = c.commit.ensures.history ∙ ap (λ (z : List Event). events ++ z) told in
-    record { later = e.later; devices = rw (sym r.history) (devices_up given c.args.line c.args.number c.args.host c.args.object m t old slots c.in_ok-answers.answers _ _ c.follow.new.self.history.items any e.answered e.cause (c.follow.ensures.spares.paging.devices ∙ ap (devices Paging) items)) }
+    record {
+      later = e.later;
+      devices = rw (sym r.history) (devices_up given c.args.line c.args.number c.args.host c.args.object m t old slots
+          c.in_ok-answers.answers _ _ c.follow.new.self.history.items any e.answered e.cause
+          (c.follow.ensures.spares.paging.devices ∙ ap (devices Paging) items));
+    }
 
 pub returns-clause-took : goal.returns-clause-took
 returns-clause-took g c =
@@ -228,12 +256,14 @@ returns-clause-took g c =
     let m = c.sent-message.result.now in
     let at = may_head given c.args.line c.args.number channel c.in-Some.index.now m t any c.in-Some.ensures c.sent-message.ensures in
     let old = c.index_mut.result.now in
-    let found = pager_read t.pagers.items c.args.host.0 old (up_known given c.args.line c.args.number c.args.host c.args.object m t any at) c.index_mut.ensures.value in
+    let found = pager_read t.pagers.items c.args.host.0 old (up_known given c.args.line c.args.number c.args.host c.args.object m t any at)
+    c.index_mut.ensures.value in
     let had = kept_same given.header given.outside _ c.args.self.now t (roomed_pagers _ _ r) r.history c.requires.1.1.1 in
     let e = c.in_ok-answers.ensures in
     let events = c.in_ok-answers.answers.items in
     let slots = c.answer.new.self in
-    let reply = reply_of given c.args.line c.args.number c.args.host c.args.object m _ t old slots events any c.requires.1.1.0 at found e.answered e.shape had e.bytes in
+    let reply = reply_of given c.args.line c.args.number c.args.host c.args.object m _ t old slots events any c.requires.1.1.0 at found e.answered e.shape had
+    e.bytes in
     let told = first_told given c.args.line c.args.number channel m t t c.take_first.new.self any at refl refl c.take_first.ensures.history in
     let both = same_hosts _ _ _ c.take_first.ensures.hosts c.commit.ensures.hosts in
     let now = c.commit.new.self in
@@ -241,7 +271,8 @@ returns-clause-took g c =
     let items : now.history.items ≡ events ++ event.Taken channel m ∷ given.past = c.commit.ensures.history ∙ ap (λ (z : List Event). events ++ z) told in
     let n = c.len-fresh.result + 1 in
     let count : n ≡ length events + 1 = ap (λ (z : ℕ). z + 1) c.len-fresh.ensures in
-    let front : take n now.history.items ≡ events ++ event.Taken channel m ∷ [] = front_is n events (event.Taken channel m) given.past now.history.items count items in
+    let front : take n now.history.items ≡ events ++ event.Taken channel m ∷ [] = front_is n events (event.Taken channel m) given.past now.history.items count
+    items in
     let new = c.follow.new.self in
     let going : List Event → Going = λ z. record { header = given.header; outside = given.outside; command = given.command; past = given.past; front = z } in
     took_up given c.args.host c.args.object m t new old slots events reply (subst (λ (z : List Event). Followed (going z) new) front c.follow.ensures.followed)
@@ -258,24 +289,30 @@ returns-clause-spares g c =
     let m = c.sent-message.result.now in
     let at = may_head given c.args.line c.args.number channel c.in-Some.index.now m t any c.in-Some.ensures c.sent-message.ensures in
     let old = c.index_mut.result.now in
-    let found = pager_read t.pagers.items c.args.host.0 old (up_known given c.args.line c.args.number c.args.host c.args.object m t any at) c.index_mut.ensures.value in
+    let found = pager_read t.pagers.items c.args.host.0 old (up_known given c.args.line c.args.number c.args.host c.args.object m t any at)
+    c.index_mut.ensures.value in
     let had = kept_same header outside _ c.args.self.now t (roomed_pagers _ _ r) r.history c.requires.1.1.1 in
     let e = c.in_ok-answers.ensures in
     let events = c.in_ok-answers.answers.items in
     let slots = c.answer.new.self in
-    let reply = reply_of given c.args.line c.args.number c.args.host c.args.object m _ t old slots events any c.requires.1.1.0 at found e.answered e.shape had e.bytes in
+    let reply = reply_of given c.args.line c.args.number c.args.host c.args.object m _ t old slots events any c.requires.1.1.0 at found e.answered e.shape had
+    e.bytes in
     let told = first_told given c.args.line c.args.number channel m t t c.take_first.new.self any at refl refl c.take_first.ensures.history in
     let both = same_hosts _ _ _ c.take_first.ensures.hosts c.commit.ensures.hosts in
     let now = c.commit.new.self in
     let items : now.history.items ≡ events ++ event.Taken channel m ∷ given.past = c.commit.ensures.history ∙ ap (λ (z : List Event). events ++ z) told in
     both_filing header outside c.args.self.now t c.follow.new.self (same_filing header outside c.args.self.now t (roomed_files _ _ r) r.history)
-    (both_filing header outside t now c.follow.new.self (spares_up given c.args.line c.args.number c.args.host c.args.object m t now old slots events any reply (same_files _ _ both) items) c.follow.ensures.spares.files)
+    (both_filing header outside t now c.follow.new.self (spares_up given c.args.line c.args.number c.args.host c.args.object m t now old slots events any reply
+    (same_files _ _ both) items) c.follow.ensures.spares.files)
 
 pub returns-in_err-prepare-clause-kept : goal.returns-in_err-prepare-clause-kept
-returns-in_err-prepare-clause-kept g c = kept_same g.given.header g.given.outside _ c.args.self.now c.prepare.new.self (roomed_pagers _ _ c.prepare.ensures.same) c.prepare.ensures.same.history c.requires.1.1.1
+returns-in_err-prepare-clause-kept g c =
+    kept_same g.given.header g.given.outside _ c.args.self.now c.prepare.new.self (roomed_pagers _ _ c.prepare.ensures.same) c.prepare.ensures.same.history
+    c.requires.1.1.1
 
 pub returns-in_err-prepare-clause-spares : goal.returns-in_err-prepare-clause-spares
-returns-in_err-prepare-clause-spares g c = same_filing g.given.header g.given.outside c.args.self.now c.prepare.new.self (roomed_files _ _ c.prepare.ensures.same) c.prepare.ensures.same.history
+returns-in_err-prepare-clause-spares g c =
+    same_filing g.given.header g.given.outside c.args.self.now c.prepare.new.self (roomed_files _ _ c.prepare.ensures.same) c.prepare.ensures.same.history
 
 pub returns-in_err-prepare-clause-err : goal.returns-in_err-prepare-clause-err
 returns-in_err-prepare-clause-err g c =
@@ -283,7 +320,8 @@ returns-in_err-prepare-clause-err g c =
     (still_roomed g.given.header g.given.outside c.args.self.now c.prepare.new.self c.prepare.ensures.same c.requires.1.0.stands)
 
 pub returns-in_err-answers-clause-spares : goal.returns-in_err-answers-clause-spares
-returns-in_err-answers-clause-spares g c = same_filing g.given.header g.given.outside c.args.self.now _ (roomed_files _ _ c.prepare.ensures.same) c.prepare.ensures.same.history
+returns-in_err-answers-clause-spares g c =
+    same_filing g.given.header g.given.outside c.args.self.now _ (roomed_files _ _ c.prepare.ensures.same) c.prepare.ensures.same.history
 
 pub returns-in_err-answers-clause-err : goal.returns-in_err-answers-clause-err
 returns-in_err-answers-clause-err g c =
@@ -296,7 +334,8 @@ returns-in_err-answers-clause-err g c =
     let m = c.sent-message.result.now in
     let at = may_head given c.args.line c.args.number channel c.in-Some.index.now m t any c.in-Some.ensures c.sent-message.ensures in
     let old = c.index_mut.result.now in
-    let found = pager_read t.pagers.items c.args.host.0 old (up_known given c.args.line c.args.number c.args.host c.args.object m t any at) c.index_mut.ensures.value in
+    let found = pager_read t.pagers.items c.args.host.0 old (up_known given c.args.line c.args.number c.args.host c.args.object m t any at)
+    c.index_mut.ensures.value in
     let e = c.in_err-answers.ensures in
     let same = ap (λ (z : SlotTable). set t.pagers.items c.args.host.0 z) e.err ∙ set_same t.pagers.items c.args.host.0 old found in
     let still = still_roomed given.header given.outside c.args.self.now t r c.requires.1.0.stands in

@@ -1,8 +1,10 @@
-use Rattle.vm_system.proofs.Common.{Channel, Event, Followed, Going, List, Listed, PagerHasAnswered, State, Up, [], ap, arith, length, HasRoom, queue, refl, subst, sym, take, ℕ, ◌++◌, ◌+◌, ◌∙◌, ◌∷◌, ◌≡◌}
+use Rattle.vm_system.proofs.Common.{Channel, Event, Followed, Going, List, Listed, PagerHasAnswered, State, Up, [], ap, arith, length, HasRoom, queue, refl}
+use Rattle.vm_system.proofs.Common.{subst, sym, take, ℕ, ◌++◌, ◌+◌, ◌∙◌, ◌∷◌, ◌≡◌}
 use Rattle.vm_model.specs.declared.event.Event.TheVariants as event
 use Rattle.vm_system.proofs.Beginning.{same_hosts}
 use Rattle.vm_system.proofs.Following.{both_spares, same_all, same_declared, same_files, same_pagers}
-use Rattle.vm_system.proofs.Roomed.{behind_answers, behind_first, may_roomed, may_server, on_err, ready_still, room_for, shared_few, spares_roomed, spares_server, stands_server, still_of, still_server}
+use Rattle.vm_system.proofs.Roomed.{behind_answers, behind_first, may_roomed, may_server, on_err, ready_still, room_for, shared_few, spares_roomed}
+use Rattle.vm_system.proofs.Roomed.{spares_server, stands_server, still_of, still_server}
 use Rattle.vm_system.proofs.Taken.{first_told, may_head, may_only, may_port, may_read, may_some, may_there}
 use Rattle.vm_system.proofs.TakenShared.{answered_shared, can_reply_shared, shared_reply, spares_shared, took_shared, up_shared}
 use Rattle.vm_system.proofs.TakenUp.{front_is, front_length}
@@ -155,18 +157,26 @@ follow-requires g c =
     let items : now.history.items ≡ events ++ event.Taken channel m ∷ given.past = c.commit.ensures.history ∙ ap (λ (z : List Event). events ++ z) told in
     let n = c.len-fresh.result + 1 in
     let count : n ≡ length events + 1 = ap (λ (z : ℕ). z + 1) c.len-fresh.ensures in
-    let front : take n now.history.items ≡ events ++ event.Taken channel m ∷ [] = front_is n events (event.Taken channel m) given.past now.history.items count items in
+    let front : take n now.history.items ≡ events ++ event.Taken channel m ∷ [] = front_is n events (event.Taken channel m) given.past now.history.items count
+    items in
     let going : List Event → Going = λ z. record { header = given.header; outside = given.outside; command = given.command; past = given.past; front = z } in
     let done : PagerHasAnswered (going (take n now.history.items)) c.args.host c.gives_frame-washed.result now =
     rw (front, c.gives_frame-washed.ensures)
-    (answered_shared given c.args.host c.args.object m t now t.server table events reply (same_pagers _ _ both) (same_files _ _ both) (same_declared _ _ both ∙ any.stands.agrees.declared) both.server both.hosts
+    (answered_shared given c.args.host c.args.object m t now t.server table events reply (same_pagers _ _ both) (same_files _ _ both)
+    (same_declared _ _ both ∙ any.stands.agrees.declared) both.server both.hosts
     (both.size ∙ any.stands.agrees.size) items c.commit.ensures.posts (ap (λ (z : Listed Event). z.items) both.log ∙ any.stands.log)) in
     let ready = c.in_ok-prepare.ensures.ready in
     let more = c.in_ok-most.most in
-    let few = shared_few given c.args.line c.args.number channel c.args.object c.in-Some-head.index.now c.sent-message.result.now c.in_ok-most.most (length c.in_ok-words.words.items) s u t c.requires.0 any c.expect.ensures.same r.letters r.history r.server c.in-Some-head.ensures c.sent-message.ensures c.in_ok-most.ensures.most c.in_ok-words.ensures.few_told in
+    let few = shared_few given c.args.line c.args.number channel c.args.object c.in-Some-head.index.now c.sent-message.result.now c.in_ok-most.most
+    (length c.in_ok-words.words.items) s u t c.requires.0 any c.expect.ensures.same r.letters r.history r.server c.in-Some-head.ensures
+    c.sent-message.ensures c.in_ok-most.ensures.most c.in_ok-words.ensures.few_told in
     let room_all = subst (λ (z : ℕ). HasRoom (ready.0 + z) t) (omega (arith, c.in-Some.ensures)) ready.1.room in
-    let room = behind_answers ready.0 more (length events) c.take_first.new.self now few (behind_first ready.0 more t c.take_first.new.self room_all (λ n h d s l. c.take_first.ensures.room n (record { history = h; channels = d; numbers = s; letters = l }))) c.commit.ensures.room in
-    (front_length n now.history.items events (event.Taken channel m) front count, (done, (ready.0, (ready_still wide.Few ready.0 t now both.hosts both.log ready.1.hosts, room))))
+    let room = behind_answers ready.0 more (length events) c.take_first.new.self now few
+    (behind_first ready.0 more t c.take_first.new.self room_all (λ n h d s l. c.take_first.ensures.room n
+    (record { history = h; channels = d; numbers = s; letters = l }))) c.commit.ensures.room in (
+      front_length n now.history.items events (event.Taken channel m) front count,
+      (done, (ready.0, (ready_still wide.Few ready.0 t now both.hosts both.log ready.1.hosts, room))),
+    )
 
 pub returns-clause-took : goal.returns-clause-took
 returns-clause-took g c =
@@ -190,9 +200,11 @@ returns-clause-took g c =
     let items : now.history.items ≡ events ++ event.Taken channel m ∷ given.past = c.commit.ensures.history ∙ ap (λ (z : List Event). events ++ z) told in
     let n = c.len-fresh.result + 1 in
     let count : n ≡ length events + 1 = ap (λ (z : ℕ). z + 1) c.len-fresh.ensures in
-    let front : take n now.history.items ≡ events ++ event.Taken channel m ∷ [] = front_is n events (event.Taken channel m) given.past now.history.items count items in
+    let front : take n now.history.items ≡ events ++ event.Taken channel m ∷ [] = front_is n events (event.Taken channel m) given.past now.history.items count
+    items in
     let going : List Event → Going = λ z. record { header = given.header; outside = given.outside; command = given.command; past = given.past; front = z } in
-    took_shared given c.args.host c.args.object m t c.follow.new.self t.server table events reply (subst (λ (z : List Event). Followed (going z) c.follow.new.self) front c.follow.ensures.followed)
+    took_shared given c.args.host c.args.object m t c.follow.new.self t.server table events reply
+    (subst (λ (z : List Event). Followed (going z) c.follow.new.self) front c.follow.ensures.followed)
 
 pub returns-clause-spares : goal.returns-clause-spares
 returns-clause-spares g c =
@@ -214,9 +226,11 @@ returns-clause-spares g c =
     let both = same_hosts _ _ _ c.take_first.ensures.hosts c.commit.ensures.hosts in
     let now = c.commit.new.self in
     let items : now.history.items ≡ events ++ event.Taken channel m ∷ given.past = c.commit.ensures.history ∙ ap (λ (z : List Event). events ++ z) told in
-    let shared = spares_shared given c.args.line c.args.number c.args.host c.args.object m t now t.server table events any reply (same_pagers _ _ both) (same_files _ _ both) items in
+    let shared = spares_shared given c.args.line c.args.number c.args.host c.args.object m t now t.server table events any reply (same_pagers _ _ both)
+    (same_files _ _ both) items in
     let new = c.follow.new.self in
-    let front = both_spares given.header given.outside s u t (spares_server given.header given.outside s u c.expect.ensures.same) (spares_roomed given.header given.outside u t r) in
+    let front = both_spares given.header given.outside s u t (spares_server given.header given.outside s u c.expect.ensures.same)
+    (spares_roomed given.header given.outside u t r) in
     both_spares given.header given.outside s t new front (both_spares given.header given.outside t now new shared c.follow.ensures.spares)
 
 pub commit-requires-clause-room : goal.commit-requires-clause-room
@@ -231,9 +245,13 @@ commit-requires-clause-room g c =
     let any = may_roomed given c.args.line c.args.number channel u t front_any r in
     let ready = c.in_ok-prepare.ensures.ready in
     let more = c.in_ok-most.most in
-    let few = shared_few given c.args.line c.args.number channel c.args.object c.in-Some-head.index.now c.sent-message.result.now c.in_ok-most.most (length c.in_ok-words.words.items) s u t c.requires.0 any c.expect.ensures.same r.letters r.history r.server c.in-Some-head.ensures c.sent-message.ensures c.in_ok-most.ensures.most c.in_ok-words.ensures.few_told in
+    let few = shared_few given c.args.line c.args.number channel c.args.object c.in-Some-head.index.now c.sent-message.result.now c.in_ok-most.most
+    (length c.in_ok-words.words.items) s u t c.requires.0 any c.expect.ensures.same r.letters r.history r.server c.in-Some-head.ensures
+    c.sent-message.ensures c.in_ok-most.ensures.most c.in_ok-words.ensures.few_told in
     let room_all = subst (λ (z : ℕ). HasRoom (ready.0 + z) t) (omega (arith, c.in-Some.ensures)) ready.1.room in
-    room_for ready.0 more (length c.in_ok-words.words.items) c.take_first.new.self few (behind_first ready.0 more t c.take_first.new.self room_all (λ n h d s l. c.take_first.ensures.room n (record { history = h; channels = d; numbers = s; letters = l })))
+    room_for ready.0 more (length c.in_ok-words.words.items) c.take_first.new.self few
+    (behind_first ready.0 more t c.take_first.new.self room_all (λ n h d s l. c.take_first.ensures.room n
+    (record { history = h; channels = d; numbers = s; letters = l })))
 
 pub take_first-requires-clause-room : goal.take_first-requires-clause-room
 take_first-requires-clause-room g c =
@@ -284,7 +302,8 @@ pub returns-in_err-prepare-clause-spares : goal.returns-in_err-prepare-clause-sp
 returns-in_err-prepare-clause-spares g c =
     let s = c.args.self.now in
     let u = c.expect.new.self in
-    both_spares g.given.header g.given.outside s u c.prepare.new.self (spares_server g.given.header g.given.outside s u c.expect.ensures.same) (spares_roomed g.given.header g.given.outside u c.prepare.new.self c.prepare.ensures.same)
+    both_spares g.given.header g.given.outside s u c.prepare.new.self (spares_server g.given.header g.given.outside s u c.expect.ensures.same)
+    (spares_roomed g.given.header g.given.outside u c.prepare.new.self c.prepare.ensures.same)
 
 pub returns-in_err-words-clause-err : goal.returns-in_err-words-clause-err
 returns-in_err-words-clause-err g c =
@@ -297,18 +316,21 @@ returns-in_err-words-clause-err g c =
     let r = c.prepare.ensures.same in
     let t = c.prepare.new.self in
     let any = may_roomed given c.args.line c.args.number channel u t front_any r in
-    still_of given.header given.outside s _ (stands_server given.header given.outside t _ c.answer.new.self refl c.in_err-words.ensures.err any.stands) (r.history ∙ ap (λ (z : State). z.history.items) c.expect.ensures.same))
+    still_of given.header given.outside s _ (stands_server given.header given.outside t _ c.answer.new.self refl c.in_err-words.ensures.err any.stands)
+    (r.history ∙ ap (λ (z : State). z.history.items) c.expect.ensures.same))
 
 pub returns-in_err-words-clause-spares : goal.returns-in_err-words-clause-spares
 returns-in_err-words-clause-spares g c =
     let s = c.args.self.now in
     let u = c.expect.new.self in
     let t = c.prepare.new.self in
-    both_spares g.given.header g.given.outside s t _ (both_spares g.given.header g.given.outside s u t (spares_server g.given.header g.given.outside s u c.expect.ensures.same) (spares_roomed g.given.header g.given.outside u t c.prepare.ensures.same))
+    both_spares g.given.header g.given.outside s t _ (both_spares g.given.header g.given.outside s u t
+    (spares_server g.given.header g.given.outside s u c.expect.ensures.same) (spares_roomed g.given.header g.given.outside u t c.prepare.ensures.same))
     (same_all g.given.header g.given.outside t _ refl refl refl)
 
 pub returns-in_default-clause-spares : goal.returns-in_default-clause-spares
 returns-in_default-clause-spares g c = spares_server g.given.header g.given.outside c.args.self.now c.expect.new.self c.expect.ensures.same
 
 pub returns-in_default-clause-err : goal.returns-in_default-clause-err
-returns-in_default-clause-err g c = still_server g.given.header g.given.outside c.args.self.now c.expect.new.self c.expect.ensures.same c.requires.0.stands c.expect.ensures.table
+returns-in_default-clause-err g c =
+    still_server g.given.header g.given.outside c.args.self.now c.expect.new.self c.expect.ensures.same c.requires.0.stands c.expect.ensures.table

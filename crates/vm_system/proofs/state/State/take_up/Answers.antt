@@ -9,13 +9,16 @@ take_paged-requires g c κs within =
     (within, (may, (undeclared g.given.header c.args.object.0 may.stands.built.ranged (sym c.kind.ensures ∙ c.in-Temp.is), c.requires.1.1.1.1.kept)))
 
 pub returns-in-File-clause-backings : goal.returns-in-File-clause-backings
-returns-in-File-clause-backings g c = λ start fit. fit_filed _ _ start _ _ _ _ _ c.take_filed.ensures.spares c.take_filed.ensures.files_kept (c.take_filed.ensures.carried start) fit
+returns-in-File-clause-backings g c =
+    λ start fit. fit_filed _ _ start _ _ _ _ _ c.take_filed.ensures.spares c.take_filed.ensures.files_kept (c.take_filed.ensures.carried start) fit
 
 pub returns-in-Temp-clause-files_go : goal.returns-in-Temp-clause-files_go
-returns-in-Temp-clause-files_go g c = goes_still _ _ _ _ (still g.F.Backing.later g.met.F.Backing.later_same c.args.files.now) c.take_paged.ensures.spares.devices
+returns-in-Temp-clause-files_go g c =
+    goes_still _ _ _ _ (still g.F.Backing.later g.met.F.Backing.later_same c.args.files.now) c.take_paged.ensures.spares.devices
 
 pub returns-in-File-clause-paging_goes : goal.returns-in-File-clause-paging_goes
-returns-in-File-clause-paging_goes g c = goes_still _ _ _ _ (still g.P.Backing.later g.met.P.Backing.later_same c.args.paging.now) c.take_filed.ensures.spares.devices
+returns-in-File-clause-paging_goes g c =
+    goes_still _ _ _ _ (still g.P.Backing.later g.met.P.Backing.later_same c.args.paging.now) c.take_filed.ensures.spares.devices
 
 pub returns-in-Shared-clause-backings : goal.returns-in-Shared-clause-backings
 returns-in-Shared-clause-backings g c = λ start fit. fit_spared _ _ start _ _ _ _ c.take_shared.ensures.spares fit

@@ -1,4 +1,5 @@
-use Rattle.vm_system.proofs.Common.{Channel, Event, Followed, Going, List, Listed, PagerHasAnswered, Up, [], ap, arith, queue, refl, subst, sym, take, ◌∙◌, ◌∷◌, ◌≡◌}
+use Rattle.vm_system.proofs.Common.{Channel, Event, Followed, Going, List, Listed, PagerHasAnswered, Up, [], ap, arith, queue, refl, subst, sym, take, ◌∙◌, ◌∷◌}
+use Rattle.vm_system.proofs.Common.{◌≡◌}
 use Rattle.vm_model.specs.declared.event.Event.TheVariants as event
 use Rattle.vm_system.proofs.Following.{both_spares, same_all, same_declared, same_files, same_pagers}
 use Rattle.vm_system.proofs.Roomed.{behind_all, may_roomed, on_err, ready_still, room_for, roomed_files, roomed_pagers, spares_roomed, still_roomed}
@@ -73,12 +74,30 @@ follow-requires g c =
     let items = first_told given c.args.line c.args.number channel m t t now any at refl refl c.take_first.ensures.history in
     let f = c.take_first.ensures.hosts in
     let front : take 1 now.history.items ≡ event.Taken channel m ∷ [] = front_is 1 [] (event.Taken channel m) given.past now.history.items refl items in
-    let with_front : List Event → Going = λ z. record { header = given.header; outside = given.outside; command = given.command; past = given.past; front = z } in
+    let with_front : List Event → Going = λ z. record {
+      header = given.header;
+      outside = given.outside;
+      command = given.command;
+      past = given.past;
+      front = z;
+    } in
     let done : PagerHasAnswered (with_front (take 1 now.history.items)) c.args.host c.gives_frame-washed.result now =
     rw (front, c.gives_frame-washed.ensures)
-    (answered_wild given c.args.host c.args.object m t now heard (same_pagers _ _ f) (same_files _ _ f) (same_declared _ _ f ∙ any.stands.agrees.declared) f.server f.hosts (f.size ∙ any.stands.agrees.size) items c.take_first.ensures.posts (ap (λ (z : Listed Event). z.items) f.log ∙ any.stands.log)) in
-    let ready = c.in_ok-prepare.ensures.ready in
-    (front_length 1 now.history.items [] (event.Taken channel m) front refl, (done, (ready.0, (ready_still wide.Few ready.0 t now f.hosts f.log ready.1.hosts, behind_all ready.0 t now ready.1.room (λ n h d s l. c.take_first.ensures.room n (record { history = h; channels = d; numbers = s; letters = l }))))))
+    (answered_wild given c.args.host c.args.object m t now heard (same_pagers _ _ f) (same_files _ _ f) (same_declared _ _ f ∙ any.stands.agrees.declared)
+    f.server f.hosts (f.size ∙ any.stands.agrees.size) items c.take_first.ensures.posts (ap (λ (z : Listed Event). z.items) f.log ∙ any.stands.log)) in
+    let ready = c.in_ok-prepare.ensures.ready in (
+      front_length 1 now.history.items [] (event.Taken channel m) front refl,
+      (
+        done,
+        (
+          ready.0,
+          (
+            ready_still wide.Few ready.0 t now f.hosts f.log ready.1.hosts,
+            behind_all ready.0 t now ready.1.room (λ n h d s l. c.take_first.ensures.room n (record { history = h; channels = d; numbers = s; letters = l })),
+          ),
+        ),
+      ),
+    )
 
 pub returns-clause-took : goal.returns-clause-took
 returns-clause-took g c =
@@ -94,7 +113,13 @@ returns-clause-took g c =
     let now = c.take_first.new.self in
     let items = first_told given c.args.line c.args.number channel m t t now any at refl refl c.take_first.ensures.history in
     let front : take 1 now.history.items ≡ event.Taken channel m ∷ [] = front_is 1 [] (event.Taken channel m) given.past now.history.items refl items in
-    let with_front : List Event → Going = λ z. record { header = given.header; outside = given.outside; command = given.command; past = given.past; front = z } in
+    let with_front : List Event → Going = λ z. record {
+      header = given.header;
+      outside = given.outside;
+      command = given.command;
+      past = given.past;
+      front = z;
+    } in
     let new = c.follow.new.self in
     took_wild given c.args.host c.args.object m t new heard (subst (λ (z : List Event). Followed (with_front z) new) front c.follow.ensures.followed)
 
@@ -114,7 +139,8 @@ returns-clause-spares g c =
     let f = c.take_first.ensures.hosts in
     let mine = spares_wild given c.args.line c.args.number c.args.host c.args.object m t now any heard (same_pagers _ _ f) (same_files _ _ f) items in
     let first = same_all given.header given.outside s t (roomed_pagers _ _ r) (roomed_files _ _ r) r.history in
-    both_spares given.header given.outside s t c.follow.new.self first (both_spares given.header given.outside t now c.follow.new.self mine c.follow.ensures.spares)
+    both_spares given.header given.outside s t c.follow.new.self first (both_spares given.header given.outside t now c.follow.new.self mine
+    c.follow.ensures.spares)
 
 pub returns-in_err-prepare-clause-spares : goal.returns-in_err-prepare-clause-spares
 returns-in_err-prepare-clause-spares g c = spares_roomed g.given.header g.given.outside c.args.self.now c.prepare.new.self c.prepare.ensures.same

@@ -1,0 +1,19 @@
+-- Controls, and what is said between pagers and kernels.
+pub mod FailureBuffers
+pub mod AnswerEffects
+pub mod DeclaredKinds
+pub mod DeclaredMapped
+pub mod DeclaredRegion
+pub mod LiveControls
+pub mod LockHeeded
+pub mod LockPending
+pub mod LockReplied
+pub mod LockRequested
+pub mod PageAsked
+pub mod PageLocked
+pub mod RangeLocked
+pub mod UnlockAsked
+pub mod UnlockWaiters
+pub mod WaitersFail
+pub mod WordHeard
+pub mod WordTaken

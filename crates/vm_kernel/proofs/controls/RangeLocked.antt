@@ -1,0 +1,828 @@
+-- The pages of a lock request's range obey one after another, and the pager is told.
+use Rattle.vm_kernel.proofs.Common.{AllInner, Bool, CausedInTurn, Command, EachOf, Event, FrameTable, Header, HostParts, Ids, IsInner, LegalEvents, List, Local}
+use Rattle.vm_kernel.proofs.Common.{None, ObjectId, ObjectRow, Option, Outside, PageKey, PageNo, PageRow, Parts, Plays, PutsRow, ResidentTable, RunsNone, Some}
+use Rattle.vm_kernel.proofs.Common.{Still, Then, [], absent_at, ap, append-nil, arith, before_more, false, host_id, if◌then◌else◌, inl, inr, live_in, local}
+use Rattle.vm_kernel.proofs.Common.{local_of_row, nat_lt, nat_tests, not, object_at, page_in, page_on, paging, place_of, refl, row_at, row_cases, row_put}
+use Rattle.vm_kernel.proofs.Common.{or_true, since, some_is, subst, suc, sym, true, zero, ℕ, ◌++◌, ◌+◌, ◌<◌, ◌==◌, ◌&&◌, ◌||◌, ◌∙◌, ◌∷◌, ◌≡◌, ◌≤◌, ◌⊎◌, nat_le}
+use Rattle.vm_kernel.proofs.Common.{eqb_tells, Works}
+use Rattle.std.specs.Prelude.{option_map}
+use Rattle.vm_kernel.proofs.space.ObjectsEnd.{changes_beside}
+use Rattle.vm_kernel.proofs.steps.EventsGrow.{Follows, goes_more, goes_none, suffices}
+use Rattle.vm_kernel.proofs.controls.PageLocked.{ComesTo, Mid, works_mid, comes_dropped, comes_returned, comes_saved, comes_still, completed, drops, gives}
+use Rattle.vm_kernel.proofs.controls.PageLocked.{quiet_completed, rests_moved, StaysPut}
+use Rattle.vm_kernel.proofs.memory.MayLeave.{IsSeen, seen_here}
+use Rattle.vm_kernel.proofs.controls.AnswerEffects.{same_effect}
+use Rattle.vm_kernel.proofs.abroad.OwnEvents.{own_named}
+use Rattle.vm_kernel.proofs.abroad.OwnHost.{own_host}
+use Rattle.vm_kernel.proofs.memory.PagesShown.{itself}
+use Rattle.vm_legal.proofs.Paying.{lock_more}
+use Rattle.vm_legal.specs.Debts.{HasLocked, HasObeyed, was_on}
+use Rattle.vm_legal.specs.Licences.{IsLocked, LockRequest, gives_back, lock_taken}
+use Rattle.vm_legal.specs.Steps.{before_step, completes, drops_page, gives_page, returns_page}
+use Rattle.vm_locks.specs.Obeys.{GoesBack, IsAsked, IsDropped, IsSaved, LockState, Next, NoMore, PageObeys, PagesObey, Replies, Silent, IsTold, Stays, act_on}
+use Rattle.vm_locks.specs.Obeys.{lock_state}
+use Rattle.vm_base.specs.declared.ids.Lock.{Lock}
+use Rattle.vm_kernel.proofs.controls.LockPending.{Ahead, aimed, changes_pended, frame_pended, is_ahead, owner_repaged, pend, pended, pended_away, pended_behind}
+use Rattle.vm_kernel.proofs.controls.LockPending.{pended_frame, row_repaged}
+use Rattle.vm_kernel.proofs.controls.LockRequested.{SameRows, ahead_of, mid_rows}
+use Rattle.vm_locks.specs.Requests.{lock_wanted, returns_numbered}
+use Rattle.vm_locks.specs.declared.request.LockRequest.{LockRequest as Wanted}
+use Rattle.vm_model.specs.declared.event.Event.TheVariants as event
+use Rattle.vm_model.specs.Words.{in_range}
+use Rattle.vm_parts.specs.Changes.{Changes, relocked}
+use Rattle.vm_parts.specs.Locks.{lock_after}
+use Rattle.vm_queues.specs.Queues.{Queues}
+use Rattle.vm_supply.specs.declared.woken.Woken.TheVariants as woken
+use Rattle.vm_state.specs.Places.{known_local}
+use Rattle.vm_tables.specs.Cases.{gives_back as goes_back}
+use Rattle.vm_state.proofs.Bypassing.{waits_quiet}
+use Rattle.vm_state.proofs.Passing.{quiet_if}
+use Rattle.vm_model.specs.Local.{Elsewhere}
+
+-- A lock request that a host took for the live control of an object, of which it knows this. The kernel is that in front of it, but for those that are to be
+-- run
+-- again, and the past ends with its taking.
+pub record Request : Type 0 where
+  pub header : Header
+  pub host : ℕ
+  pub outside : Outside
+  pub command : Command
+  pub ids : Ids
+  pub kernel : Parts
+  pub past : List Event
+  pub object : ObjectId
+  pub known : ObjectRow
+  pub page : PageNo
+  pub count : ℕ
+  pub returns : ℕ
+  pub flush : Bool
+  pub lock : ℕ
+  pub reply : Bool
+
+-- in the words of the history
+abbrev pub request_at : Request → LockRequest
+request_at r =
+    record {
+      host = r.host;
+      object = r.object.0;
+      control = r.known.control;
+      page = r.page.0;
+      count = r.count;
+      returns = r.returns;
+      flush = r.flush;
+      lock = r.lock;
+      reply = r.reply;
+    }
+
+-- and of the host
+abbrev pub wanted_at : Request → Wanted
+wanted_at r = record { page = r.page; count = r.count; returns = returns_numbered r.returns; flush = r.flush; lock = lock_wanted r.lock; reply = r.reply }
+
+-- the pages from one on to which it has not come
+abbrev pub ahead_in : Request → ℕ → Ahead
+ahead_in r from = ahead_of r.object r.page r.count r.flush r.lock from
+
+-- the kernel with the state of a lock request; what buffers it has stands aside
+abbrev pub at_state : Parts → LockState → Parts
+at_state k s = record k { memory = record s.parts { buffers = k.memory.buffers }; laundry = record { held = s.held; room = s.room } }
+
+-- and with its rows as they will be
+abbrev pub aimed_at : Request → ℕ → LockState → Parts
+aimed_at r from s = at_state r.kernel (record s { parts = pend (ahead_in r from) s.parts })
+
+-- the request was taken, and nothing has happened since
+pub record IsTaken (r : Request) : Type 0 where
+  pub rests : Mid r.header r.host (aimed_at r r.page.0 (lock_state r.kernel.memory r.kernel.laundry.held r.kernel.laundry.room [])) r.ids r.past
+  pub taken : lock_taken r.past ≡ Some (request_at r)
+  pub few : r.returns < 3
+  pub lock : (r.lock < 4) ⊎ (r.lock ≡ 8)
+  pub found : object_at r.kernel.memory.objects r.object.0 ≡ Some r.known
+  pub live : r.known.live ≡ true
+  pub first : (test : Event → Bool) → since test r.past ≡ false
+  pub shown : (p : ℕ) → known_local r.header r.object.0 p (page_on r.header r.host r.object.0 p (before_step r.past)) ≡ local_of_row r.kernel.memory.frames
+      (row_at r.kernel.memory.resident r.object.0 p) (absent_at r.kernel.memory.objects r.object.0 p)
+
+-- a page that was here with this row is given back, or dropped, where the request wants that
+pub record IsGiven (r : Request) (p : ℕ) (row : PageRow) (past : List Event) : Type 0 where
+  pub back : gives_back r.returns row.dirty row.precious ≡ true → since (returns_page r.host r.object.0 p (not r.flush)) past ≡ true
+  pub dropped : gives_back r.returns row.dirty row.precious ≡ false → r.flush ≡ true → since (drops_page r.host r.object.0 p) past ≡ true
+
+-- and a page that is here with this row isn't wanted
+abbrev pub IsLeft : Request → PageRow → Type 0
+IsLeft r row = (r.flush ≡ false) × (gives_back r.returns row.dirty row.precious ≡ false)
+
+-- pages from the first one of the range on, and below another
+pub record IsOf (r : Request) (from p : ℕ) : Type 0 where
+  pub least : r.page.0 ≤ p
+  pub below : p < from
+  pub inside : p < r.page.0 + r.count
+
+-- the pages below one have obeyed, and those from it on are as they were
+pub record Obeyed (r : Request) (from : ℕ) (s : LockState) : Type 0 where
+  pub rests : Mid r.header r.host (aimed_at r from s) r.ids (s.events ++ r.past)
+  pub goes : LegalEvents r.header r.host r.outside r.command r.past [] s.events
+  pub plays : Plays r.header r.past [] (paging r.kernel) s.events (paging (aimed_at r from s))
+  pub quiet : EachOf RunsNone s.events
+  pub least : r.page.0 ≤ from
+  pub taken : lock_taken (s.events ++ r.past) ≡ Some (request_at r)
+  pub found : object_at s.parts.objects r.object.0 ≡ Some r.known
+  pub undone : since (completes r.host r.object.0) (s.events ++ r.past) ≡ false
+  pub ahead : (p : ℕ) → from ≤ p → since (gives_page r.host r.object.0 p) (s.events ++ r.past) ≡ false
+  pub same : (p : ℕ) → from ≤ p → row_at s.parts.resident r.object.0 p ≡ row_at r.kernel.memory.resident r.object.0 p
+  pub given : (p : ℕ) (row : PageRow) → IsOf r from p → row_at r.kernel.memory.resident r.object.0 p ≡ Some row → row.here ≡ true
+      → IsGiven r p row (s.events ++ r.past)
+  pub left : (p : ℕ) (row : PageRow) → IsOf r from p → row_at s.parts.resident r.object.0 p ≡ Some row → row.here ≡ true → IsLeft r row
+
+below_or : (p n : ℕ) → (p < n) ⊎ (n ≤ p)
+below_or p n = by (nat_lt p n) refl
+  where
+    by : (b : Bool) → nat_lt p n ≡ b → (p < n) ⊎ (n ≤ p)
+    by true is = inl (grind (arith, nat_tests, is))
+    by false is = inr (grind (arith, nat_tests, is))
+
+-- the lists are the same, and each page is where it is
+paging_aimed : (r : Request) (from : ℕ) (s : LockState) → paging (aimed_at r from s) ≡ paging (at_state r.kernel s)
+paging_aimed r from s = λ i. record { frame_at = λ o p. frame_pended (ahead_in r from) s.parts.resident o p i; queues = s.parts.queues }
+
+-- at first
+obeyed_first : (r : Request) → IsTaken r → Obeyed r r.page.0 (lock_state r.kernel.memory r.kernel.laundry.held r.kernel.laundry.room [])
+obeyed_first r t =
+    record {
+      rests = t.rests;
+      goes = goes_none r.header r.host r.outside r.command r.past [];
+      plays =
+          subst (Plays r.header r.past [] (paging r.kernel) []) (sym (paging_aimed r r.page.0
+          (lock_state r.kernel.memory r.kernel.laundry.held r.kernel.laundry.room []))) Still;
+      quiet = tt;
+      least = omega arith;
+      taken = t.taken;
+      found = t.found;
+      undone = t.first (completes r.host r.object.0);
+      ahead = λ p from. t.first (gives_page r.host r.object.0 p);
+      same = λ p from. refl;
+      given = λ p row of found here. absurd (let least = of.least in let below = of.below in omega (arith, least, below));
+      left = λ p row of found here. absurd (let least = of.least in let below = of.below in omega (arith, least, below));
+    }
+
+-- pages that aren't here are passed by
+passes : (r : Request) (from to : ℕ) (s : LockState) → Obeyed r from s → from ≤ to
+    → ((p : ℕ) (row : PageRow) → from ≤ p → p < to → p < r.page.0 + r.count → row_at s.parts.resident r.object.0 p ≡ Some row → row.here ≡ true → ⊥)
+    → Obeyed r to s
+passes r from to s o less none =
+    record {
+      rests = mid_rows r.header r.host (aimed_at r from s) r.ids (pend (ahead_in r to) s.parts).resident (s.events ++ r.past) o.rests same_rows;
+      goes = o.goes;
+      plays = subst (λ z. Plays r.header r.past [] (paging r.kernel) s.events z) (paging_aimed r from s ∙ sym (paging_aimed r to s)) o.plays;
+      quiet = o.quiet;
+      least = let least = o.least in omega (arith, least, less);
+      taken = o.taken;
+      found = o.found;
+      undone = o.undone;
+      ahead = λ p high. o.ahead p (omega (arith, high, less));
+      same = λ p high. o.same p (omega (arith, high, less));
+      given = λ p row of found here. elim (below_or p from) [
+        | inl low ↦ o.given p row (record { least = of.least; below = low; inside = of.inside }) found here
+        | inr high ↦ absurd (none p row high of.below of.inside (o.same p high ∙ found) here)
+      ];
+      left = λ p row of found here. elim (below_or p from) [
+        | inl low ↦ o.left p row (record { least = of.least; below = low; inside = of.inside }) found here
+        | inr high ↦ absurd (none p row high of.below of.inside found here)
+      ];
+    }
+  where
+    -- a page that is passed by isn't here, or is none of the range
+    row_same : (o2 p : ℕ) (row : PageRow) → row_at s.parts.resident o2 p ≡ Some row → pended (ahead_in r to) o2 p row ≡ pended (ahead_in r from) o2 p row
+    row_same o2 p row found = by row.here refl
+      where
+        test_same : row.here ≡ true → is_ahead (ahead_in r to) o2 p ≡ is_ahead (ahead_in r from) o2 p
+        test_same here = elim (eqb_tells r.object.0 o2) [
+          | inr apart ↦ rw apart.0 refl
+          | inl same ↦ elim (below_or p from) [
+            | inl low ↦ ap (λ b. r.object.0 == o2 && (in_range p r.page.0 r.count && b))
+                (not_reached to p (omega (arith, low, less)) ∙ sym (not_reached from p low))
+            | inr high ↦ elim (below_or p to) [
+              | inr past ↦ ap (λ b. r.object.0 == o2 && (in_range p r.page.0 r.count && b)) (reached to p past ∙ sym (reached from p high))
+              | inl low ↦ elim (below_or p (r.page.0 + r.count)) [
+                | inl inside ↦ absurd (none p row high low inside (subst (λ (z : ℕ). row_at s.parts.resident z p ≡ Some row) (sym same.1) found) here)
+                | inr outside ↦ out_of (nat_le to p) (nat_le from p) outside
+              ]
+            ]
+          ]
+        ]
+          where
+            reached : (n q : ℕ) → n ≤ q → nat_le n q ≡ true
+            reached n q le = grind (arith, nat_tests, le)
+
+            not_reached : (n q : ℕ) → q < n → nat_le n q ≡ false
+            not_reached n q less_than = grind (arith, nat_tests, less_than)
+
+            out_of : (b c : Bool) → r.page.0 + r.count ≤ p
+                → (r.object.0 == o2 && (in_range p r.page.0 r.count && b)) ≡ (r.object.0 == o2 && (in_range p r.page.0 r.count && c))
+            out_of b c outside =
+                let none_of : nat_lt p (r.page.0 + r.count) ≡ false = grind (arith, nat_tests, outside) in
+                rw none_of (nothing (r.object.0 == o2) (nat_le r.page.0 p) b c)
+              where
+                nothing : (x y b c : Bool) → (x && ((y && false) && b)) ≡ (x && ((y && false) && c))
+                nothing true true b c = refl
+                nothing true false b c = refl
+                nothing false y b c = refl
+
+        by : (b : Bool) → row.here ≡ b → pended (ahead_in r to) o2 p row ≡ pended (ahead_in r from) o2 p row
+        by false gone = pended_away (ahead_in r to) o2 p row gone ∙ sym (pended_away (ahead_in r from) o2 p row gone)
+        by true here = ap (λ b. if row.here && b then aimed (ahead_in r from) row else row) (test_same here)
+
+    same_rows : SameRows (pend (ahead_in r from) s.parts).resident (pend (ahead_in r to) s.parts).resident
+    same_rows = record {
+      rows =
+          λ o2 p. row_repaged (pended (ahead_in r to)) s.parts.resident o2 p
+          ∙ (maps_same o2 p (row_at s.parts.resident o2 p) refl ∙ sym (row_repaged (pended (ahead_in r from)) s.parts.resident o2 p));
+      owners =
+          λ g. owner_repaged (pended (ahead_in r to)) s.parts.resident g (pended_frame (ahead_in r to))
+          ∙ sym (owner_repaged (pended (ahead_in r from)) s.parts.resident g (pended_frame (ahead_in r from)));
+    }
+      where
+        maps_same : (o2 p : ℕ) (x : Option PageRow) → row_at s.parts.resident o2 p ≡ x
+            → option_map (pended (ahead_in r to) o2 p) x ≡ option_map (pended (ahead_in r from) o2 p) x
+        maps_same o2 p None found = refl
+        maps_same o2 p (Some row) found = ap Some (row_same o2 p row found)
+
+-- an event more in the step
+
+since_one : (test : Event → Bool) (e : Event) (past : List Event) → IsInner e → since test (e ∷ past) ≡ (test e || since test past)
+since_one test (event.Line line) past inner = absurd inner
+since_one test (event.Taken channel m) past inner = absurd inner
+since_one test other past inner = refl
+
+lock_one : (e : Event) (past : List Event) → IsInner e → lock_taken (e ∷ past) ≡ lock_taken past
+lock_one e past inner = lock_more (e ∷ []) past (inner, tt)
+
+since_none : (test : Event → Bool) (e : Event) (past : List Event) → IsInner e → test e ≡ false → since test past ≡ false → since test (e ∷ past) ≡ false
+since_none test e past inner other none = since_one test e past inner ∙ (ap (λ b. b || since test past) other ∙ none)
+
+since_still : (test : Event → Bool) (e : Event) (past : List Event) → IsInner e → since test past ≡ true → since test (e ∷ past) ≡ true
+since_still test e past inner is = since_one test e past inner ∙ or_true (test e) (since test past) is
+
+since_now : (test : Event → Bool) (e : Event) (past : List Event) → IsInner e → test e ≡ true → since test (e ∷ past) ≡ true
+since_now test e past inner is = since_one test e past inner ∙ ap (λ b. b || since test past) is
+
+given_still : (r : Request) (p : ℕ) (row : PageRow) (e : Event) (past : List Event) → IsInner e → IsGiven r p row past → IsGiven r p row (e ∷ past)
+given_still r p row e past inner is = record {
+  back = λ due. since_still (returns_page r.host r.object.0 p (not r.flush)) e past inner (is.back due);
+  dropped = λ kept flushes. since_still (drops_page r.host r.object.0 p) e past inner (is.dropped kept flushes);
+}
+
+-- what a page's step leaves of the others, and of itself
+pub record Steps (r : Request) (p : ℕ) (row : PageRow) (old new : LockState) (past : List Event) : Type 0 where
+  pub rows : (q : ℕ) → (p ≡ q → ⊥) → row_at new.parts.resident r.object.0 q ≡ row_at old.parts.resident r.object.0 q
+  pub found : object_at new.parts.objects r.object.0 ≡ object_at old.parts.objects r.object.0
+  pub given : IsGiven r p row past
+  pub left : (now : PageRow) → row_at new.parts.resident r.object.0 p ≡ Some now → now.here ≡ true → IsLeft r now
+
+-- a page has obeyed without an event
+obeyed_still : (r : Request) (p : ℕ) (row : PageRow) (old new : LockState) → Obeyed r p old → row_at old.parts.resident r.object.0 p ≡ Some row
+    → new.events ≡ old.events → StaysPut r.header r.host r.ids (aimed_at r p old) (aimed_at r (suc p) new) (old.events ++ r.past)
+    → Steps r p row old new (old.events ++ r.past) → Obeyed r (suc p) new
+obeyed_still r p row old new o found events still steps =
+    subst (λ (z : List Event). Obeyed r (suc p) (record new { events = z })) (sym events)
+    (record {
+      rests = still.rests;
+      goes = o.goes;
+      plays = subst (λ z. Plays r.header r.past [] (paging r.kernel) old.events z) (sym still.same) o.plays;
+      quiet = o.quiet;
+      least = let least = o.least in omega (arith, least);
+      taken = o.taken;
+      found = steps.found ∙ o.found;
+      undone = o.undone;
+      ahead = λ q high. o.ahead q (omega (arith, high));
+      same = λ q high. steps.rows q (λ same. omega (arith, high, same)) ∙ o.same q (omega (arith, high));
+      given = λ q was of there here. elim (below_or q p) [
+        | inl low ↦ o.given q was (record { least = of.least; below = low; inside = of.inside }) there here
+        | inr high ↦ let is : p ≡ q = let below = of.below in omega (arith, high, below) in given_at q was is there
+      ];
+      left = λ q now of there here. elim (below_or q p) [
+        | inl low ↦ o.left q now (record { least = of.least; below = low; inside = of.inside }) (sym (steps.rows q (λ same. omega (arith, low, same))) ∙ there)
+            here
+        | inr high ↦ let is : p ≡ q = let below = of.below in omega (arith, high, below) in left_at q now is there here
+      ];
+    })
+  where
+    given_at : (q : ℕ) (was : PageRow) → p ≡ q → row_at r.kernel.memory.resident r.object.0 q ≡ Some was → IsGiven r q was (old.events ++ r.past)
+    given_at q was is there =
+        subst (λ (z : ℕ). IsGiven r z was (old.events ++ r.past)) is
+        (subst (λ (z : PageRow). IsGiven r p z (old.events ++ r.past)) (some_is row was
+        (sym found ∙ (o.same p (omega arith) ∙ subst (λ (z : ℕ). row_at r.kernel.memory.resident r.object.0 z ≡ Some was) (sym is) there))) steps.given)
+
+    left_at : (q : ℕ) (now : PageRow) → p ≡ q → row_at new.parts.resident r.object.0 q ≡ Some now → now.here ≡ true → IsLeft r now
+    left_at q now is there here = steps.left now (subst (λ (z : ℕ). row_at new.parts.resident r.object.0 z ≡ Some now) (sym is) there) here
+
+-- a page has obeyed with an event
+pub record Tells (r : Request) (p : ℕ) (e : Event) : Type 0 where
+  pub inner : IsInner e
+  pub quiet : RunsNone e
+  pub going : completes r.host r.object.0 e ≡ false
+  pub mine : (q : ℕ) → p < q → gives_page r.host r.object.0 q e ≡ false
+
+obeyed_told : (r : Request) (p : ℕ) (row : PageRow) (e : Event) (old new : LockState) → Obeyed r p old → row_at old.parts.resident r.object.0 p ≡ Some row
+    → new.events ≡ e ∷ old.events → Tells r p e
+    → ComesTo r.header r.host r.outside r.command r.ids e (aimed_at r p old) (aimed_at r (suc p) new) (old.events ++ r.past)
+    → Steps r p row old new (e ∷ (old.events ++ r.past)) → Obeyed r (suc p) new
+obeyed_told r p row e old new o found events tells comes steps =
+    subst (λ (z : List Event). Obeyed r (suc p) (record new { events = z })) (sym events)
+    (record {
+      rests = comes.rests;
+      goes = goes_more r.header r.host r.outside r.command r.past [] old.events e o.goes o.rests.settled comes.follows;
+      plays = Then e old.events (paging (aimed_at r p old)) (paging (aimed_at r (suc p) new)) o.plays comes.does;
+      quiet = (tells.quiet, o.quiet);
+      least = let least = o.least in omega (arith, least);
+      taken = lock_one e (old.events ++ r.past) tells.inner ∙ o.taken;
+      found = steps.found ∙ o.found;
+      undone = since_none (completes r.host r.object.0) e (old.events ++ r.past) tells.inner tells.going o.undone;
+      ahead =
+          λ q high. since_none (gives_page r.host r.object.0 q) e (old.events ++ r.past) tells.inner (tells.mine q (omega (arith, high)))
+          (o.ahead q (omega (arith, high)));
+      same = λ q high. steps.rows q (λ same. omega (arith, high, same)) ∙ o.same q (omega (arith, high));
+      given = λ q was of there here. elim (below_or q p) [
+        | inl low ↦ given_still r q was e (old.events ++ r.past) tells.inner (o.given q was (record { least = of.least; below = low; inside = of.inside }) there
+            here)
+        | inr high ↦ let is : p ≡ q = let below = of.below in omega (arith, high, below) in given_at q was is there
+      ];
+      left = λ q now of there here. elim (below_or q p) [
+        | inl low ↦ o.left q now (record { least = of.least; below = low; inside = of.inside }) (sym (steps.rows q (λ same. omega (arith, low, same))) ∙ there)
+            here
+        | inr high ↦ let is : p ≡ q = let below = of.below in omega (arith, high, below) in left_at q now is there here
+      ];
+    })
+  where
+    given_at : (q : ℕ) (was : PageRow) → p ≡ q → row_at r.kernel.memory.resident r.object.0 q ≡ Some was → IsGiven r q was (e ∷ (old.events ++ r.past))
+    given_at q was is there =
+        subst (λ (z : ℕ). IsGiven r z was (e ∷ (old.events ++ r.past))) is
+        (subst (λ (z : PageRow). IsGiven r p z (e ∷ (old.events ++ r.past))) (some_is row was
+        (sym found ∙ (o.same p (omega arith) ∙ subst (λ (z : ℕ). row_at r.kernel.memory.resident r.object.0 z ≡ Some was) (sym is) there))) steps.given)
+
+    left_at : (q : ℕ) (now : PageRow) → p ≡ q → row_at new.parts.resident r.object.0 q ≡ Some now → now.here ≡ true → IsLeft r now
+    left_at q now is there here = steps.left now (subst (λ (z : ℕ). row_at new.parts.resident r.object.0 z ≡ Some now) (sym is) there) here
+
+-- by the cases of the table
+
+-- a kind has the same meaning on the host
+gives_same : (returns : ℕ) (dirty precious : Bool) → returns < 3 → goes_back (returns_numbered returns) dirty precious ≡ gives_back returns dirty precious
+gives_same zero dirty precious few = by dirty precious
+  where
+    by : (a b : Bool) → goes_back (returns_numbered 0) a b ≡ gives_back 0 a b
+    by true true = refl
+    by true false = refl
+    by false true = refl
+    by false false = refl
+gives_same (suc zero) dirty precious few = by dirty precious
+  where
+    by : (a b : Bool) → goes_back (returns_numbered 1) a b ≡ gives_back 1 a b
+    by true true = refl
+    by true false = refl
+    by false true = refl
+    by false false = refl
+gives_same (suc (suc zero)) dirty precious few = by dirty precious
+  where
+    by : (a b : Bool) → goes_back (returns_numbered 2) a b ≡ gives_back 2 a b
+    by true true = refl
+    by true false = refl
+    by false true = refl
+    by false false = refl
+gives_same (suc (suc (suc n))) dirty precious few = absurd (omega (arith, few))
+
+-- the page is under the request, which isn't done
+locked_at : (r : Request) (p : ℕ) (flush : Bool) (s : LockState) → Obeyed r p s → p < r.page.0 + r.count → r.flush ≡ flush
+    → IsLocked r.host r.object.0 p r.returns flush (s.events ++ r.past)
+locked_at r p flush s o below is = record {
+  control = r.known.control;
+  first = r.page.0;
+  count = r.count;
+  lock = r.lock;
+  reply = r.reply;
+  taken = o.taken ∙ ap (λ b. Some (record (request_at r) { flush = b })) is;
+  from = o.least;
+  below = below;
+  undone = o.undone;
+  rising = λ later more. o.ahead later (omega (arith, more));
+}
+
+ahead_at : (r : Request) (p : ℕ) → r.page.0 ≤ p → p < r.page.0 + r.count → is_ahead (ahead_in r p) r.object.0 p ≡ true
+ahead_at r p least below =
+    rw (itself r.object.0) (both (nat_le r.page.0 p) (nat_lt p (r.page.0 + r.count)) (nat_le p p) (grind (arith, nat_tests, least))
+    (grind (arith, nat_tests, below)) (grind (arith, nat_tests)))
+  where
+    both : (a b c : Bool) → a ≡ true → b ≡ true → c ≡ true → ((a && b) && c) ≡ true
+    both a b c one two three = rw (one, two, three) refl
+
+-- what the table says
+record Acts (r : Request) (p : ℕ) (row : PageRow) (s : LockState) (back flush : Bool) : Type 0 where
+  act : gives_back r.returns row.dirty row.precious ≡ back
+  flushes : r.flush ≡ flush
+  locked : IsLocked r.host r.object.0 p r.returns flush (s.events ++ r.past)
+  ahead : is_ahead (ahead_in r p) r.object.0 p ≡ true
+
+acts : (r : Request) (p : ℕ) (row : PageRow) (s : LockState) (back flush : Bool) → IsTaken r → Obeyed r p s → p < r.page.0 + r.count
+    → row_at s.parts.resident r.object.0 p ≡ Some row → act_on (wanted_at r) row ≡ record { give_back = back; remove = flush } → Acts r p row s back flush
+acts r p row s back flush t o below found act =
+    let removes : r.flush ≡ flush = ap (λ z. z.remove) act in
+    record {
+      act = sym (gives_same r.returns row.dirty row.precious t.few) ∙ ap (λ z. z.give_back) act;
+      flushes = removes;
+      locked = locked_at r p flush s o below removes;
+      ahead = ahead_at r p o.least below;
+    }
+
+-- the memory of a state, with the buffers of the kernel, and with its rows as they will be behind a page
+abbrev memory_of : Request → ℕ → LockState → HostParts
+memory_of r p s = record (pend (ahead_in r (suc p)) s.parts) { buffers = r.kernel.memory.buffers }
+
+-- where neither the returns nor the room have changed
+same_returns : (r : Request) (p : ℕ) (old new : LockState) → new.held ≡ old.held → new.room ≡ old.room
+    → record (aimed_at r p old) { memory = memory_of r p new } ≡ aimed_at r (suc p) new
+same_returns r p old new held room = λ i. record r.kernel { memory = memory_of r p new; laundry = record { held = sym held i; room = sym room i } }
+
+-- a page changes, whose row is as it will be
+changes_aimed : (r : Request) (page : PageNo) (row : PageRow) (now : Option PageRow) (held : Bool) (bytes : List ℕ) (lists : Queues) (old new : LockState)
+    → is_ahead (ahead_in r page.0) r.object.0 page.0 ≡ true → row.here ≡ true
+    → Changes (record { object = r.object; page = page }) row.frame (Some row) now held bytes lists old.parts new.parts
+    → Changes (record { object = r.object; page = page }) row.frame (Some (aimed (ahead_in r page.0) row)) now held bytes lists (aimed_at r page.0 old).memory
+    (memory_of r page.0 new)
+changes_aimed r page row now held bytes lists old new ahead here c =
+    changes_beside (pend (ahead_in r page.0) old.parts) (pend (ahead_in r (suc page.0)) new.parts) r.kernel
+    (changes_pended (ahead_in r page.0) (record { object = r.object; page = page }) row now held bytes lists old.parts new.parts refl refl ahead here c)
+
+rows_apart : (o p : ℕ) (x : Option PageRow) (rs rs2 : ResidentTable) → PutsRow o p x rs rs2 → (q : ℕ) → (p ≡ q → ⊥) → row_at rs2 o q ≡ row_at rs o q
+rows_apart o p x rs rs2 put q apart = elim (row_cases o p x rs rs2 put o q) [ inl now ↦ absurd (apart now.page) | inr other ↦ other.is ]
+
+page_apart : (h o p q : ℕ) → p < q → (h == h && (o == o && p == q)) ≡ false
+page_apart h o p q less = let apart : (p == q) ≡ false = grind (arith, nat_tests, less) in rw (itself h, itself o, apart) refl
+
+tells_dropped : (r : Request) (page : PageNo) → Tells r page.0 (drops r.host (record { object = r.object; page = page }))
+tells_dropped r page = record { inner = tt; quiet = tt; going = refl; mine = λ q less. page_apart r.host r.object.0 page.0 q less }
+
+tells_given : (r : Request) (page : PageNo) (dirty keep : Bool) (bytes : List ℕ)
+    → Tells r page.0 (gives r.host (record { object = r.object; page = page }) r.known.control dirty keep bytes)
+tells_given r page dirty keep bytes =
+    record { inner = tt; quiet = tt; going = rw (itself r.host, itself r.object.0) refl; mine = λ q less. page_apart r.host r.object.0 page.0 q less }
+
+-- it isn't given back
+spared : {R : Type 0} {b : Bool} → b ≡ false → b ≡ true → R
+spared kept due = absurd (let bad : false ≡ true = sym kept ∙ due in cc)
+
+page_gone : (r : Request) (p : ℕ) (rs rs2 : ResidentTable) → PutsRow r.object.0 p None rs rs2 → (now : PageRow) → row_at rs2 r.object.0 p ≡ Some now
+    → now.here ≡ true → IsLeft r now
+page_gone r p rs rs2 put now there here = absurd (let bad : None ≡ Some now = sym (row_put rs rs2 r.object.0 p None put) ∙ there in cc)
+
+-- a page that stays gets the lock that it will have
+stays_so : {key : PageKey} {bytes : List ℕ} {lists : Queues} (r : Request) (row : PageRow) (saved : Bool) → r.flush ≡ false → (old new : LockState)
+    → Changes key row.frame (Some row) (Some (relocked (lock_wanted r.lock) saved row)) true bytes lists old.parts new.parts
+    → Changes key row.frame (Some row) (Some (relocked None saved (aimed (ahead_in r 0) row))) true bytes lists old.parts new.parts
+stays_so {key = key} {bytes = bytes} {lists = lists} r row saved stays old new c =
+    subst (λ (z : Option Lock). Changes key row.frame (Some row) (Some (record row
+    { lock = lock_after z row.lock; dirty = not saved && row.dirty; precious = not saved && row.precious; unlock_sent = false })) true bytes lists old.parts
+    new.parts)
+    (sym (ap (λ b. if b then None else lock_wanted r.lock) stays)) c
+
+page_obeys : (r : Request) (page : PageNo) (row : PageRow) (old new : LockState) → IsTaken r → Obeyed r page.0 old → page.0 < r.page.0 + r.count
+    → row_at old.parts.resident r.object.0 page.0 ≡ Some row → row.here ≡ true
+    → PageObeys (host_id r.host) (record { object = r.object; page = page }) r.known.control (wanted_at r) row old new → Obeyed r (suc page.0) new
+page_obeys r page row old new t o below found here (IsDropped act c objects held room events) =
+    let key : PageKey = record { object = r.object; page = page } in
+    let k = r.kernel in
+    let e = drops r.host key in
+    let moment = old.events ++ r.past in
+    let a = acts r page.0 row old false true t o below found act in
+    obeyed_told r page.0 row e old new o found events (tells_dropped r page)
+    (subst (λ (z : Parts). ComesTo r.header r.host r.outside r.command r.ids e (aimed_at r page.0 old) z moment) (same_returns r page.0 old new held room)
+    (comes_dropped r.header r.host r.outside r.command r.ids (aimed_at r page.0 old) (memory_of r page.0 new) key (aimed (ahead_in r page.0) row) moment
+    r.returns o.rests a.locked a.act here refl (changes_aimed r page row None _ _ _ old new a.ahead here c) objects refl))
+    (record {
+      rows = rows_apart r.object.0 page.0 None old.parts.resident new.parts.resident c.row;
+      found = ap (λ z. object_at z r.object.0) objects;
+      given =
+          record {
+            back = λ due. spared a.act due;
+            dropped = λ kept flushes. since_now (drops_page r.host r.object.0 page.0) e moment tt
+                (rw (itself r.host, itself r.object.0, itself page.0) refl);
+          };
+      left = page_gone r page.0 old.parts.resident new.parts.resident c.row;
+    })
+page_obeys r page row old new t o below found here (Stays act c objects held room events) =
+    let key : PageKey = record { object = r.object; page = page } in
+    let k = r.kernel in
+    let moment = old.events ++ r.past in
+    let a = acts r page.0 row old false false t o below found act in
+    obeyed_still r page.0 row old new o found events
+    (subst (λ (z : Parts). StaysPut r.header r.host r.ids (aimed_at r page.0 old) z moment) (same_returns r page.0 old new held room)
+    (comes_still r.header r.host r.ids (aimed_at r page.0 old) (memory_of r page.0 new) key (aimed (ahead_in r page.0) row) moment o.rests here refl
+    (changes_aimed r page row _ _ _ _ old new a.ahead here (stays_so r row false a.flushes old new c)) objects refl))
+    (record {
+      rows = rows_apart r.object.0 page.0 _ old.parts.resident new.parts.resident c.row;
+      found = ap (λ z. object_at z r.object.0) objects;
+      given = record { back = λ due. spared a.act due; dropped = λ kept flushes. spared a.flushes flushes };
+      left =
+          λ now there is. (
+            a.flushes,
+            subst (λ (z : PageRow). gives_back r.returns z.dirty z.precious ≡ false)
+                (some_is (relocked (lock_wanted r.lock) false row) now (sym (row_put old.parts.resident new.parts.resident r.object.0 page.0 _ c.row) ∙ there))
+                a.act,
+          );
+    })
+page_obeys r page row old new t o below found here (GoesBack act c objects absent held room events) =
+    let key : PageKey = record { object = r.object; page = page } in
+    let k = r.kernel in
+    let bytes = page_in old.parts.frames row.frame.0 in
+    let e = gives r.host key r.known.control row.dirty false bytes in
+    let moment = old.events ++ r.past in
+    let a = acts r page.0 row old true true t o below found act in
+    obeyed_told r page.0 row e old new o found events (tells_given r page row.dirty false bytes)
+    (comes_returned r.header r.host r.outside r.command r.ids (aimed_at r page.0 old) (memory_of r page.0 new) (record { held = new.held; room = new.room }) key
+    (aimed (ahead_in r page.0) row) r.known moment r.returns o.rests a.locked a.act here o.found t.live refl
+    (changes_aimed r page row None _ _ _ old new a.ahead here c) objects absent refl held room)
+    (record {
+      rows = rows_apart r.object.0 page.0 None old.parts.resident new.parts.resident c.row;
+      found = objects.at r.object.0;
+      given = record {
+        back =
+            λ due. subst (λ (b : Bool). since (returns_page r.host r.object.0 page.0 (not b)) (e ∷ moment) ≡ true) (sym a.flushes)
+            (since_now (returns_page r.host r.object.0 page.0 false) e moment tt (rw (itself r.host, itself r.object.0, itself page.0) refl));
+        dropped = λ kept flushes. spared kept a.act;
+      };
+      left = page_gone r page.0 old.parts.resident new.parts.resident c.row;
+    })
+page_obeys r page row old new t o below found here (IsSaved act c objects absent held room events) =
+    let key : PageKey = record { object = r.object; page = page } in
+    let k = r.kernel in
+    let bytes = page_in old.parts.frames row.frame.0 in
+    let e = gives r.host key r.known.control row.dirty true bytes in
+    let moment = old.events ++ r.past in
+    let a = acts r page.0 row old true false t o below found act in
+    obeyed_told r page.0 row e old new o found events (tells_given r page row.dirty true bytes)
+    (subst (λ (z : Parts). ComesTo r.header r.host r.outside r.command r.ids e (aimed_at r page.0 old) z moment) (same_returns r page.0 old new held room)
+    (comes_saved r.header r.host r.outside r.command r.ids (aimed_at r page.0 old) (memory_of r page.0 new) key (aimed (ahead_in r page.0) row) r.known moment
+    r.returns o.rests a.locked a.act here o.found t.live refl (changes_aimed r page row _ _ _ _ old new a.ahead here
+    (stays_so r row true a.flushes old new c)) objects absent refl))
+    (record {
+      rows = rows_apart r.object.0 page.0 _ old.parts.resident new.parts.resident c.row;
+      found = objects.at r.object.0;
+      given = record {
+        back =
+            λ due. subst (λ (b : Bool). since (returns_page r.host r.object.0 page.0 (not b)) (e ∷ moment) ≡ true) (sym a.flushes)
+            (since_now (returns_page r.host r.object.0 page.0 true) e moment tt (rw (itself r.host, itself r.object.0, itself page.0) refl));
+        dropped = λ kept flushes. spared kept a.act;
+      };
+      left = λ now there is. (
+        a.flushes,
+        subst (λ (z : PageRow). gives_back r.returns z.dirty z.precious ≡ false) (some_is (relocked (lock_wanted r.lock) true row) now
+            (sym (row_put old.parts.resident new.parts.resident r.object.0 page.0 _ c.row) ∙ there)) (clean r.returns),
+      );
+    })
+  where
+    none : (a b : Bool) → ((a && false) || (b && (false || false))) ≡ false
+    none true true = refl
+    none true false = refl
+    none false true = refl
+    none false false = refl
+
+    clean : (returns : ℕ) → gives_back returns false false ≡ false
+    clean returns = none (returns == 1) (returns == 2)
+
+-- all pages of the range have obeyed
+pub record AllObeyed (r : Request) (s : LockState) : Type 0 where
+  pub to : ℕ
+  pub end : r.page.0 + r.count ≤ to
+  pub obeyed : Obeyed r to s
+
+pages_obey : (r : Request) (from : ℕ) (old new : LockState) → IsTaken r → Obeyed r from old
+    → PagesObey (host_id r.host) r.object r.known.control (wanted_at r) from old new → AllObeyed r new
+pages_obey r _ _ _ t o (NoMore from s none) =
+    record {
+      to = from + (r.page.0 + r.count);
+      end = omega arith;
+      obeyed =
+          passes r from (from + (r.page.0 + r.count)) s o (omega arith) (λ p row high low inside found here. let bad : None ≡ Some row = sym
+          (none p high inside) ∙ found in absurd (cc));
+    }
+pages_obey r _ _ _ t o (IsAsked from page row old new next away rest) =
+    pages_obey r (suc page.0) old new t
+    (passes r from (suc page.0) old o (let low = next.next.low in omega (arith, low)) (λ p was high low inside found here. elim (below_or p page.0) [
+      | inl less ↦ let bad : None ≡ Some was = sym (next.next.first p high less) ∙ found in absurd (cc)
+      | inr least ↦
+          let is : page.0 ≡ p = omega (arith, low, least) in
+          let same : row ≡ was = some_is row was (sym (subst (λ (z : ℕ). row_at old.parts.resident r.object.0 z ≡ Some row) is next.found) ∙ found) in
+          absurd (let bad : false ≡ true = sym away ∙ (ap (λ (z : PageRow). z.here) same ∙ here) in cc)
+    ])) rest
+pages_obey r _ _ _ t o (Next from page row old mid new next here obeys rest) =
+    pages_obey r (suc page.0) mid new t
+    (page_obeys r page row old mid t (passes r from page.0 old o next.next.low (λ p was high low inside found is. let bad : None ≡ Some was = sym
+    (next.next.first p high low) ∙ found in absurd (cc))) next.inside next.found here obeys) rest
+
+-- what the history has of a page that is here
+
+record IsRow (x : Option PageRow) (seen : Local) : Type 0 where
+  row : PageRow
+  is : x ≡ Some row
+  here : row.here ≡ true
+  dirty : seen.dirty ≡ row.dirty
+  precious : seen.precious ≡ row.precious
+
+row_seen : (header : Header) (o p : ℕ) (fs : FrameTable) (x : Option PageRow) (lacked : Bool) (seen : Local)
+    → known_local header o p seen ≡ local_of_row fs x lacked → seen.here ≡ true → IsRow x seen
+row_seen header o p fs None lacked seen is here = absurd (let bad : false ≡ true = sym (ap (λ z. z.here) is) ∙ here in cc)
+row_seen header o p fs (Some row) lacked seen is here =
+    let there : row.here ≡ true = sym (ap (λ z. z.here) is) ∙ here in
+    let its : IsSeen (known_local header o p seen) row (page_in fs row.frame.0) = seen_here fs row lacked (known_local header o p seen) is there in
+    record { row = row; is = refl; here = there; dirty = its.dirty; precious = its.precious }
+
+gives_seen : (returns : ℕ) (x : Option PageRow) (seen : Local) (is : IsRow x seen)
+    → gives_back returns seen.dirty seen.precious ≡ gives_back returns is.row.dirty is.row.precious
+gives_seen returns x seen is = ap (λ z. gives_back returns z seen.precious) is.dirty ∙ ap (gives_back returns is.row.dirty) is.precious
+
+-- events behind a taking are inside its step
+pub inner_of : {header : Header} {h : ℕ} {outside : Outside} {doing : Command} {past events : List Event} → LegalEvents header h outside doing past [] events
+    → AllInner events
+inner_of goes = subst AllInner (sym (goes.is ∙ append-nil goes.more)) goes.inner
+
+-- so the request is paid
+
+pages_paid : (r : Request) (s : LockState) (moment : List Event) → IsTaken r → before_step moment ≡ before_step r.past
+    → ((p : ℕ) (row : PageRow) → r.page.0 ≤ p → p < r.page.0 + r.count → row_at r.kernel.memory.resident r.object.0 p ≡ Some row → row.here ≡ true
+    → IsGiven r p row moment)
+    → (p : ℕ) → r.page.0 ≤ p → p < r.page.0 + r.count → (was_on r.header (request_at r) p moment).here ≡ true → HasObeyed r.header (request_at r) p moment
+pages_paid r s moment t same given p least below here =
+    record {
+      back = λ due. its.back (sym (gives_seen r.returns _ _ row) ∙ (ap (λ (z : List Event). back_at z) (sym same) ∙ due));
+      dropped = λ kept flushes. its.dropped (sym (gives_seen r.returns _ _ row) ∙ (ap (λ (z : List Event). back_at z) (sym same) ∙ kept)) flushes;
+    }
+  where
+    back_at : List Event → Bool
+    back_at z = gives_back r.returns (page_on r.header r.host r.object.0 p z).dirty (page_on r.header r.host r.object.0 p z).precious
+
+    row : IsRow (row_at r.kernel.memory.resident r.object.0 p) (page_on r.header r.host r.object.0 p (before_step r.past))
+    row =
+        row_seen r.header r.object.0 p r.kernel.memory.frames (row_at r.kernel.memory.resident r.object.0 p) (absent_at r.kernel.memory.objects r.object.0 p)
+        (page_on r.header r.host r.object.0 p (before_step r.past))
+        (t.shown p) (ap (λ (z : List Event). (page_on r.header r.host r.object.0 p z).here) (sym same) ∙ here)
+
+    its : IsGiven r p (IsRow.row row) moment
+    its = given p (IsRow.row row) least below (IsRow.is row) (IsRow.here row)
+
+-- the request is done
+pub record Done (r : Request) (s : LockState) : Type 0 where
+  pub works : Works r.header r.host (at_state r.kernel s) r.ids woken.Nobody (s.events ++ r.past)
+  pub goes : LegalEvents r.header r.host r.outside r.command r.past [] s.events
+  pub plays : Plays r.header r.past [] (paging r.kernel) s.events (paging (at_state r.kernel s))
+  pub quiet : EachOf RunsNone s.events
+  pub paid : HasLocked r.header (request_at r) (s.events ++ r.past)
+
+given_all : (r : Request) (s : LockState) → (all : AllObeyed r s) → (p : ℕ) (row : PageRow) → r.page.0 ≤ p → p < r.page.0 + r.count
+    → row_at r.kernel.memory.resident r.object.0 p ≡ Some row → row.here ≡ true → IsGiven r p row (s.events ++ r.past)
+given_all r s all p row least below found here =
+    all.obeyed.given p row (record { least = least; below = let end = all.end in omega (arith, end, below); inside = below }) found here
+
+-- there is no page to come to any more, so the rows are as they are
+mid_all : (r : Request) (s : LockState) → AllObeyed r s → Mid r.header r.host (at_state r.kernel s) r.ids (s.events ++ r.past)
+mid_all r s all =
+    mid_rows r.header r.host (aimed_at r all.to s) r.ids s.parts.resident (s.events ++ r.past) all.obeyed.rests
+    (record {
+      rows = λ o p. sym (row_repaged (pended (ahead_in r all.to)) s.parts.resident o p ∙ by o p (row_at s.parts.resident o p));
+      owners = λ g. sym (owner_repaged (pended (ahead_in r all.to)) s.parts.resident g (pended_frame (ahead_in r all.to)));
+    })
+  where
+    never : (b : Bool) → (b && false) ≡ false
+    never true = refl
+    never false = refl
+
+    none : (o p : ℕ) → is_ahead (ahead_in r all.to) o p ≡ false
+    none o p = out (r.object.0 == o) (nat_le r.page.0 p) (nat_lt p (r.page.0 + r.count)) (nat_le all.to p) over
+      where
+        over : (nat_lt p (r.page.0 + r.count) && nat_le all.to p) ≡ false
+        over = elim (below_or p all.to) [
+          | inl low ↦ ap (λ b. nat_lt p (r.page.0 + r.count) && b) {y = false} (grind (arith, nat_tests, low)) ∙ never (nat_lt p (r.page.0 + r.count))
+          | inr high ↦ let end = all.end in ap (λ b. b && nat_le all.to p) {y = false} (grind (arith, nat_tests, high, end))
+        ]
+
+        out : (a b c d : Bool) → (c && d) ≡ false → (a && ((b && c) && d)) ≡ false
+        out true true true d is = is
+        out true true false d is = refl
+        out true false c d is = refl
+        out false b c d is = refl
+
+    by : (o p : ℕ) (x : Option PageRow) → option_map (pended (ahead_in r all.to) o p) x ≡ x
+    by o p None = refl
+    by o p (Some row) = ap Some (pended_behind (ahead_in r all.to) o p row (none o p))
+
+plays_all : (r : Request) (s : LockState) → (all : AllObeyed r s) → Plays r.header r.past [] (paging r.kernel) s.events (paging (at_state r.kernel s))
+plays_all r s all = subst (λ z. Plays r.header r.past [] (paging r.kernel) s.events z) (paging_aimed r all.to s) all.obeyed.plays
+
+done_silent : (r : Request) (s : LockState) → IsTaken r → AllObeyed r s → r.reply ≡ false → Done r s
+done_silent r s t all silent =
+    let o = all.obeyed in
+    record {
+      works =
+          works_mid (mid_all r s all) (record {
+            at = λ request is own. absurd (let bad : false ≡ true = sym silent
+                ∙ (ap (λ z. z.reply) (some_is (request_at r) request (sym o.taken ∙ is)) ∙ own) in cc);
+          });
+      goes = o.goes;
+      plays = plays_all r s all;
+      quiet = o.quiet;
+      paid = record {
+        pages = pages_paid r s (s.events ++ r.past) t (before_more s.events r.past (inner_of o.goes)) (given_all r s all);
+        reply = λ wanted. spared silent wanted;
+      };
+    }
+
+-- the reply is sent
+
+completed_rests : (r : Request) (k : Parts) (past : List Event) → Mid r.header r.host k r.ids past
+    → Mid r.header r.host k r.ids (completed r.host r.object r.known.control r.page r.count ∷ past)
+completed_rests r k past rests =
+    let m = rests in
+    rests_moved r.header r.host k r.ids k.memory k.laundry past (completed r.host r.object r.known.control r.page r.count ∷ past) rests
+    (quiet_completed r.object r.known.control r.page r.count rests)
+    (record {
+      away = λ o p none. none;
+      fits = m.fits;
+      objects = record { at = λ o. refl };
+      kinds = m.kinds;
+      pages =
+          record {
+            shown = λ o p. ap (known_local r.header o p) (rw (own_host r.host)
+                (same_effect r.header.size (r.object.0 == o) (local r.header.size r.host (place_of o p) past))) ∙ m.pages.shown o p;
+          };
+      washed = m.laundry;
+      frames = m.frames;
+      referred = rests.referred;
+      waits =
+          waits_quiet r.header r.host (completed r.host r.object r.known.control r.page r.count) past
+          (λ place. quiet_if (r.host == r.host && r.object.0 == place.object.0) Elsewhere Elsewhere tt tt) rests.waits;
+    })
+
+completed_cause : (r : Request) (s : LockState) → IsTaken r → AllObeyed r s → r.reply ≡ true
+    → CausedInTurn r.header r.outside r.command (completed r.host r.object r.known.control r.page r.count) (s.events ++ r.past)
+completed_cause r s t all wanted =
+    let o = all.obeyed in
+    let m = mid_all r s all in
+    record {
+      live = m.controls.live r.object.0 ∙ (ap live_in o.found ∙ ap (λ b. if b then Some r.known.control else None) t.live);
+      returns = r.returns;
+      flush = r.flush;
+      lock = r.lock;
+      taken = o.taken ∙ ap (λ b. Some (record (request_at r) { reply = b })) wanted;
+      once = o.undone;
+      done = λ p least below here.
+          let row = row_seen r.header r.object.0 p s.parts.frames (row_at s.parts.resident r.object.0 p) (absent_at s.parts.objects r.object.0 p)
+          (page_on r.header r.host r.object.0 p (s.events ++ r.past)) (m.pages.shown r.object.0 p) here in
+          let left = o.left p row.row (record { least = least; below = let end = all.end in omega (arith, end, below); inside = below }) row.is row.here in
+          (left.0, gives_seen r.returns _ _ row ∙ left.1);
+    }
+
+done_told : (r : Request) (s : LockState) → IsTaken r → AllObeyed r s → r.reply ≡ true
+    → Done r (record s { events = completed r.host r.object r.known.control r.page r.count ∷ s.events })
+done_told r s t all wanted =
+    let o = all.obeyed in
+    let e = completed r.host r.object r.known.control r.page r.count in
+    let moment = s.events ++ r.past in
+    let rests = completed_rests r (at_state r.kernel s) moment (mid_all r s all) in
+    let follows : Follows r.header r.host r.outside r.command e moment =
+    record {
+      consequence = tt;
+      cause = completed_cause r s t all wanted;
+      own_bytes = tt;
+      frames = suffices r.header r.host s.parts.frames (e ∷ moment) rests.frames;
+      inner = tt;
+      said = refl;
+      own = own_named r.host;
+      creates = tt;
+    } in
+    let goes = goes_more r.header r.host r.outside r.command r.past [] s.events e o.goes o.rests.settled follows in
+    let sent = since_now (completes r.host r.object.0) e moment tt (rw (itself r.host, itself r.object.0) refl) in
+    record {
+      works = works_mid rests
+          (record {
+            at = λ request is own.
+                let its : request_at r ≡ request = some_is (request_at r) request (sym (lock_one e moment tt ∙ o.taken) ∙ is) in
+                subst (λ (z : LockRequest). since (completes z.host z.object) (e ∷ moment) ≡ true) its sent;
+          });
+      goes = goes;
+      plays = Then e s.events (paging (at_state r.kernel s)) (paging (at_state r.kernel s)) (plays_all r s all) refl;
+      quiet = (tt, o.quiet);
+      paid = record {
+        pages =
+            pages_paid r s (e ∷ moment) t (before_more (e ∷ s.events) r.past (inner_of goes))
+            (λ p row least below found here. given_still r p row e moment tt (given_all r s all p row least below found here));
+        reply = λ is. sent;
+      };
+    }
+
+pub replied : (r : Request) (old new : LockState) → IsTaken r → AllObeyed r old → Replies (host_id r.host) r.object r.known.control (wanted_at r) old new
+    → Done r new
+replied r old new t all (Silent silent same) = subst (Done r) (sym same) (done_silent r old t all silent)
+replied r old new t all (IsTold wanted same) = subst (Done r) (sym same) (done_told r old t all wanted)
+
+-- from the start of the call
+pub done : (r : Request) (mid new : LockState) → IsTaken r
+    → PagesObey (host_id r.host) r.object r.known.control (wanted_at r) r.page.0 (lock_state r.kernel.memory r.kernel.laundry.held r.kernel.laundry.room []) mid
+    → Replies (host_id r.host) r.object r.known.control (wanted_at r) mid new → Done r new
+done r mid new t pages reply =
+    replied r mid new t (pages_obey r r.page.0 (lock_state r.kernel.memory r.kernel.laundry.held r.kernel.laundry.room []) mid t (obeyed_first r t) pages) reply

@@ -1,0 +1,875 @@
+-- A message of a pager is taken: what the kernel stands for behind it.
+use Rattle.vm_kernel.proofs.Common.{Access, AllReferred, ArePlain, Backing, Bool, Cancels, ChainTable, Changes, Command, Elsewhere, EndsNobody, Event, FailsNow}
+use Rattle.vm_kernel.proofs.Common.{FailsPage, FillsPage, Fit, FrameTable, HasAsker, HasControls, HasFrames, HasHomes, HasKinds, HasLaundry, HasOrder, HasPages}
+use Rattle.vm_kernel.proofs.Common.{HasRegions, HasTasks, HasUse, HasWaiters, Header, HostId, HostParts, Ids, IsAnswered, IsOfKind, IsPagerTold, IsReferred}
+use Rattle.vm_kernel.proofs.Common.{IsSettled, Lacks, List, Local, LocalEffect, Mapped, Message, None, ObjectId, ObjectRow, ObjectTable, On, Option, Outside}
+use Rattle.vm_kernel.proofs.Common.{PageNo, PageRow, Parts, PutsObject, PutsRow, Readies, Reason, Region, ResidentTable, Rests, SameMarks, SameObjects, Some}
+use Rattle.vm_kernel.proofs.Common.{Supplies, TakesError, TakesNothing, TakesPage, Waiting, Want, Woken, Works, Zeroes, [], absent_at, added, ap, arith}
+use Rattle.vm_kernel.proofs.Common.{asked_is, asked_row, away, backing_of, clean_row, count_released, entries_of, eqb_tells, false, frames_held, frames_wired}
+use Rattle.vm_kernel.proofs.Common.{holds, home_of, host_id, host_of, if◌then◌else◌, in_use, inl, inr, is_control, is_on, is_ready, is_some, is_woken, key_of}
+use Rattle.vm_kernel.proofs.Common.{last_control, last_in, live_control, live_in, local, local_after, local_of_row, lock_numbered, marked_regions, named}
+use Rattle.vm_kernel.proofs.Common.{nat_lt, nat_tests, next_object, next_page, next_region, not, object_at, object_home, one_case, page_in, page_key, place_of}
+use Rattle.vm_kernel.proofs.Common.{ready_in, refl, region_of, replicate, returns_out, reverse, row_at, row_cases, slice_get, some_is, subst, sym, true}
+use Rattle.vm_kernel.proofs.Common.{unlocked, waiting, ℕ, ◌&&◌, ◌+◌, ◌-◌, ◌<◌, ◌==◌, ◌^◌, ◌∙◌, ◌∷◌, ◌≡◌, ◌≤◌, ◌⊎◌}
+use Rattle.vm_model.specs.declared.message.Message.TheVariants as message
+use Rattle.vm_objects.specs.declared.row.PagerState.TheVariants as state
+use Rattle.vm_supply.specs.declared.woken.Woken.TheVariants as woken
+use Rattle.vm_waits.specs.declared.waiting.On.TheVariants as on
+use Rattle.vm_kernel.proofs.space.NothingChanged.{Leaves, controls_after, controls_stay, homeless_after, regions_after}
+use Rattle.vm_kernel.proofs.controls.AnswerEffects.{IsLeft, IsNothing, asked_shows, hears, left_failed, left_lacked, lives, on_page, same_effect}
+use Rattle.vm_kernel.proofs.memory.PartsStillFit.{plain_changed}
+use Rattle.vm_kernel.proofs.memory.PagesShown.{bytes_now, effect_on, frames_changed, laundry_changed, pages_changed, pages_marked, pages_moved}
+use Rattle.vm_kernel.proofs.abroad.OwnHost.{own_host}
+use Rattle.vm_parts.specs.Fits.{object_pages, pages_of_row}
+use Rattle.vm_state.proofs.Changing.{regions_controlled}
+use Rattle.vm_state.proofs.Referred.{referred_controlled, referred_gone, referred_row}
+use Rattle.std.proofs.lemmas.Bool.{and_from}
+use Rattle.vm_kernel.proofs.steps.EventsGrow.{Follows, suffices}
+use Rattle.vm_kernel.proofs.memory.WhatIsKnown.{known_at, known_on, nothing_known}
+use Rattle.vm_kernel.proofs.abroad.OwnEvents.{own_named}
+use Rattle.vm_kernel.proofs.controls.LockReplied.{replied_behind, replied_none}
+use Rattle.vm_kernel.specs.Matches.{IsReplied}
+use Rattle.vm_legal.specs.Licences.{Fills, lock_taken}
+use Rattle.vm_parts.specs.Locks.{lock_numbered, lock_of-prohibits}
+use Rattle.vm_state.proofs.Waiting.{IsAwaitedBy, IsUnawaited, awaited_apart, awaited_elsewhere, away_awaited, here_unawaited, none_unawaited}
+use Rattle.vm_state.specs.Waiters.{is_awaited}
+use Rattle.vm_model.specs.declared.event.Event.TheVariants as event
+use Rattle.vm_state.proofs.Declared.{kinds_marked, kinds_put, kinds_same}
+use Rattle.vm_state.proofs.Files.{files_put, files_same}
+use Rattle.vm_state.specs.Places.{known_local}
+use Rattle.vm_state.specs.Stands.{KnowsFiles}
+use Rattle.vm_supply.specs.Answers as supply
+use Rattle.vm_legal.specs.Living.{tasks as made_tasks}
+use Rattle.vm_abroad.proofs.Home.{object_stays}
+use Rattle.vm_state.proofs.Filling.{KeepsAway, away_put, used_away, used_told}
+use Rattle.vm_state.specs.References.{MayLock, is_live_in}
+use Rattle.vm_state.specs.Passed.{IsUnmet, StaysAway}
+use Rattle.vm_base.specs.declared.ids.PageKey.{PageKey}
+use Rattle.vm_kernel.proofs.memory.PlacesPassed.{quiet_place, waits_come, waits_retold}
+use Rattle.vm_state.proofs.Bypassing.{waits_taken}
+use Rattle.vm_state.proofs.Passing.{same_of}
+use Rattle.vm_state.specs.Pagers.{is_ready_state}
+
+-- who waits, where rows of pages and objects are others
+
+waits_heard : {stays unmet : PageKey → Type 0} (maps : Mapped) (cs : ChainTable) (rs rs2 : ResidentTable) (os os2 : ObjectTable) (rows : List Waiting)
+    (who : Woken) (waiting_at : ℕ → Option Access)
+    → HasWaiters maps cs rs os rows (is_woken woken.Nobody) waiting_at stays unmet
+    → ((what : Want) (o p : ℕ) → is_woken who (on.Page (page_key o p)) ≡ false → IsAwaitedBy rs what o p → IsAwaitedBy rs2 what o p)
+    → ((object : ObjectId) → is_woken who (on.Ready object) ≡ false → IsPagerTold os object.0 → IsPagerTold os2 object.0)
+    → ((o p : ℕ) (row : PageRow) → row_at rs2 o p ≡ Some row → is_awaited row ≡ true → row_at rs o p ≡ Some row)
+    → ((o : ℕ) → ready_in (object_at os o) ≡ true → ready_in (object_at os2 o) ≡ true)
+    → HasWaiters maps cs rs2 os2 rows (is_woken who) waiting_at stays unmet
+waits_heard maps cs rs rs2 os os2 rows who waiting_at has asked told were ready =
+    record {
+      is = has.is;
+      allowed = has.allowed;
+      sized = has.sized;
+      reasons = λ t w is still. by_reason t w.want w.on still (has.reasons t w is refl);
+      passed = λ t w is still. has.passed t w is refl;
+      aims = has.aims;
+      askers = λ o p row found awaits. has.askers o p row (were o p row found awaits) awaits;
+      ready = λ o p row found away_now. ready o (has.ready o p row (were o p row found (away_awaited row away_now)) away_now);
+    }
+  where
+    by_reason : (t : ℕ) (what : Want) (reason : On) → is_woken who reason ≡ false → Reason maps cs rs os t what reason → Reason maps cs rs2 os2 t what reason
+    by_reason t what on.Again still why = tt
+    by_reason t what (on.Ready object) still why = (why.0, why.1, why.2, told object still why.3)
+    by_reason t what (on.Page key) still why = (why.0, asked what key.object.0 key.page.0 still why.1)
+    by_reason t what on.Frame still why = tt
+
+-- a pager that is ready was told before
+told_unready : (os : ObjectTable) (o : ℕ) → IsPagerTold os o → ready_in (object_at os o) ≡ true → ⊥
+told_unready os o told ready = let bad : false ≡ true = sym (ap ready_in told.found ∙ ap is_ready_state told.sent) ∙ ready in cc
+
+-- zeros come to a page of a declared object, whose pager is ready
+waits_blank : {maps : Mapped} {rs : ResidentTable} {rows : List Waiting} {who : On → Bool} {at : ℕ → Option Access} (header : Header) (h : ℕ)
+    (chains : ChainTable) (os : ObjectTable) (past : List Event) (object : ObjectId) (page : PageNo) → object.0 < named header → (IsPagerTold os object.0 → ⊥)
+    → HasWaiters maps chains rs os rows who at (StaysAway header h past) (IsUnmet header h past)
+    → HasWaiters maps chains rs os rows who at (StaysAway header h (event.Zeroed (host_id h) object page ∷ past))
+    (IsUnmet header h (event.Zeroed (host_id h) object page ∷ past))
+waits_blank header h chains os past object page declared ready has =
+    waits_come header h (event.Zeroed (host_id h) object page) past (key_of object page)
+    (λ key apart. quiet_place (h == h) (object.0 == key.object.0) (page.0 == key.page.0) Zeroes
+    (λ o p. apart (same_of object.0 key.object.0 o) (same_of page.0 key.page.0 p)))
+    (λ t what why reason to stop n place leads only. let least = leads.0.0 in omega (arith, least, declared))
+    (λ t what other told its place unmet. ready (subst (λ (z : ObjectId). IsPagerTold os z.0) (sym its) told))
+    (λ past2 only. only) has
+
+-- the kernel behind the message
+abbrev pub heard : Parts → HostParts → Parts
+heard k new = record k { memory = new }
+
+-- what holds of the parts that may have changed, behind the message and what it brought
+pub record Changed (header : Header) (h : ℕ) (k : Parts) (ids : Ids) (who : Woken) (new : HostParts) (past now : List Event) : Type 0 where
+  pub plain : ArePlain new.resident
+  pub away : KeepsAway k.memory.resident new.resident
+  pub regions : HasRegions k.chains new.objects ids (λ r. region_of header r past) (λ o. backing_of header o past) (next_region header past)
+      (next_object header past) (marked_regions header past)
+  pub kinds : HasKinds header new.objects k.chains
+  pub files : KnowsFiles header h new.objects (λ o. home_of o past)
+  pub pages : HasPages new.frames new.resident new.objects (λ o p. known_local header o p (local header.size h (place_of o p) now))
+  pub controls : HasControls (named header) h new.objects (λ o. last_control h o past) (λ o. live_control h o past) (λ o. is_ready h o now)
+      (λ o. object_home o past)
+  pub laundry : HasLaundry new.frames new.resident k.laundry (returns_out h past)
+  pub frames : HasFrames (slice_get (reverse header.frames.items) h) new.frames (frames_held header.size h now) (frames_wired h past)
+  pub referred : AllReferred k.chains new.objects new.resident
+  pub waits : HasWaiters k.maps k.chains new.resident new.objects k.waits.rows (is_woken who) (λ t. waiting t past) (StaysAway header h now)
+      (IsUnmet header h now)
+  pub fails : FailsNow header h who now
+  pub fresh : EndsNobody who now
+  pub asker : HasAsker who k.waits.rows
+  pub answered : IsAnswered who new.resident
+
+-- a page of zeros comes
+abbrev pub zeros : ℕ → ObjectId → PageNo → Event
+zeros h object page = event.Zeroed (host_id h) object page
+
+-- what stays, of the parts that no message changes
+pub record Stays (header : Header) (h : ℕ) (k : Parts) (past now : List Event) : Type 0 where
+  pub leaves : Leaves header past now
+  pub next : (task : ℕ) → next_page task now ≡ next_page task past
+  pub tasks : HasTasks h header.size k.maps (λ task. host_of task now) (λ task. entries_of header.size task now)
+  pub uses : HasUse header k.maps k.waits.rows (λ r. in_use header h r now) (made_tasks now) (λ task r. holds header.size task r now) (next_region header now)
+  pub waits : (t : ℕ) → waiting t now ≡ waiting t past
+  pub controls : {os : ObjectTable} → HasControls (named header) h os (λ o. last_control h o past) (λ o. live_control h o past) (λ o. is_ready h o now)
+      (λ o. object_home o past)
+      → HasControls (named header) h os (λ o. last_control h o now) (λ o. live_control h o now) (λ o. is_ready h o now) (λ o. object_home o now)
+  pub homes : HasHomes header h k.chains (λ r. home_of r now)
+  pub order : HasOrder k now
+  pub settled : IsSettled now
+  pub replied : IsReplied now
+  pub returned : returns_out h now ≡ returns_out h past
+  pub wired : frames_wired h now ≡ frames_wired h past
+
+pub stays_heard : (header : Header) (h : ℕ) (k : Parts) (ids : Ids) (past : List Event) (object : ObjectId) (control : ℕ) (m : Message)
+    → Rests header h k ids past → lock_taken (hears h object control m ∷ past) ≡ None → Stays header h k past (hears h object control m ∷ past)
+stays_heard header h k ids past object control m rests none =
+    let was = rests.matches in
+    let leaves : Leaves header past (hears h object control m ∷ past) = record {
+      regions_made = refl;
+      objects_made = refl;
+      region = λ r. refl;
+      backing = λ o. refl;
+      home = λ r. refl;
+      made_for = λ o. refl;
+      used = λ g r. refl;
+      target = λ task. refl;
+    } in
+    record {
+      leaves = leaves;
+      next = λ task. refl;
+      tasks = was.tasks;
+      uses = was.uses;
+      waits = λ t. refl;
+      controls = λ has. controls_after leaves has;
+      homes = was.homes;
+      order = rests.order;
+      settled = record { none_owed = refl; shut = λ region. refl };
+      replied = replied_none none;
+      returned = refl;
+      wired = refl;
+    }
+
+-- and behind zeros
+pub stays_zeroed : (header : Header) (h : ℕ) (k : Parts) (past now : List Event) (object : ObjectId) (page : PageNo) → Stays header h k past now
+    → Stays header h k past (zeros h object page ∷ now)
+stays_zeroed header h k past now object page stays =
+    let was = stays.leaves in
+    record {
+      leaves =
+          record {
+            regions_made = was.regions_made;
+            objects_made = was.objects_made;
+            region = was.region;
+            backing = was.backing;
+            home = was.home;
+            made_for = was.made_for;
+            used = was.used;
+            target = was.target;
+          };
+      next = stays.next;
+      tasks = stays.tasks;
+      uses = stays.uses;
+      waits = stays.waits;
+      controls = λ has. controls_stay (λ o is. object_stays o h (zeros h object page) now is) (stays.controls has);
+      homes = stays.homes;
+      order = stays.order;
+      settled = record { none_owed = refl; shut = λ region. refl };
+      replied = replied_behind tt stays.replied;
+      returned = stays.returned;
+      wired = stays.wired;
+    }
+
+pub works_of : (header : Header) (h : ℕ) (k : Parts) (ids : Ids) (who : Woken) (new : HostParts) (past now : List Event) → Rests header h k ids past
+    → Stays header h k past now → Fit new → new.buffers ≡ k.memory.buffers → Changed header h k ids who new past now
+    → Works header h (heard k new) ids who now
+works_of header h k ids who new past now rests stays fit same c =
+    let was = rests.matches in
+    record {
+      matches =
+          record {
+            ranged = was.ranged;
+            declared = was.declared;
+            kinds = c.kinds;
+            shared = was.shared;
+            known = was.known;
+            size = was.size;
+            host = was.host;
+            fits = record { parts = fit; plain = c.plain; buffers = ap (λ z. z.size) same ∙ was.fits.buffers };
+            tasks = stays.tasks;
+            regions = regions_after stays.leaves c.regions;
+            entries = was.entries;
+            pages = c.pages;
+            uses = stays.uses;
+            controls = stays.controls c.controls;
+            homeless = homeless_after stays.leaves was.homeless;
+            homes = stays.homes;
+            files = λ o file. ap (is_on h) (stays.leaves.home o) ∙ c.files o file;
+            settled = stays.settled;
+            replied = stays.replied;
+            laundry = subst (λ (z : ℕ). HasLaundry new.frames new.resident k.laundry z) (sym stays.returned) c.laundry;
+            frames =
+                subst (λ (z : ℕ). HasFrames (slice_get (reverse header.frames.items) h) new.frames (frames_held header.size h now) z) (sym stays.wired)
+                c.frames;
+          };
+      used = used_away k.memory.resident new.resident (used_told rests.used (λ t w found. (stays.next t, stays.leaves.target t))) c.away;
+      referred = c.referred;
+      order = stays.order;
+      waits = waits_retold stays.waits c.waits;
+    }
+
+-- the message changes nothing
+
+same_referred : (os os2 : ObjectTable) → SameObjects os os2 → (o : ℕ) → IsReferred os2 o → IsReferred os o
+same_referred os os2 same o is = record { row = is.row; known = sym (same.at o) ∙ is.known; some = is.some }
+
+pub regions_of : (cs : ChainTable) (os os2 : ObjectTable) (ids : Ids) (region_from : ℕ → Region) (backing_from : ℕ → Backing)
+    (regions_made objects_made marked : ℕ)
+    → HasRegions cs os ids region_from backing_from regions_made objects_made marked → SameObjects os os2
+    → HasRegions cs os2 ids region_from backing_from regions_made objects_made marked
+regions_of cs os os2 ids region_from backing_from regions_made objects_made marked has same =
+    record {
+      region = has.region;
+      object = has.object;
+      marks = has.marks;
+      few = has.few;
+      rows = has.rows;
+      shadows = has.shadows;
+      bottoms = λ o referred none. has.bottoms o (same_referred os os2 same o referred) none;
+      unmade = has.unmade;
+      unknown = λ o above. same.at o ∙ has.unknown o above;
+      tops = λ r row found. ap is_some (same.at row.top.0) ∙ has.tops r row found;
+      unders = λ o row found. let under = has.unders o row found in (ap is_some (same.at o) ∙ under.0, ap is_some (same.at row.under.0) ∙ under.1);
+      older = has.older;
+      fits = record {
+        tops = λ r row found. subst (λ (z : ℕ). row.shift + row.pages ≤ z) (sym (pages_are row.top.0)) (has.fits.tops r row found);
+        unders =
+            λ o row found. subst (λ (z : ℕ). row.shift + z ≤ object_pages os2 row.under.0) (sym (pages_are o))
+            (subst (λ (z : ℕ). row.shift + object_pages os o ≤ z) (sym (pages_are row.under.0)) (has.fits.unders o row found));
+      };
+      counts = λ o known found. has.counts o known (sym (same.at o) ∙ found);
+    }
+  where
+    pages_are : (o : ℕ) → object_pages os2 o ≡ object_pages os o
+    pages_are o = ap pages_of_row (same.at o)
+
+controls_of : {d h : ℕ} {home_at : ℕ → Option ℕ} (os os2 : ObjectTable) (last_at : ℕ → ℕ) (live_at : ℕ → Option ℕ) (ready_at ready_at2 : ℕ → Bool)
+    → HasControls d h os last_at live_at ready_at home_at → SameObjects os os2
+    → ((o live : ℕ) → live_at o ≡ Some live → ready_at2 o ≡ ready_at o) → HasControls d h os2 last_at live_at ready_at2 home_at
+controls_of os os2 last_at live_at ready_at ready_at2 has same ready =
+    record {
+      last = λ o. has.last o ∙ ap last_in (sym (same.at o));
+      live = λ o. has.live o ∙ ap live_in (sym (same.at o));
+      ready = λ o control is. ready o control is ∙ (has.ready o control is ∙ ap ready_in (sym (same.at o)));
+      all_live = record { at = λ o row found told. has.all_live.at o row (sym (same.at o) ∙ found) told };
+      numbers = record { at = λ o row found. has.numbers.at o row (sym (same.at o) ∙ found) };
+      ended = λ o row found live. has.ended o row (sym (same.at o) ∙ found) live;
+      home = λ o row least found. has.home o row least (sym (same.at o) ∙ found);
+    }
+
+pub may_lock : (os os2 : ObjectTable) (o : ℕ) (row : PageRow) → SameObjects os os2 → MayLock os o row → MayLock os2 o row
+may_lock os os2 o row same may = elim may [ inl open_now ↦ inl open_now | inr lives ↦ inr (ap is_live_in (same.at o) ∙ lives) ]
+
+-- the control that is named lives
+pub live_is : (control : ℕ) (known : Option ObjectRow) → is_control control (live_in known) ≡ true → is_live_in known ≡ true
+live_is control None is = absurd (let bad : false ≡ true = is in cc)
+live_is control (Some row) is = by row.live is
+  where
+    by : (b : Bool) → is_control control (if b then Some row.control else None) ≡ true → b ≡ true
+    by true is = refl
+    by false is = absurd (let bad : false ≡ true = is in cc)
+
+referred_of : (cs : ChainTable) (os os2 : ObjectTable) (rs : ResidentTable) → AllReferred cs os rs → SameObjects os os2 → AllReferred cs os2 rs
+referred_of cs os os2 rs referred same =
+    record {
+      live = λ o row found live. referred.live o row (sym (same.at o) ∙ found) live;
+      pages = λ o p row found. still o (referred.pages o p row found);
+      locks = λ o p row found. may_lock os os2 o row same (referred.locks o p row found);
+      shadows = λ o row found. still o (referred.shadows o row found);
+    }
+  where
+    still : (o : ℕ) → IsReferred os o → IsReferred os2 o
+    still o is = record { row = is.row; known = same.at o ∙ is.known; some = is.some }
+
+told_of : (os os2 : ObjectTable) (o : ℕ) → SameObjects os os2 → IsPagerTold os o → IsPagerTold os2 o
+told_of os os2 o same told = record { row = told.row; found = same.at o ∙ told.found; sent = told.sent }
+
+itself : (os : ObjectTable) → SameObjects os os
+itself os = record { at = λ o. refl }
+
+pub pages_eq : (fs : FrameTable) (rs : ResidentTable) (os : ObjectTable) (local_at local_at2 : ℕ → ℕ → Local) → HasPages fs rs os local_at
+    → ((o p : ℕ) → local_at2 o p ≡ local_at o p) → HasPages fs rs os local_at2
+pages_eq fs rs os local_at local_at2 has same = record { shown = λ o p. same o p ∙ has.shown o p }
+
+pub changed_none : (header : Header) (h : ℕ) (k : Parts) (ids : Ids) (past : List Event) (object : ObjectId) (control : ℕ) (m : Message)
+    → Rests header h k ids past → IsNothing header h object control m past
+    → Changed header h k ids woken.Nobody k.memory past (hears h object control m ∷ past)
+changed_none header h k ids past object control m rests nothing =
+    let was = rests.matches in
+    record {
+      plain = was.fits.plain;
+      away = λ o p none. none;
+      regions = was.regions;
+      kinds = was.kinds;
+      files = was.files;
+      pages =
+          pages_eq k.memory.frames k.memory.resident k.memory.objects (λ o p. known_local header o p (local header.size h (place_of o p) past))
+          (λ o p. known_local header o p (local header.size h (place_of o p) (hears h object control m ∷ past)))
+          was.pages (λ o p. ap (known_local header o p) (nothing.pages o p));
+      controls =
+          controls_of k.memory.objects k.memory.objects (λ o. last_control h o past) (λ o. live_control h o past) (λ o. is_ready h o past)
+          (λ o. is_ready h o (hears h object control m ∷ past)) was.controls (itself k.memory.objects) nothing.ready;
+      laundry = was.laundry;
+      frames = subst (λ (z : ℕ). HasFrames (slice_get (reverse header.frames.items) h) k.memory.frames z (frames_wired h past)) (sym nothing.held) was.frames;
+      referred = rests.referred;
+      waits = waits_taken header h (host_id h) object control m past rests.waits;
+      fails = nothing.error;
+      fresh = tt;
+      asker = tt;
+      answered = record { at = λ o p row found away_now. refl };
+    }
+
+-- the pager is ready now
+
+kind_ready : (header : Header) (o : ℕ) (known : ObjectRow) → IsOfKind header o known → known.live ≡ true
+    → IsOfKind header o (record known { state = state.Ready })
+kind_ready header o known was live =
+    record {
+      lives = live;
+      temporary =
+          λ least. let its = was.temporary least in record {
+            kind = its.kind;
+            number = λ some. its.number some
+                ∙ ap (λ b. if b then 1 else 0) (sym was.lives ∙ live);
+          };
+      declared = λ less. let its = was.declared less in record { kind = its.kind; pages = its.pages; told = λ some. live };
+    }
+
+controls_ready : {d h : ℕ} {home_at : ℕ → Option ℕ} (os os2 : ObjectTable) (last_at : ℕ → ℕ) (live_at : ℕ → Option ℕ) (ready_at : ℕ → Bool) (o control : ℕ)
+    (known : ObjectRow) → HasControls d h os last_at live_at ready_at home_at
+    → object_at os o ≡ Some known → known.live ≡ true → is_control control (live_at o) ≡ true
+    → PutsObject o (Some (record known { state = state.Ready })) os os2
+    → HasControls d h os2 last_at live_at (λ o2. if o == o2 && is_control control (live_at o2) then true else ready_at o2) home_at
+controls_ready {d = d} {h = h} {home_at = home_at} os os2 last_at live_at ready_at o control known has found live lives put =
+    record {
+      last = λ o2. elim (cases o2) [
+        | inl same ↦ has.last o2 ∙ (ap last_in (sym (ap (object_at os) same.0) ∙ found) ∙ sym (ap last_in same.1))
+        | inr other ↦ has.last o2 ∙ sym (ap last_in other.1)
+      ];
+      live = λ o2. elim (cases o2) [
+        | inl same ↦ has.live o2 ∙ (ap live_in (sym (ap (object_at os) same.0) ∙ found) ∙ sym (ap live_in same.1))
+        | inr other ↦ has.live o2 ∙ sym (ap live_in other.1)
+      ];
+      ready = λ o2 number is. elim (eqb_tells o o2) [
+        | inl same ↦ elim (cases o2) [
+          | inl now ↦ rw (same.0, subst (λ (z : ℕ). is_control control (live_at z) ≡ true) same.1 lives) (sym (ap ready_in now.1))
+          | inr other ↦ absurd (other.0 same.1)
+        ]
+        | inr apart ↦ elim (cases o2) [
+          | inl now ↦ absurd (apart.1 now.0)
+          | inr other ↦ rw apart.0 (has.ready o2 number is ∙ sym (ap ready_in other.1))
+        ]
+      ];
+      all_live = record {
+        at = λ o2 row is told. elim (cases o2) [
+          | inl now ↦ ap (λ z. z.live) (sym (some_is ready row (sym now.1 ∙ is))) ∙ live
+          | inr other ↦ has.all_live.at o2 row (sym other.1 ∙ is) told
+        ];
+      };
+      numbers = record {
+        at = λ o2 row is. elim (cases o2) [
+          | inl now ↦ subst (λ (z : ObjectRow). z.control < 2 ^ 32 - 1) (some_is ready row (sym now.1 ∙ is)) (has.numbers.at o known found)
+          | inr other ↦ has.numbers.at o2 row (sym other.1 ∙ is)
+        ];
+      };
+      ended = λ o2 row is lives_on. elim (cases o2) [
+        | inl now ↦ λ none. absurd (let bad : state.Ready ≡ state.Without = ap (λ z. z.state) (some_is ready row (sym now.1 ∙ is)) ∙ none in cc)
+        | inr other ↦ has.ended o2 row (sym other.1 ∙ is) lives_on
+      ];
+      home = λ o2 row least is. elim (cases o2) [
+        | inl now ↦ subst (λ (z : ℕ). home_at z ≡ Some h) now.0 (has.home o known (subst (λ (z : ℕ). d ≤ z) (sym now.0) least) found)
+        | inr other ↦ has.home o2 row least (sym other.1 ∙ is)
+      ];
+    }
+  where
+    ready : ObjectRow
+    ready = record known { state = state.Ready }
+
+    cases : (o2 : ℕ) → ((o ≡ o2) × (object_at os2 o2 ≡ Some ready)) ⊎ ((o ≡ o2 → ⊥) × (object_at os2 o2 ≡ object_at os o2))
+    cases o2 = one_case o o2 (Some ready) (object_at os o2) (object_at os2 o2) (put.at o2)
+
+told_ready : (os os2 : ObjectTable) (o : ℕ) (known : ObjectRow) (object : ObjectId) → PutsObject o (Some (record known { state = state.Ready })) os os2
+    → (object.0 == o) ≡ false → IsPagerTold os object.0 → IsPagerTold os2 object.0
+told_ready os os2 o known object put apart told =
+    record {
+      row = told.row;
+      found = elim (one_case o object.0 (Some (record known { state = state.Ready })) (object_at os object.0) (object_at os2 object.0) (put.at object.0)) [
+        | inl now ↦ absurd (elim (eqb_tells object.0 o) [ inl same ↦ let bad : true ≡ false = sym same.0 ∙ apart in cc | inr other ↦ other.1 (sym now.0) ])
+        | inr other ↦ other.1 ∙ told.found
+      ];
+      sent = told.sent;
+    }
+
+ready_ready : (os os2 : ObjectTable) (o : ℕ) (known : ObjectRow) (o2 : ℕ) → PutsObject o (Some (record known { state = state.Ready })) os os2
+    → ready_in (object_at os o2) ≡ true → ready_in (object_at os2 o2) ≡ true
+ready_ready os os2 o known o2 put is =
+    elim (one_case o o2 (Some (record known { state = state.Ready })) (object_at os o2) (object_at os2 o2) (put.at o2))
+    [ inl now ↦ ap ready_in now.1 | inr other ↦ ap ready_in other.1 ∙ is ]
+
+pub changed_ready : (header : Header) (h : ℕ) (k : Parts) (ids : Ids) (events after past : List Event) (object : ObjectId) (control : ℕ) (cache : Bool)
+    (strategy : ℕ) (who : Woken) (new : HostParts)
+    → Rests header h k ids past → (readies : Readies object who k.memory new events after) → readies.known.live ≡ true → lives h object control past ≡ true
+    → Changed header h k ids who new past (hears h object control (message.Ready cache strategy) ∷ past)
+changed_ready header h k ids events after past object control cache strategy who new rests readies live lives_now =
+    let was = rests.matches in
+    let known = readies.known in
+    subst (λ (z : Woken). Changed header h k ids z new past (hears h object control (message.Ready cache strategy) ∷ past)) (sym readies.woken)
+    (subst (λ (z : HostParts). Changed header h k ids (woken.ReadyOf object) z past (hears h object control (message.Ready cache strategy) ∷ past))
+    (sym readies.rest)
+    (record {
+      plain = was.fits.plain;
+      away = λ o p none. none;
+      regions =
+          regions_controlled object.0 known (record known { state = state.Ready }) k.chains k.memory.objects new.objects ids (λ r. region_of header r past)
+          (λ o. backing_of header o past) (next_region header past) (next_object header past) (marked_regions header past)
+          readies.found readies.ready refl refl was.regions;
+      kinds =
+          kinds_put header object.0 (record known { state = state.Ready }) k.memory.objects new.objects k.chains readies.ready readies.marks
+          (kind_ready header object.0 known (was.kinds.kinds object.0 known readies.found) live) was.kinds;
+      files =
+          files_put header h object.0 known (record known { state = state.Ready }) k.memory.objects new.objects (λ o. home_of o past) readies.found
+          readies.ready was.files;
+      pages =
+          pages_marked k.memory.frames k.memory.resident k.memory.objects new.objects
+          (λ o p. known_local header o p (local header.size h (place_of o p) (hears h object control (message.Ready cache strategy) ∷ past)))
+          (pages_eq k.memory.frames k.memory.resident k.memory.objects (λ o p. known_local header o p (local header.size h (place_of o p) past))
+          (λ o p. known_local header o p (local header.size h (place_of o p) (hears h object control (message.Ready cache strategy) ∷ past))) was.pages
+          (λ o p. ap (known_local header o p) (rw (own_host h) (same_effect header.size (object.0 == o && is_control control (live_control h o past))
+          (local header.size h (place_of o p) past)))))
+          readies.marks;
+      controls =
+          rw (own_host h) (controls_ready k.memory.objects new.objects (λ o. last_control h o past) (λ o. live_control h o past) (λ o. is_ready h o past)
+          object.0 control known was.controls readies.found live lives_now readies.ready);
+      laundry = was.laundry;
+      frames = was.frames;
+      referred =
+          referred_controlled object.0 known (record known { state = state.Ready }) k.chains k.memory.objects new.objects k.memory.resident readies.found
+          readies.ready refl (λ lives. rests.referred.live object.0 known readies.found live) (λ is. is) rests.referred;
+      waits = waits_taken header h (host_id h) object control (message.Ready cache strategy) past
+          (waits_heard k.maps k.chains k.memory.resident k.memory.resident k.memory.objects new.objects k.waits.rows (woken.ReadyOf object)
+          (λ t. waiting t past) rests.waits
+          (λ what o p still awaits. awaits)
+          (λ other still told. told_ready k.memory.objects new.objects object.0 known other readies.ready still told)
+          (λ o p row found away_now. found)
+          (λ o is. ready_ready k.memory.objects new.objects object.0 known o readies.ready is));
+      fails = refl;
+      fresh = tt;
+      asker = tt;
+      answered = record { at = λ o p row found away_now. refl };
+    }))
+
+-- a page that is asked
+
+same_marks : (os os2 : ObjectTable) → os2 ≡ os → SameMarks os os2
+same_marks os os2 same = record { at = λ o p. ap (λ z. absent_at z o p) same }
+
+asks_now : (header : Header) (h : ℕ) (k : Parts) (past : List Event) (o p : ℕ) (was : PageRow)
+    → HasPages k.memory.frames k.memory.resident k.memory.objects (λ o2 p2. known_local header o2 p2 (local header.size h (place_of o2 p2) past))
+    → row_at k.memory.resident o p ≡ Some was → was.here ≡ false → (local header.size h (place_of o p) past).asked ≡ true
+asks_now header h k past o p was has found away_now =
+    ap (λ z. z.asked) (has.shown o p) ∙ (ap (λ z. (local_of_row k.memory.frames z (absent_at k.memory.objects o p)).asked) found ∙ ap not away_now)
+
+-- the page is another
+
+apart_of : (a b c d : ℕ) → (a == c && b == d) ≡ false → c ≡ a → d ≡ b → ⊥
+apart_of a b c d apart same also = elim (eqb_tells a c) [
+  | inl one ↦ elim (eqb_tells b d) [
+    | inl two ↦ let bad : true ≡ false = rw (one.0, two.0) at apart in cc
+    | inr other ↦ other.1 (sym also)
+  ]
+  | inr other ↦ other.1 (sym same)
+]
+
+test_of : (a b c d : ℕ) → (c ≡ a → d ≡ b → ⊥) → (a == c && b == d) ≡ false
+test_of a b c d apart = elim (eqb_tells a c) [
+  | inl one ↦ elim (eqb_tells b d) [
+    | inl two ↦ absurd (apart (sym one.1) (sym two.1))
+    | inr other ↦ rw (one.0, other.0) refl
+  ]
+  | inr other ↦ rw other.0 refl
+]
+
+awaited_other : (rs rs2 : ResidentTable) (what : Want) (o p o2 p2 : ℕ) (x : Option PageRow) → PutsRow o p x rs rs2 → (o2 == o && p2 == p) ≡ false
+    → IsAwaitedBy rs what o2 p2 → IsAwaitedBy rs2 what o2 p2
+awaited_other rs rs2 what o p o2 p2 x put apart awaits = elim (row_cases o p x rs rs2 put o2 p2) [
+  | inl now ↦ absurd (apart_of o2 p2 o p apart now.object now.page)
+  | inr other ↦ awaited_elsewhere o p x rs rs2 what o2 p2 other.is awaits
+]
+
+here_elsewhere : (rs rs2 : ResidentTable) (o p o2 p2 : ℕ) (x : Option PageRow) (r : PageRow) → PutsRow o p x rs rs2 → IsUnawaited x → row_at rs2 o2 p2 ≡ Some r
+    → is_awaited r ≡ true
+    → (row_at rs o2 p2 ≡ Some r) × ((o2 == o && p2 == p) ≡ false)
+here_elsewhere rs rs2 o p o2 p2 x r put none is awaits = elim (row_cases o p x rs rs2 put o2 p2) [
+  | inl now ↦ awaited_apart x r none (sym now.is ∙ is) awaits
+  | inr other ↦ (sym other.is ∙ is, test_of o2 p2 o p other.apart)
+]
+
+-- what holds of who waits, where the row of a page that is asked is another
+record Waits (header : Header) (h : ℕ) (k : Parts) (who : Woken) (new : HostParts) (past : List Event) : Type 0 where
+  waits : HasWaiters k.maps k.chains new.resident new.objects k.waits.rows (is_woken who) (λ t. waiting t past) (StaysAway header h past)
+      (IsUnmet header h past)
+  answered : IsAnswered who new.resident
+
+waits_page : (header : Header) (h : ℕ) (k : Parts) (ids : Ids) (past : List Event) (o p : ℕ) (x : Option PageRow) (who : Woken) (new : HostParts)
+    → Rests header h k ids past
+    → ((o2 p2 : ℕ) → is_woken who (on.Page (page_key o2 p2)) ≡ (o2 == o && p2 == p)) → PutsRow o p x k.memory.resident new.resident → IsUnawaited x
+    → SameObjects k.memory.objects new.objects
+    → Waits header h k who new past
+waits_page header h k ids past o p x who new rests test put here same =
+    record {
+      waits = waits_heard k.maps k.chains k.memory.resident new.resident k.memory.objects new.objects k.waits.rows who (λ t. waiting t past) rests.waits
+          (λ what o2 p2 still awaits. awaited_other k.memory.resident new.resident what o p o2 p2 x put (sym (test o2 p2) ∙ still) awaits)
+          (λ other still told. told_of k.memory.objects new.objects other.0 same told)
+          (λ o2 p2 row found awaits. (here_elsewhere k.memory.resident new.resident o p o2 p2 x row put here found awaits).0)
+          (λ o2 is. ap ready_in (same.at o2) ∙ is);
+      answered = record { at = λ o2 p2 row found awaits. test o2 p2 ∙ (here_elsewhere k.memory.resident new.resident o p o2 p2 x row put here found awaits).1 };
+    }
+
+pub changed_supplied : (header : Header) (h : ℕ) (k : Parts) (ids : Ids) (events after past : List Event) (object : ObjectId) (control : ℕ) (page : PageNo)
+    (lock : ℕ) (precious : Bool) (bytes : List ℕ) (who : Woken) (new : HostParts)
+    → Rests header h k ids past → Supplies (key_of object page) lock precious bytes who k.memory new events after → lives h object control past ≡ true
+    → lock < 4
+    → Changed header h k ids who new past (hears h object control (message.Supply page lock precious bytes) ∷ past)
+changed_supplied header h k ids events after past object control page lock precious bytes who new rests supplies lives_now few =
+    let was = rests.matches in
+    let key = key_of object page in
+    let row = supplies.was in
+    let asked = asked_is (row_at k.memory.resident object.0 page.0) row supplies.asked in
+    let same : SameObjects k.memory.objects new.objects = record { at = λ o. ap (λ z. object_at z o) supplies.objects } in
+    let now : PageRow = clean_row row.frame (lock_numbered lock) precious in
+    let lacked = absent_at k.memory.objects object.0 page.0 in
+    let comes : Changes key row.frame (Some row) (Some now) true bytes (added row.frame.0 k.memory.queues) k.memory new = supplies.page in
+    let here : IsUnawaited (Some now) = here_unawaited (Some now) now refl refl refl in
+    let waits = waits_page header h k ids past object.0 page.0 (Some now) (woken.Page key) new rests (λ o2 p2. refl) comes.row here same in
+    let shows = ap (local_after header.size (TakesPage lock precious bytes)) (asked_shows k.memory.frames row lacked
+    (was.fits.plain object.0 page.0 row asked.0 asked.1) asked.1)
+    ∙ (ap (λ z. record away { here = true; bytes = z; lock = lock; precious = precious; absent = lacked })
+    (sym (bytes_now key row.frame _ _ _ _ _ k.memory new comes))
+    ∙ ap (λ z. record away { here = true; bytes = page_in new.frames row.frame.0; lock = z; precious = precious; absent = lacked })
+    (sym (lock_of-prohibits lock few))) in
+    let local_at = λ (o p : ℕ). local header.size h (place_of o p) past in
+    let pages = known_on header header.size key (TakesPage lock precious bytes) local_at tt
+    (pages_moved header.size (TakesPage lock precious bytes) key row.frame _ _ _ _ _ k.memory new k.memory.objects
+    (λ o p. known_local header o p (local_at o p)) was.fits.parts was.pages comes shows (λ o p apart. refl)) in
+    let moves : (o p : ℕ) → local header.size h (place_of o p) (hears h object control (message.Supply page lock precious bytes) ∷ past) ≡ effect_on header.size
+    key (TakesPage lock precious bytes) (λ o2 p2. local header.size h (place_of o2 p2) past) o p =
+    λ o p. rw (own_host h) (ap (λ z. local_after header.size z (local header.size h (place_of o p) past))
+    (on_page object.0 o (lives h object control past) (is_control control (live_control h o past)) (page.0 == p) (TakesPage lock precious bytes) Elsewhere
+    lives_now (λ e. ap (λ z. is_control control (live_control h z past)) (sym e)))) in
+    subst (λ (z : Woken). Changed header h k ids z new past (hears h object control (message.Supply page lock precious bytes) ∷ past)) (sym supplies.woken)
+    (record {
+      away = away_put object.0 page.0 (Some now) row k.memory.resident new.resident comes.found comes.row;
+      plain = plain_changed key row.frame _ _ _ _ _ k.memory new was.fits.plain comes (λ gone. absurd (let bad : true ≡ false = gone in cc));
+      regions =
+          regions_of k.chains k.memory.objects new.objects ids (λ r. region_of header r past) (λ o. backing_of header o past) (next_region header past)
+          (next_object header past) (marked_regions header past) was.regions same;
+      kinds = kinds_same header k.memory.objects new.objects k.chains same (same_marks k.memory.objects new.objects supplies.objects) was.kinds;
+      files = files_same header h k.memory.objects new.objects (λ o. home_of o past) same was.files;
+      pages =
+          pages_eq new.frames new.resident new.objects (λ o p. known_local header o p (effect_on header.size key (TakesPage lock precious bytes) local_at o p))
+          (λ o p. known_local header o p (local header.size h (place_of o p) (hears h object control (message.Supply page lock precious bytes) ∷ past)))
+          (subst (λ (z : ObjectTable). HasPages new.frames new.resident z (λ o p. known_local header o p
+          (effect_on header.size key (TakesPage lock precious bytes) local_at o p))) (sym supplies.objects) pages)
+          (λ o p. ap (known_local header o p) (moves o p));
+      controls =
+          controls_of k.memory.objects new.objects (λ o. last_control h o past) (λ o. live_control h o past) (λ o. is_ready h o past) (λ o. is_ready h o past)
+          was.controls same (λ o live is. refl);
+      laundry = laundry_changed key row.frame _ _ _ _ _ k.memory new k.laundry (returns_out h past) was.laundry comes;
+      frames =
+          frames_changed (slice_get (reverse header.frames.items) h) key row.frame _ _ _ _ _ k.memory new (frames_held header.size h past)
+          (frames_held header.size h past) (frames_wired h past) was.frames comes (λ held. let kept = comes.claims in omega arith);
+      referred =
+          referred_of k.chains k.memory.objects new.objects new.resident (referred_row object.0 page.0 (Some now) k.chains k.memory.objects k.memory.resident
+          new.resident comes.row (λ r is. (
+            rests.referred.pages object.0 page.0 row asked.0,
+            inr (live_is control (object_at k.memory.objects object.0) (subst (λ (z : Option ℕ). is_control control z ≡ true) (was.controls.live object.0)
+                lives_now)),
+          )) rests.referred) same;
+      waits = waits_taken header h (host_id h) object control (message.Supply page lock precious bytes) past waits.waits;
+      fails = refl;
+      fresh = tt;
+      asker = tt;
+      answered = waits.answered;
+    })
+
+-- it is asked no more
+
+-- what the message is to the history
+record EndsPage (header : Header) (h : ℕ) (k : Parts) (who : Woken) (object : ObjectId) (control : ℕ) (page : PageNo) (m : Message) (effect : LocalEffect)
+    (past : List Event) : Type 0 where
+  moves : (o p : ℕ) → local header.size h (place_of o p) (hears h object control m ∷ past)
+      ≡ local_after header.size (if object.0 == o && is_control control (live_control h o past) then (if page.0 == p then effect else Elsewhere) else Elsewhere)
+      (local header.size h (place_of o p) past)
+  held : frames_held header.size h (hears h object control m ∷ past) ≡ frames_held header.size h past - 1
+  ready : (o : ℕ) → is_ready h o (hears h object control m ∷ past) ≡ is_ready h o past
+  known : (was : Local) → known_local header object.0 page.0 (local_after header.size effect was) ≡ local_after header.size effect
+      (known_local header object.0 page.0 was)
+  fails : FailsNow header h who (hears h object control m ∷ past)
+  fresh : EndsNobody who (hears h object control m ∷ past)
+  test : (o p : ℕ) → is_woken who (on.Page (page_key o p)) ≡ (o == object.0 && p == page.0)
+  asker : HasAsker who k.waits.rows
+
+changed_ended : (header : Header) (h : ℕ) (k : Parts) (ids : Ids) (past : List Event) (object : ObjectId) (control : ℕ) (page : PageNo) (m : Message)
+    (effect : LocalEffect) (who : Woken) (row : PageRow) (new : HostParts)
+    → Rests header h k ids past → asked_row (row_at k.memory.resident object.0 page.0) ≡ Some row → Cancels (key_of object page) row k.memory new
+    → lives h object control past ≡ true → SameObjects k.memory.objects new.objects → HasKinds header new.objects k.chains
+    → IsLeft header.size effect k.memory.objects new.objects object.0 page.0
+    → EndsPage header h k who object control page m effect past → Changed header h k ids who new past (hears h object control m ∷ past)
+changed_ended header h k ids past object control page m effect who row new rests is_asked ends lives_now same kinds left is =
+    let was = rests.matches in
+    let key = key_of object page in
+    let asked = asked_is (row_at k.memory.resident object.0 page.0) row is_asked in
+    let waits = waits_page header h k ids past object.0 page.0 None who new rests is.test ends.row (none_unawaited None refl) same in
+    let local_at = λ (o p : ℕ). local header.size h (place_of o p) past in
+    let pages = known_at header header.size key effect local_at is.known
+    (pages_moved header.size effect key row.frame _ _ _ _ _ k.memory new new.objects (λ o p. known_local header o p (local_at o p)) was.fits.parts was.pages
+    ends
+    (ap (local_after header.size effect) (asked_shows k.memory.frames row (absent_at k.memory.objects object.0 page.0)
+    (was.fits.plain object.0 page.0 row asked.0 asked.1) asked.1) ∙ left.here) left.others) in
+    record {
+      away = away_put object.0 page.0 None row k.memory.resident new.resident ends.found ends.row;
+      plain = plain_changed key row.frame _ _ _ _ _ k.memory new was.fits.plain ends tt;
+      regions =
+          regions_of k.chains k.memory.objects new.objects ids (λ r. region_of header r past) (λ o. backing_of header o past) (next_region header past)
+          (next_object header past) (marked_regions header past) was.regions same;
+      kinds = kinds;
+      files = files_same header h k.memory.objects new.objects (λ o. home_of o past) same was.files;
+      pages = pages_eq new.frames new.resident new.objects (λ o p. known_local header o p (effect_on header.size key effect local_at o p))
+          (λ o p. known_local header o p (local header.size h (place_of o p) (hears h object control m ∷ past))) pages
+          (λ o p. ap (known_local header o p)
+          (is.moves o p
+          ∙ ap (λ z. local_after header.size z (local header.size h (place_of o p) past))
+          (on_page object.0 o (lives h object control past) (is_control control (live_control h o past)) (page.0 == p) effect Elsewhere lives_now
+          (λ e. ap (λ z. is_control control (live_control h z past)) (sym e)))));
+      controls =
+          controls_of k.memory.objects new.objects (λ o. last_control h o past) (λ o. live_control h o past) (λ o. is_ready h o past)
+          (λ o. is_ready h o (hears h object control m ∷ past)) was.controls same (λ o live number. is.ready o);
+      laundry = laundry_changed key row.frame _ _ _ _ _ k.memory new k.laundry (returns_out h past) was.laundry ends;
+      frames = subst (λ (z : ℕ). HasFrames (slice_get (reverse header.frames.items) h) new.frames z (frames_wired h past)) (sym is.held)
+          (frames_changed (slice_get (reverse header.frames.items) h) key row.frame _ _ _ _ _ k.memory new (frames_held header.size h past)
+          (frames_held header.size h past - 1) (frames_wired h past) was.frames ends (λ held. let less = ends.claims in omega arith));
+      referred =
+          referred_of k.chains k.memory.objects new.objects new.resident (referred_gone object.0 page.0 k.chains k.memory.objects k.memory.resident new.resident
+          ends.row rests.referred) same;
+      waits = waits_taken header h (host_id h) object control m past waits.waits;
+      fails = is.fails;
+      fresh = is.fresh;
+      asker = is.asker;
+      answered = waits.answered;
+    }
+
+pub changed_lacked : (header : Header) (h : ℕ) (k : Parts) (ids : Ids) (events after past : List Event) (object : ObjectId) (control : ℕ) (page : PageNo)
+    (who : Woken) (new : HostParts)
+    → Rests header h k ids past → Lacks (key_of object page) who k.memory new events after → lives h object control past ≡ true → named header ≤ object.0
+    → Changed header h k ids who new past (hears h object control (message.Unavailable page) ∷ past)
+changed_lacked header h k ids events after past object control page who new rests lacks lives_now temporary =
+    let asked = asked_is (row_at k.memory.resident object.0 page.0) lacks.was lacks.asked in
+    let counts_now = and_from (lives h object control past) (local header.size h (place_of object.0 page.0) past).asked lives_now
+    (asks_now header h k past object.0 page.0 lacks.was rests.matches.pages asked.0 asked.1) in
+    changed_ended header h k ids past object control page (message.Unavailable page) TakesNothing who lacks.was new rests lacks.asked lacks.page lives_now
+    lacks.objects
+    (kinds_marked header object.0 page.0 true k.memory.objects new.objects k.chains lacks.objects lacks.absent
+    (λ declared. absurd (omega (arith, declared, temporary))) rests.matches.kinds)
+    (left_lacked header.size k.memory.objects new.objects object.0 page.0 lacks.absent)
+    (subst (λ (z : Woken). EndsPage header h k z object control page (message.Unavailable page) TakesNothing past) (sym lacks.woken)
+    (record {
+      moves = λ o p. rw (own_host h) refl;
+      held = rw (own_host h, counts_now) refl;
+      ready = λ o. refl;
+      known = λ was. nothing_known header object.0 page.0 header.size was temporary;
+      fails = refl;
+      fresh = tt;
+      test = λ o p. refl;
+      asker = tt;
+    }))
+
+pub changed_failed : (header : Header) (h : ℕ) (k : Parts) (ids : Ids) (events after past : List Event) (object : ObjectId) (control : ℕ) (page : PageNo)
+    (reason : ℕ) (who : Woken) (new : HostParts)
+    → Rests header h k ids past → FailsPage (key_of object page) who k.memory new events after → lives h object control past ≡ true
+    → Changed header h k ids who new past (hears h object control (message.Error page reason) ∷ past)
+changed_failed header h k ids events after past object control page reason who new rests fails lives_now =
+    let asked = asked_is (row_at k.memory.resident object.0 page.0) fails.was fails.asked in
+    let counts_now = and_from (lives h object control past) (local header.size h (place_of object.0 page.0) past).asked lives_now
+    (asks_now header h k past object.0 page.0 fails.was rests.matches.pages asked.0 asked.1) in
+    changed_ended header h k ids past object control page (message.Error page reason) TakesError who fails.was new rests fails.asked fails.page lives_now
+    (record { at = λ o. ap (λ z. object_at z o) fails.objects })
+    (kinds_same header k.memory.objects new.objects k.chains (record { at = λ o. ap (λ z. object_at z o) fails.objects })
+    (same_marks k.memory.objects new.objects fails.objects) rests.matches.kinds)
+    (left_failed header.size k.memory.objects new.objects object.0 page.0 fails.objects)
+    (subst (λ (z : Woken). EndsPage header h k z object control page (message.Error page reason) TakesError past) (sym fails.woken)
+    (record {
+      moves = λ o p. rw (own_host h) refl;
+      held = rw (own_host h, counts_now) refl;
+      ready = λ o. refl;
+      known = λ was. refl;
+      fails = rw counts_now refl;
+      fresh = λ t. refl;
+      test = λ o p. refl;
+      asker = rests.waits.askers object.0 page.0 fails.was asked.0 (away_awaited fails.was asked.1);
+    }))
+
+-- a page of zeros has come, where the pager of a declared object has none
+
+-- what is known of the page
+zeroed_shows : (header : Header) (o p size : ℕ) (was : Local) (lacked : Bool) → o < named header
+    → known_local header o p was ≡ record away { asked = true; absent = lacked }
+    → known_local header o p (local_after size Zeroes (local_after size TakesNothing was)) ≡ record away { here = true; bytes = replicate size 0 }
+zeroed_shows header o p size was lacked declared is =
+    let same : was ≡ record away { asked = true; absent = was.absent } = ap (λ (z : Local). record z { absent = was.absent }) is in
+    ap (λ z. known_local header o p (local_after size Zeroes (local_after size TakesNothing z))) same
+    ∙ ap (λ b. record away { here = true; bytes = replicate size 0; absent = not b && true }) test
+  where
+    test : nat_lt o (named header) ≡ true
+    test = grind (arith, nat_tests, declared)
+
+-- what holds of the page in the history, before zeros come
+pub record Lacking (header : Header) (h : ℕ) (object : ObjectId) (control : ℕ) (page : PageNo) (past : List Event) : Type 0 where
+  pub counts : (lives h object control past && (local header.size h (place_of object.0 page.0) past).asked) ≡ true
+  pub asked : (local header.size h (place_of object.0 page.0) past).asked ≡ true
+  pub away : (local header.size h (place_of object.0 page.0) past).here ≡ false
+
+pub lacking : (header : Header) (h : ℕ) (k : Parts) (past : List Event) (object : ObjectId) (control : ℕ) (page : PageNo) (row : PageRow)
+    → HasPages k.memory.frames k.memory.resident k.memory.objects (λ o p. known_local header o p (local header.size h (place_of o p) past))
+    → asked_row (row_at k.memory.resident object.0 page.0) ≡ Some row → lives h object control past ≡ true → Lacking header h object control page past
+lacking header h k past object control page row has is lives_now =
+    let asked = asked_is (row_at k.memory.resident object.0 page.0) row is in
+    let now = asks_now header h k past object.0 page.0 row has asked.0 asked.1 in
+    record {
+      counts = and_from (lives h object control past) (local header.size h (place_of object.0 page.0) past).asked lives_now now;
+      asked = now;
+      away =
+          ap (λ (z : Local). z.here) (has.shown object.0 page.0)
+          ∙ (ap (λ z. (local_of_row k.memory.frames z (absent_at k.memory.objects object.0 page.0)).here) asked.0 ∙ asked.1);
+    }
+
+pub changed_zeroed : (header : Header) (h : ℕ) (k : Parts) (ids : Ids) (host : HostId) (after past : List Event) (object : ObjectId) (control : ℕ)
+    (page : PageNo) (who : Woken) (new : HostParts)
+    → Rests header h k ids past → supply.Zeroes host (key_of object page) who k.memory new [] after → lives h object control past ≡ true
+    → object.0 < named header
+    → Changed header h k ids who new past (zeros h object page ∷ hears h object control (message.Unavailable page) ∷ past)
+changed_zeroed header h k ids host after past object control page who new rests zeroes lives_now declared =
+    let was = rests.matches in
+    let key = key_of object page in
+    let row = zeroes.was in
+    let asked = asked_is (row_at k.memory.resident object.0 page.0) row zeroes.asked in
+    let lacks = lacking header h k past object control page row was.pages zeroes.asked lives_now in
+    let same : SameObjects k.memory.objects new.objects = record { at = λ o. ap (λ z. object_at z o) zeroes.objects } in
+    let now : PageRow = clean_row row.frame unlocked false in
+    let lacked = absent_at k.memory.objects object.0 page.0 in
+    let comes : Changes key row.frame (Some row) (Some now) true (replicate header.size 0) (added row.frame.0 k.memory.queues) k.memory new =
+    subst (λ (z : ℕ). FillsPage key row unlocked false (replicate z 0) k.memory new) (was.fits.buffers ∙ was.size) zeroes.page in
+    let here : IsUnawaited (Some now) = here_unawaited (Some now) now refl refl refl in
+    let waits = waits_page header h k ids past object.0 page.0 (Some now) (woken.Page key) new rests (λ o2 p2. refl) comes.row here same in
+    let local_at = λ (o p : ℕ). known_local header o p (local header.size h (place_of o p) past) in
+    let local_now = λ (o p : ℕ). known_local header o p (local header.size h (place_of o p)
+    (zeros h object page ∷ hears h object control (message.Unavailable page) ∷ past)) in
+    let shows : local_at object.0 page.0 ≡ local_of_row k.memory.frames (Some row) lacked
+    → local_now object.0 page.0 ≡ local_of_row new.frames (Some now) lacked = λ is.
+    rw (
+      own_host h,
+      own_host object.0,
+      own_host page.0,
+      lives_now,
+    ) (zeroed_shows header object.0 page.0 header.size (local header.size h (place_of object.0 page.0) past) lacked declared
+    (is ∙ asked_shows k.memory.frames row lacked (was.fits.plain object.0 page.0 row asked.0 asked.1) asked.1))
+    ∙ (ap (λ z. record away { here = true; bytes = z }) (sym (bytes_now key row.frame _ _ _ _ _ k.memory new comes))
+    ∙ ap (λ z. record away { here = true; bytes = page_in new.frames row.frame.0; absent = z }) (sym (was.kinds.present object.0 page.0 declared))) in
+    let others : (o p : ℕ) → (object.0 == o && page.0 == p) ≡ false → (local_now o p ≡ local_at o p)
+    × (absent_at k.memory.objects o p ≡ absent_at k.memory.objects o p) = λ o p apart. (
+      rw (own_host h)
+          (ap (λ e. known_local header o p (local_after header.size (if object.0 == o && page.0 == p then Zeroes else Elsewhere)
+          (local_after header.size e (local header.size h (place_of o p) past))))
+          (on_page object.0 o (lives h object control past) (is_control control (live_control h o past)) (page.0 == p) TakesNothing Elsewhere lives_now
+          (λ e. ap (λ z. is_control control (live_control h z past)) (sym e)) ∙ ap (λ b. if b then TakesNothing else Elsewhere) apart)
+          ∙ ap (λ b. known_local header o p (local_after header.size (if b then Zeroes else Elsewhere) (local header.size h (place_of o p) past))) apart),
+      refl,
+    ) in
+    let pages = pages_changed key row.frame _ _ _ _ _ k.memory new k.memory.objects local_at local_now was.fits.parts was.pages comes shows others in
+    let some = count_released k.memory.frames.claims row.frame.0 comes.had in
+    subst (λ (z : Woken). Changed header h k ids z new past (zeros h object page ∷ hears h object control (message.Unavailable page) ∷ past)) (sym zeroes.woken)
+    (record {
+      away = away_put object.0 page.0 (Some now) row k.memory.resident new.resident comes.found comes.row;
+      plain = plain_changed key row.frame _ _ _ _ _ k.memory new was.fits.plain comes (λ gone. absurd (let bad : true ≡ false = gone in cc));
+      regions =
+          regions_of k.chains k.memory.objects new.objects ids (λ r. region_of header r past) (λ o. backing_of header o past) (next_region header past)
+          (next_object header past) (marked_regions header past) was.regions same;
+      kinds = kinds_same header k.memory.objects new.objects k.chains same (same_marks k.memory.objects new.objects zeroes.objects) was.kinds;
+      files = files_same header h k.memory.objects new.objects (λ o. home_of o past) same was.files;
+      pages = subst (λ (z : ObjectTable). HasPages new.frames new.resident z local_now) (sym zeroes.objects) pages;
+      controls =
+          controls_of k.memory.objects new.objects (λ o. last_control h o past) (λ o. live_control h o past) (λ o. is_ready h o past) (λ o. is_ready h o past)
+          was.controls same (λ o live is. refl);
+      laundry = laundry_changed key row.frame _ _ _ _ _ k.memory new k.laundry (returns_out h past) was.laundry comes;
+      frames = rw (own_host h, lacks.counts)
+          (frames_changed (slice_get (reverse header.frames.items) h) key row.frame _ _ _ _ _ k.memory new (frames_held header.size h past)
+          (frames_held header.size h past - 1 + 1) (frames_wired h past) was.frames comes
+          (λ held. let kept = comes.claims in omega (arith, held, kept, some)));
+      referred =
+          referred_of k.chains k.memory.objects new.objects new.resident (referred_row object.0 page.0 (Some now) k.chains k.memory.objects k.memory.resident
+          new.resident comes.row (λ r is. (rests.referred.pages object.0 page.0 row asked.0, inl (ap (λ (z : PageRow). z.lock) (sym (some_is now r is)))))
+          rests.referred) same;
+      waits = waits_blank header h k.chains new.objects (hears h object control (message.Unavailable page) ∷ past) object page declared
+          (λ told. told_unready new.objects object.0 told (ap ready_in (same.at object.0) ∙ rests.waits.ready object.0 page.0 row asked.0 asked.1))
+          (waits_taken header h (host_id h) object control (message.Unavailable page) past waits.waits);
+      fails = refl;
+      fresh = tt;
+      asker = tt;
+      answered = waits.answered;
+    })
+
+-- and the event has its cause
+pub filled_follows : (header : Header) (h : ℕ) (outside : Outside) (doing : Command) (frames : FrameTable) (past : List Event) (object : ObjectId) (control : ℕ)
+    (page : PageNo) → Lacking header h object control page past → lives h object control past ≡ true → object.0 < named header
+    → HasFrames (slice_get (reverse header.frames.items) h) frames (frames_held header.size h
+    (zeros h object page ∷ hears h object control (message.Unavailable page) ∷ past)) (frames_wired h past)
+    → Follows header h outside doing (zeros h object page) (hears h object control (message.Unavailable page) ∷ past)
+filled_follows header h outside doing frames past object control page lacks lives_now declared has =
+    let fills : Fills header h object.0 page.0 (hears h object control (message.Unavailable page) ∷ past) =
+    record {
+      declared = declared;
+      void = rw lacks.counts refl;
+      once = refl;
+      away = rw (own_host h, own_host object.0, own_host page.0, lives_now, lacks.asked) lacks.away;
+      unasked = rw (own_host h, own_host object.0, own_host page.0, lives_now, lacks.asked) refl;
+    } in
+    record {
+      consequence = tt;
+      cause = inl fills;
+      own_bytes = tt;
+      frames = suffices header h frames (zeros h object page ∷ hears h object control (message.Unavailable page) ∷ past) has;
+      inner = tt;
+      said = tt;
+      own = own_named h;
+      creates = tt;
+    }

@@ -1,0 +1,6 @@
+-- The lists of pages, and what a reclaim passes over.
+pub mod FramesSkipped
+pub mod ListsAsTold
+pub mod PageJoins
+pub mod PageoutReclaims
+pub mod PagesSpared

@@ -1,0 +1,19 @@
+-- What becomes of the pages and the frames of a host, and of the chains over them.
+pub mod ComesForAccess
+pub mod FramesHeld
+pub mod FramesWashed
+pub mod FramesWired
+pub mod MayLeave
+pub mod PageReclaimed
+pub mod PageReturned
+pub mod PagesKept
+pub mod PagesShown
+pub mod PartsStillFit
+pub mod PlacesPassed
+pub mod ReturnTaken
+pub mod ShadowMade
+pub mod SourceIsTold
+pub mod SourceOfCopy
+pub mod WalkLands
+pub mod WalksShown
+pub mod WhatIsKnown

@@ -1,0 +1,225 @@
+-- What a shadow leaves of the kernel, which a store's region gets first where that is marked.
+use Rattle.vm_kernel.proofs.Common.{ChainTable, Event, HasEntries, Header, HostParts, Ids, Inside, IsInside, List, Matches, None, ObjectId, ObjectTable, Parts}
+use Rattle.vm_kernel.proofs.Common.{PutsObject, Region, RegionRow, SameMarks, Some, Works, [], ap, arith, false, has_region, home_of, if◌then◌else◌, inl, inr}
+use Rattle.vm_kernel.proofs.Common.{is_some, is_woken, local_of_row, marked_regions, next_object, next_region, object_at, one_case, pages_in, refl, region_at}
+use Rattle.vm_kernel.proofs.Common.{region_pages, row_at, rows_in, rows_map, some_is, subst, sym, true, waiting, ℕ, ◌+◌, ◌-◌, ◌<◌, ◌==◌, ◌∙◌, ◌∷◌, ◌≡◌, ◌≤◌}
+use Rattle.vm_kernel.proofs.Common.{◌⊎◌}
+use Rattle.vm_kernel.proofs.space.RegionsFilled.{shadowed_filled, unknown_unfilled}
+use Rattle.vm_state.proofs.Filling.{copies_kept, rows_unmade}
+use Rattle.vm_abroad.proofs.Home.{home_shadowed, named_objects, object_stays}
+use Rattle.vm_abroad.specs.Home.{first_of, region_for}
+use Rattle.vm_base.specs.Limits.{most_objects}
+use Rattle.vm_base.specs.declared.ids.RegionId.{RegionId}
+use Rattle.vm_fault.specs.Faults.{FaultState, MakesShadow}
+use Rattle.vm_fault.specs.Walks.{ChainsFit}
+use Rattle.vm_model.specs.declared.event.Event.TheVariants as event
+use Rattle.vm_parts.specs.Fits.{Fit}
+use Rattle.vm_shadow.specs.Chains.{ObjectsBelow, ShadowsRegion}
+use Rattle.vm_model.specs.Named.{named}
+use Rattle.vm_model.specs.Regions.{backing_of, over, region_of, shadowed}
+use Rattle.vm_kernel.proofs.space.RegionsInUse.{paged_temporary}
+use Rattle.vm_state.proofs.Declared.{kind_new, kinds_put, kinds_shadowed, marked_temporary}
+use Rattle.vm_state.proofs.Files.{files_temporary}
+use Rattle.vm_state.proofs.Fresh.{other_test}
+use Rattle.vm_state.proofs.Marks.{marked_shadowed}
+use Rattle.vm_state.proofs.Places.{waits_shadowed}
+use Rattle.vm_state.proofs.Referred.{referred_shadowed}
+use Rattle.vm_state.proofs.Referring.{objects_below, small_region}
+use Rattle.vm_state.proofs.Shadowing.{regions_shadowed}
+use Rattle.vm_state.proofs.Told.{knows_made}
+use Rattle.vm_supply.specs.declared.woken.Woken.TheVariants as woken
+use Rattle.vm_kernel.proofs.space.TaskMade.{controls_made, new_object}
+use Rattle.vm_kernel.proofs.controls.LockReplied.{replied_behind}
+use Rattle.vm_state.specs.References.{is_live_in}
+use Rattle.vm_kernel.proofs.memory.PlacesPassed.{fresh_away}
+
+-- each region is as it was, but for its top and its mark
+pub record KeepsRegions (old new : ChainTable) : Type 0 where
+  pub has : (r : ℕ) → has_region new r ≡ has_region old r
+  pub pages : (r : ℕ) → region_pages new r ≡ region_pages old r
+  pub row : (r : ℕ) (row : RegionRow) → region_at new r ≡ Some row → (was : RegionRow) × (region_at old r ≡ Some was) × (row.entries ≡ was.entries)
+
+pub keeps_shadowed : (region : ℕ) (object : ObjectId) (row : RegionRow) (old new : ChainTable) → ShadowsRegion region object row old new
+    → region_at old region ≡ Some row → KeepsRegions old new
+keeps_shadowed region object row old new made there =
+    record {
+      has = λ r. elim (cases r) [
+        | inl this ↦ ap is_some this.1 ∙ sym (ap is_some (was r this.0))
+        | inr other ↦ ap is_some other.1
+      ];
+      pages = λ r. elim (cases r) [
+        | inl this ↦ ap pages_in this.1 ∙ sym (ap pages_in (was r this.0))
+        | inr other ↦ ap pages_in other.1
+      ];
+      row = λ r found is. elim (cases r) [
+        | inl this ↦ (row, was r this.0, ap (λ (z : RegionRow). z.entries) (some_is found now (sym is ∙ this.1)))
+        | inr other ↦ (found, sym other.1 ∙ is, refl)
+      ];
+    }
+  where
+    now : RegionRow
+    now = record row { top = object; shift = 0; marked = false }
+
+    cases : (r : ℕ) → ((region ≡ r) × (region_at new r ≡ Some now)) ⊎ ((region ≡ r → ⊥) × (region_at new r ≡ region_at old r))
+    cases r = one_case region r (Some now) (region_at old r) (region_at new r) (made.at r)
+
+    was : (r : ℕ) → region ≡ r → region_at old r ≡ Some row
+    was r same = subst (λ (z : ℕ). region_at old z ≡ Some row) same there
+
+-- the entries lie within their regions still, and are counted
+pub entries_kept : (size : ℕ) (k : Parts) (new : ChainTable) → HasEntries size k.maps k.chains [] → KeepsRegions k.chains new → HasEntries size k.maps new []
+entries_kept size k new has keeps =
+    record {
+      inside = λ task. rows_map (IsInside size k.chains) (IsInside size new)
+          (λ row is. record {
+            region = keeps.has row.region.0 ∙ is.region;
+            some = is.some;
+            below = is.below;
+            inside = subst (λ (z : ℕ). Inside size z row) (sym (keeps.pages row.region.0)) is.inside;
+          })
+          (rows_in task k.maps) (has.inside task);
+      known = tt;
+      most = has.most;
+      few = has.few;
+      counts = λ r row is. let was = keeps.row r row is in was.2 ∙ has.counts r was.0 was.1;
+    }
+
+-- a region gets an object of its own, over its old top
+pub shadowed_with : (header : Header) (h : ℕ) (past : List Event) (k : Parts) (ids : Ids) (region : RegionId) (object : ObjectId) (row : RegionRow)
+    (chains : ChainTable) (objects : ObjectTable) → Works header h k ids woken.Nobody past
+    → region_at k.chains region.0 ≡ Some row → 0 < row.entries → row.marked ≡ true → object.0 ≡ ids.next_object
+    → ShadowsRegion region.0 object row k.chains chains → PutsObject object.0 (Some (new_object row.pages)) k.memory.objects objects
+    → SameMarks k.memory.objects objects → Fit (record k.memory { objects = objects }) → ChainsFit chains objects
+    → Works header h (record k { memory = record k.memory { objects = objects }; chains = chains })
+    (record ids { next_object = ids.next_object + 1; marks = ids.marks - 1 }) woken.Nobody (event.Shadowed region object row.top ∷ past)
+shadowed_with header h past k ids region object row chains objects works there counted marked next made put same fit fits =
+    record {
+      matches = record {
+        ranged = m.ranged;
+        declared = m.declared;
+        kinds =
+            kinds_shadowed header region.0 object row objects k.chains chains made there temporary new
+            (kinds_put header object.0 (new_object row.pages) k.memory.objects objects k.chains put same
+            (kind_new header object.0 (new_object row.pages) row.pages new refl) m.kinds);
+        shared = m.shared;
+        known = m.known;
+        size = m.size;
+        host = m.host;
+        fits = record { parts = fit; plain = m.fits.plain; buffers = m.fits.buffers };
+        tasks = m.tasks;
+        regions =
+            regions_shadowed header past region object row (new_object row.pages) k.chains chains k.memory.objects objects ids
+            (record ids { next_object = ids.next_object + 1; marks = ids.marks - 1 })
+            (next_region header past) (next_object header past) (marked_regions header past) (marked_regions header (e ∷ past)) made there number refl put fits
+            refl refl marks_now few_now m.regions;
+        homes =
+            λ r found paged is. elim (one_case region.0 r (Some (record row { top = object; shift = 0; marked = false })) (region_at k.chains r)
+            (region_at chains r) (made.at r)) [
+              | inl this ↦ subst (λ (z : ℕ). home_of z past ≡ Some h) this.0 (m.homes region.0 row (paged_temporary header region.0 temporary) there)
+              | inr other ↦ m.homes r found paged (sym other.1 ∙ is)
+            ];
+        files = files_temporary header h object.0 (Some (new_object row.pages)) k.memory.objects objects (λ o. home_of o past) new put m.files;
+        entries = entries_kept header.size k chains m.entries keeps;
+        pages = record { shown = λ o p. m.pages.shown o p ∙ ap (λ b. local_of_row k.memory.frames (row_at k.memory.resident o p) b) (sym (same.at o p)) };
+        uses = m.uses;
+        controls = controls_made k.memory.objects objects _ _ _ object.0 row.pages m.controls unknown put (λ o home. object_stays o h e past home)
+            (home_shadowed h region object row.top past (m.homeless.objects object.0 at_least)
+            (m.homes region.0 row (paged_temporary header region.0 temporary) there));
+        homeless = record {
+          regions = m.homeless.regions;
+          objects = λ o high.
+              let apart : (object.0 == o) ≡ false = other_test object.0 o (λ eq. omega (arith, eq, number, high)) in
+              ap (λ b. if b then first_of (region_for o past) (Some region.0) else region_for o past) apart ∙ m.homeless.objects o (omega (arith, high));
+          stay = m.homeless.stay;
+          files = m.homeless.files;
+          whole = λ r declared.
+              let other : (r == region.0) ≡ false = other_test r region.0 (λ eq. omega (arith, eq, declared, temporary)) in
+              ap (λ b. shadowed b object.0 (region_of header r past)) other ∙ m.homeless.whole r declared;
+          bare = λ o declared.
+              let other : (o == object.0) ≡ false = other_test o object.0 (λ eq. omega (arith, eq, declared, new)) in
+              ap (λ b. (over b (region_of header region.0 past) (backing_of header o past)).backed) other ∙ m.homeless.bare o declared;
+          fills = m.homeless.fills;
+        };
+        settled = record { none_owed = refl; shut = λ r. refl };
+        replied = replied_behind tt m.replied;
+        laundry = m.laundry;
+        frames = m.frames;
+      };
+      used = record {
+        regions = λ r found is. let was = keeps.row r found is in elim (works.used.regions r was.0 was.1) [
+          | inl some ↦ inl (subst (λ (z : ℕ). 0 < z) (sym was.2) some)
+          | inr filled ↦ inr filled
+        ];
+        copies =
+            copies_kept k.maps k.maps k.chains chains k.memory.resident k.memory.resident works.used.copies
+            (λ t w found. record { size = refl; entries = refl })
+            (shadowed_filled region.0 object row k.chains chains there counted made
+            (unknown_unfilled k.chains k.memory.objects object.0 m.regions.tops unknown)) (rows_unmade k.chains k.memory.resident);
+      };
+      referred =
+          referred_shadowed region.0 object row (new_object row.pages) k.chains chains k.memory.objects objects k.memory.resident made put (omega arith)
+          (λ is. absurd (let bad : false ≡ true = sym (ap is_live_in unknown) ∙ is in cc)) works.referred;
+      waits =
+          waits_shadowed k.maps k.chains chains k.memory.resident k.memory.objects objects k.waits.rows (is_woken woken.Nobody) (λ u. waiting u past) region.0
+          object row works.waits there made
+          (subst (λ (z : ℕ). ObjectsBelow z k.chains) (sym number) (objects_below m.regions))
+          (fresh_away header h k ids past m works.referred object new unknown)
+          (knows_made k.memory.objects objects object.0 (new_object row.pages) unknown put);
+      order = works.order;
+    }
+  where
+    m : Matches header h k ids [] past
+    m = works.matches
+
+    e : Event
+    e = event.Shadowed region object row.top
+
+    number : object.0 ≡ next_object header past
+    number = next ∙ m.regions.object
+
+    temporary : named header ≤ region.0
+    temporary = marked_temporary m.regions m.homeless region.0 row there marked
+
+    new : named header ≤ object.0
+    new = let more = named_objects header past in omega (arith, more, number)
+
+    at_least : next_object header past ≤ object.0
+    at_least = omega (arith, number)
+
+    unknown : object_at k.memory.objects object.0 ≡ None
+    unknown = m.regions.unknown object.0 at_least
+
+    keeps : KeepsRegions k.chains chains
+    keeps = keeps_shadowed region.0 object row k.chains chains made there
+
+    one_less : marked_regions header (e ∷ past) + 1 ≡ marked_regions header past
+    one_less =
+        marked_shadowed header past region object row.top (small_region m.regions region.0 row there)
+        (ap (λ (z : Region). z.mark) (m.regions.rows region.0 row there) ∙ marked)
+
+    marks_now : ids.marks - 1 ≡ marked_regions header (e ∷ past)
+    marks_now = omega (arith, one_less, m.regions.marks)
+
+    few_now : next_object header past + 1 + marked_regions header (e ∷ past) ≤ most_objects
+    few_now = let few = m.regions.few in omega (arith, one_less, few)
+
+pub works_shadowed : (header : Header) (h : ℕ) (past : List Event) (k : Parts) (ids : Ids) (region : RegionId) (row : RegionRow) (old new : FaultState)
+    → Works header h k ids woken.Nobody past → old.parts ≡ k.memory → old.chains ≡ k.chains → old.ids ≡ ids
+    → region_at k.chains region.0 ≡ Some row → 0 < row.entries → row.marked ≡ true → (made : MakesShadow region row old new)
+    → Works header h (record k { memory = new.parts; chains = new.chains }) new.ids woken.Nobody (event.Shadowed region made.object row.top ∷ past)
+works_shadowed header h past k ids region row old new works memory chains numbers there counted marked made =
+    let e : Event = event.Shadowed region made.object row.top in
+    let objects : ObjectTable = new.parts.objects in
+    let parts : new.parts ≡ record k.memory { objects = objects } = made.parts ∙ ap (λ (z : HostParts). record z { objects = objects }) memory in
+    let ids_now : new.ids ≡ record ids { next_object = ids.next_object + 1; marks = ids.marks - 1 } = made.ids
+    ∙ ap (λ (z : Ids). record z { next_object = z.next_object + 1; marks = z.marks - 1 }) numbers in
+    subst (λ (z : Ids). Works header h (record k { memory = new.parts; chains = new.chains }) z woken.Nobody (e ∷ past)) (sym ids_now)
+    (subst (λ (z : HostParts). Works header h (record k { memory = z; chains = new.chains })
+    (record ids { next_object = ids.next_object + 1; marks = ids.marks - 1 }) woken.Nobody (e ∷ past)) (sym parts)
+    (shadowed_with header h past k ids region made.object row new.chains objects works there counted marked
+    (made.next ∙ ap (λ (z : Ids). z.next_object) numbers)
+    (subst (λ (z : ChainTable). ShadowsRegion region.0 made.object row z new.chains) chains made.chains)
+    (subst (λ (z : HostParts). PutsObject made.object.0 (Some (new_object row.pages)) z.objects objects) memory made.objects)
+    (subst (λ (z : HostParts). SameMarks z.objects objects) memory made.marks)
+    (subst (λ (z : HostParts). Fit z) parts made.fit)
+    made.fits))

@@ -1,0 +1,275 @@
+-- What the parts of a step spend in front of the accesses that are run, and what they leave for those.
+use Rattle.vm_kernel.proofs.Common.{Bool, Command, Err, Event, Header, Ids, List, Matches, ObjectTable, Ok, OnOk, On, PageKey, Parts, Result, WaitTable}
+use Rattle.vm_kernel.proofs.Common.{Waiting, [], ap, arith, false, frame_count, length, one_again, one_frame, refl, returns_out, subst, sym, true, ℕ, ◌++◌, ◌+◌}
+use Rattle.vm_kernel.proofs.Common.{◌*◌, ◌<◌, ◌∙◌, ◌∷◌, ◌≡◌, ◌≤◌}
+use Rattle.std.specs.Prelude.{IsOk, OnErr, vec_capacity}
+use Rattle.vm_base.specs.Listing.{Listed}
+use Rattle.vm_kernel.proofs.room.EndsSpend.{roomy_fewer}
+use Rattle.vm_kernel.proofs.memory.FramesHeld.{room_once}
+use Rattle.vm_kernel.proofs.controls.LiveControls.{live_known}
+use Rattle.vm_kernel.proofs.room.RunPays.{copies_more}
+use Rattle.vm_kernel.specs.Rooms.{Dies, HasBuffers, HasMore, HasRoom, IsSkipRoom, KeepsSkip, KeepsSpare, Spends, breadth_of, dues, front, full_dues, heeding}
+use Rattle.vm_kernel.specs.Rooms.{if_copies, leaving, loose_frames, making, one_if_full, to_run, waking, word_breadth}
+use Rattle.vm_kernel.specs.declared.breadth.Breadth.{Breadth}
+use Rattle.vm_kernel.specs.declared.breadth.Breadth.TheVariants as wide
+use Rattle.vm_model.specs.declared.message.Message.{Message}
+use Rattle.vm_model.specs.declared.message.Message.TheVariants as message
+use Rattle.vm_parts.specs.Listed.{listed_pages}
+use Rattle.vm_queues.specs.Queues.{EachOnce}
+use Rattle.vm_supply.specs.declared.woken.Woken.{Woken}
+use Rattle.vm_supply.specs.declared.woken.Woken.TheVariants as who
+use Rattle.vm_terminate.specs.Counts.{live_below}
+use Rattle.vm_waits.proofs.Copies.{copies_begun}
+use Rattle.vm_waits.specs.Waits.{count_copies, one}
+use Rattle.vm_waits.specs.Wants.{is_copying}
+use Rattle.vm_waits.specs.declared.waiting.On.TheVariants as on
+
+-- the list of frames, kept
+pub skip_kept : (old new : Parts) → new.skip ≡ old.skip → new.waits ≡ old.waits → KeepsSkip old new
+skip_kept old new skip waits = let rows = ap (λ (z : WaitTable). length z.rows) waits in record { skip = skip; fewer = omega (arith, rows) }
+
+pub skip_rows : (k : Parts) (waits : WaitTable) → length waits.rows ≡ length k.waits.rows → KeepsSkip k (record k { waits = waits })
+skip_rows k waits same = record { skip = refl; fewer = omega (arith, same) }
+
+pub skip_none : (k : Parts) → KeepsSkip k k
+skip_none k = record { skip = refl; fewer = omega arith }
+
+pub skip_both : (old mid new : Parts) → KeepsSkip old mid → KeepsSkip mid new → KeepsSkip old new
+skip_both old mid new first next = record { skip = next.skip ∙ first.skip; fewer = omega (arith, first.fewer, next.fewer) }
+
+pub spare_none : (k : Parts) → KeepsSpare k k
+spare_none k = record { buffers = refl; skip = refl; fewer = omega arith }
+
+pub spare_both : (old mid new : Parts) → KeepsSpare old mid → KeepsSpare mid new → KeepsSpare old new
+spare_both old mid new first next =
+    record { buffers = next.buffers ∙ first.buffers; skip = next.skip ∙ first.skip; fewer = omega (arith, first.fewer, next.fewer) }
+
+-- what holds whatever a call answers
+pub any_ok : {A B : Type 0} (r : Result A B) (P : Type 0) → P → OnOk r P
+any_ok (Ok x) P p = p
+any_ok (Err e) P p = tt
+
+-- each access that waits is run once at most
+run_once : (reason : On) → one_again reason + one_frame reason ≤ 1
+run_once on.Again = omega arith
+run_once (on.Ready object) = omega arith
+run_once (on.Page key) = omega arith
+run_once on.Frame = omega arith
+
+pub run_few : (rows : List Waiting) → to_run rows ≤ length rows
+run_few [] = omega arith
+run_few (w ∷ ws) =
+    let here = run_once w.on in
+    let rest = run_few ws in
+    omega (arith, here, rest)
+
+one_few : (b : Bool) → one b ≤ 1
+one_few true = omega arith
+one_few false = omega arith
+
+pub dues_full : (k : Parts) → dues k ≤ full_dues k
+dues_full k =
+    by (to_run k.waits.rows) (length k.waits.rows) (if_copies (count_copies k.waits.rows) (loose_frames k.memory))
+    (if_copies (count_copies k.waits.rows) (frame_count k.memory.frames)) (one_if_full k.memory.frames) (run_few k.waits.rows)
+    (copies_more (count_copies k.waits.rows) _ _ (omega arith)) (one_few _)
+  where
+    by : (run rows loose frames full : ℕ) → run ≤ rows → loose ≤ frames → full ≤ 1
+        → 3 * run + k.chains.marked + 2 * loose + full ≤ 3 * rows + k.chains.marked + 2 * frames + 1
+    by run rows loose frames full few most once = omega (arith, few, most, once)
+
+-- each page that is here has its own frame
+pub listed_few : {header : Header} {h : ℕ} {k : Parts} {ids : Ids} {past : List Event} → Matches header h k ids [] past
+    → EachOnce (k.memory.queues.inactive ++ k.memory.queues.active) → listed_pages k.memory.queues ≤ frame_count k.memory.frames
+listed_few {header} {h} {k} {ids} {past} m once =
+    let fits = m.frames.fits in
+    let few = room_once k.memory k.laundry (returns_out h past) m.fits.parts m.laundry (omega (arith, fits)) once in
+    omega (arith, few, m.laundry.room)
+
+-- so an end takes less than there is in front
+pub leaving_few : {header : Header} {h : ℕ} {k : Parts} {ids : Ids} {past : List Event} → Matches header h k ids [] past
+    → EachOnce (k.memory.queues.inactive ++ k.memory.queues.active) → 1 + leaving k ids ≤ front wide.Pages k
+leaving_few {header} {h} {k} {ids} {past} m once =
+    let listed = listed_few m once in
+    let live = live_known k.memory.objects ids.next_object in
+    by (listed_pages k.memory.queues) (live_below k.memory.objects ids.next_object) (frame_count k.memory.frames) (length k.memory.objects.entries) listed live
+  where
+    by : (listed live frames known : ℕ) → listed ≤ frames → live ≤ known → 1 + (listed + live) ≤ 2 * frames + known + 1
+    by listed live frames known few fewer = omega (arith, few, fewer)
+
+-- room for some is room for fewer
+pub more_fewer : (a i n j more : ℕ) (k : Parts) (room : ℕ) → HasMore a i more k room → n ≤ a → j ≤ i → HasMore n j more k room
+more_fewer a i n j more k room had fewer less = record {
+  tables = roomy_fewer a i n j k room had.tables fewer less;
+  log = omega (arith, had.log, fewer);
+}
+
+module _ (old new : Parts) (before after : Listed Event) where
+  -- enough is left for the accesses
+  pub room_behind : (cost makes more : ℕ) → Spends cost makes 0 old before new after → HasMore cost makes more old before.room → HasRoom more new after.room
+  room_behind cost makes more is had = record {
+    log = omega (arith, dues_full new, is.room, had.log);
+    rows = omega (arith, dues_full new, is.rows, had.tables.rows);
+    shadows = omega (arith, is.shadows, had.tables.shadows);
+    objects = omega (arith, is.objects, had.tables.objects);
+  }
+
+  -- and no more was told than that
+  pub told_behind : (cost makes most : ℕ) → cost ≤ most → Spends cost makes 0 old before new after
+      → length after.items + dues new ≤ length before.items + (full_dues old + most)
+  told_behind cost makes most few is = by (dues new) (full_dues new) (full_dues old) (dues_full new) is.told
+    where
+      by : (due full first : ℕ) → due ≤ full → length after.items + (full + 0) ≤ length before.items + (first + cost)
+          → length after.items + due ≤ length before.items + (first + most)
+      by due full first fewer told = omega (arith, few, fewer, told)
+
+-- what a command leaves
+abbrev pub Leaves : ℕ → Parts → ℕ → Type 0
+Leaves more k room = HasRoom more k room × ((0 < k.memory.buffers.count) × IsSkipRoom k)
+
+module _ {A B : Type 0} (r : Result A B) (old new : Parts) (before after : Listed Event) where
+  pub few_ok : (cost makes most : ℕ) → cost ≤ most → OnOk r (Spends cost makes 0 old before new after)
+      → OnOk r (length after.items + dues new ≤ length before.items + (full_dues old + most))
+  few_ok cost makes most few spends = by r spends
+    where
+      by : (r : Result A B) → OnOk r (Spends cost makes 0 old before new after)
+          → OnOk r (length after.items + dues new ≤ length before.items + (full_dues old + most))
+      by (Ok x) is = told_behind old new before after cost makes most few is
+      by (Err e) is = tt
+
+  -- a command that keeps its buffers
+  pub kept_ok : (cost makes most all more : ℕ) → cost ≤ most → makes ≤ all → OnOk r (Spends cost makes 0 old before new after) → OnOk r (KeepsSpare old new)
+      → HasMore most all more old before.room → HasBuffers old → IsSkipRoom old → OnOk r (Leaves more new after.room)
+  kept_ok cost makes most all more few less spends kept had has skip = by r spends kept
+    where
+      by : (r : Result A B) → OnOk r (Spends cost makes 0 old before new after) → OnOk r (KeepsSpare old new) → OnOk r (Leaves more new after.room)
+      by (Ok x) is keeps =
+          let buffers = ap (λ z. z.count) keeps.buffers in
+          let list = ap vec_capacity keeps.skip in (
+            room_behind old new before after cost makes more is (more_fewer most all cost makes more old before.room had few less),
+            (omega (arith, buffers, has), omega (arith, list, keeps.fewer, skip)),
+          )
+      by (Err e) is keeps = tt
+
+  -- one that ends what it can
+  pub ended_ok : (cost most all more : ℕ) → cost ≤ most → OnOk r (Spends cost 0 0 old before new after) → OnOk r (HasBuffers old → HasBuffers new)
+      → OnOk r (KeepsSkip old new) → HasMore most all more old before.room → HasBuffers old → IsSkipRoom old → OnOk r (Leaves more new after.room)
+  ended_ok cost most all more few spends buffers kept had has skip = by r spends buffers kept
+    where
+      by : (r : Result A B) → OnOk r (Spends cost 0 0 old before new after) → OnOk r (HasBuffers old → HasBuffers new) → OnOk r (KeepsSkip old new)
+          → OnOk r (Leaves more new after.room)
+      by (Ok x) is leaves keeps =
+          let list = ap vec_capacity keeps.skip in
+          let left = leaves has in (
+            room_behind old new before after cost 0 more is (more_fewer most all cost 0 more old before.room had few (omega arith)),
+            (omega (arith, left), omega (arith, list, keeps.fewer, skip)),
+          )
+      by (Err e) is leaves keeps = tt
+
+-- a load or a store is no slow copy
+pub begun_copies : (old mid new : List Waiting) (w : Waiting) → new ≡ mid ++ w ∷ [] → mid ≡ old → is_copying w.want ≡ false
+    → count_copies new ≡ count_copies old
+begun_copies old mid new w is same none =
+    let more = copies_begun mid w in
+    let whole : count_copies new ≡ count_copies (mid ++ w ∷ []) = ap count_copies is in
+    let were : count_copies mid ≡ count_copies old = ap count_copies same in
+    let zero : one (is_copying w.want) ≡ 0 = ap one none in
+    omega (arith, more, whole, were, zero)
+
+-- an access that begins tells one event, and runs once
+pub begun_spends : (k : Parts) (waits : WaitTable) (before after : Listed Event) (e : Event) → length waits.rows ≡ length k.waits.rows + 1
+    → count_copies waits.rows ≡ count_copies k.waits.rows → after.items ≡ e ∷ before.items → before.room ≤ after.room + 1
+    → Spends 4 4 0 k before (record k { waits = waits }) after
+begun_spends k waits before after e more copies told room =
+    let one : length after.items ≡ length before.items + 1 = rw told (omega arith) in
+    let framed = ap (λ n. if_copies n (frame_count k.memory.frames)) copies in
+    record {
+      told = omega (arith, one, more, framed);
+      room = omega (arith, room, more, framed);
+      rows = omega (arith, more, framed);
+      shadows = omega arith;
+      objects = omega arith;
+    }
+
+pub few_behind : {a b c : ℕ} → a ≤ b → b ≤ c → a ≤ c
+few_behind {a} {b} {c} first next = omega (arith, first, next)
+
+-- what the accesses that are run keep, behind one that began
+pub spare_behind : (k : Parts) (waits : WaitTable) (new : Parts) → length waits.rows ≡ length k.waits.rows + 1 → KeepsSpare (record k { waits = waits }) new
+    → (k.memory.buffers.count ≤ new.memory.buffers.count) × ((vec_capacity k.skip ≤ vec_capacity new.skip) × (length new.waits.rows ≤ length k.waits.rows + 1))
+spare_behind k waits new one keeps =
+    let buffers = ap (λ z. z.count) keeps.buffers in
+    let list = ap vec_capacity keeps.skip in
+    (omega (arith, buffers), (omega (arith, list), omega (arith, one, keeps.fewer)))
+
+-- what any command tells is below that in front
+pub up_to_front : (k : Parts) (told n most : ℕ) → n ≤ most → told + (full_dues k + n) ≤ told + (full_dues k + most)
+up_to_front k told n most few = omega (arith, few)
+
+-- what a command does in front goes by what it is
+pub few_in : (command doing : Command) (k : Parts) (n : ℕ) → command ≡ doing → n ≤ front (breadth_of doing) k → n ≤ front (breadth_of command) k
+few_in command doing k n is few = subst (λ (z : Command). n ≤ front (breadth_of z) k) (sym is) few
+
+pub made_in : (command doing : Command) (k : Parts) (n : ℕ) → command ≡ doing → n ≤ making (breadth_of doing) k → n ≤ making (breadth_of command) k
+made_in command doing k n is few = subst (λ (z : Command). n ≤ making (breadth_of z) k) (sym is) few
+
+pub on_err : {A B : Type 0} (r : Result A B) (P Q : Type 0) → (P → Q) → OnErr r P → OnErr r Q
+on_err (Ok x) P Q f p = tt
+on_err (Err e) P Q f p = f p
+
+pub ok_has : {A B : Type 0} (r : Result A B) (P : Type 0) → IsOk r → OnOk r P → P
+ok_has (Ok x) P ok p = p
+ok_has (Err e) P ok p = absurd (let bad : false ≡ true = ok in cc)
+
+-- an access that began leaves what was there
+pub begun_leaves : {A B : Type 0} (r : Result A B) (more : ℕ) (old new : Parts) (room : ℕ) → OnOk r (HasRoom more new room)
+    → OnOk r ((old.memory.buffers.count ≤ new.memory.buffers.count)
+    × ((vec_capacity old.skip ≤ vec_capacity new.skip) × (length new.waits.rows ≤ length old.waits.rows + 1))) → HasBuffers old
+    → length old.waits.rows + 1 < vec_capacity old.skip
+    → OnOk r (Leaves more new room)
+begun_leaves (Ok x) more old new room left keeps has skip = (left, (omega (arith, keeps.0, has), omega (arith, keeps.1.0, keeps.1.1, skip)))
+begun_leaves (Err e) more old new room left keeps has skip = tt
+
+-- a list with room for one access more has room
+pub skip_fewer : (k : Parts) → length k.waits.rows + 1 < vec_capacity k.skip → IsSkipRoom k
+skip_fewer k skip = omega (arith, skip)
+
+pub out_few : (k : Parts) → listed_pages k.memory.queues ≤ frame_count k.memory.frames → 2 * listed_pages k.memory.queues ≤ front wide.Pages k
+out_few k few = by (listed_pages k.memory.queues) (frame_count k.memory.frames) (length k.memory.objects.entries) few
+  where
+    by : (listed frames known : ℕ) → listed ≤ frames → 2 * listed ≤ 2 * frames + known + 1
+    by listed frames known few = omega (arith, few)
+
+-- what a word tells is below that in front
+pub word_few : (m : Message) (k : Parts) → listed_pages k.memory.queues ≤ frame_count k.memory.frames → heeding m k ≤ front (word_breadth m) k
+word_few (message.Lock page count returns flush lock reply) k few =
+    by (listed_pages k.memory.queues) (frame_count k.memory.frames) (length k.memory.objects.entries) few
+  where
+    by : (listed frames known : ℕ) → listed ≤ frames → listed + 1 ≤ 2 * frames + known + 1
+    by listed frames known few = omega (arith, few)
+word_few (message.Error page reason) k few = omega arith
+word_few other k few = omega arith
+
+pub heeds_one : (m : Message) (k : Parts) → 1 ≤ heeding m k
+heeds_one (message.Lock page count returns flush lock reply) k = omega arith
+heeds_one other k = omega arith
+
+heeds_few : (m : Message) (k : Parts) → heeding m k ≤ listed_pages k.memory.queues + 1
+heeds_few (message.Lock page count returns flush lock reply) k = omega arith
+heeds_few other k = omega arith
+
+-- and so is what it tells with the end of those whom it fails
+pub word_costs : (m : Message) (woken : Woken) (k mid : Parts) (ids : Ids) → listed_pages k.memory.queues ≤ frame_count k.memory.frames
+    → ((key : PageKey) → woken ≡ who.Fails key → Dies m k mid) → heeding m k + waking woken mid ids ≤ front (word_breadth m) k
+word_costs m (who.Fails key) k mid ids few dies =
+    let is = dies key refl in
+    let listed : listed_pages mid.memory.queues ≡ listed_pages k.memory.queues = ap listed_pages is.queues in
+    let live : live_below mid.memory.objects ids.next_object ≤ length k.memory.objects.entries = subst
+    (λ (z : ObjectTable). live_below mid.memory.objects ids.next_object ≤ length z.entries) is.objects (live_known mid.memory.objects ids.next_object) in
+    subst (λ (z : Breadth). heeding m k + leaving mid ids ≤ front z k) (sym is.breadth)
+    (by (heeding m k) (listed_pages k.memory.queues) (listed_pages mid.memory.queues) (live_below mid.memory.objects ids.next_object)
+    (frame_count k.memory.frames) (length k.memory.objects.entries) (heeds_few m k) listed live few)
+  where
+    by : (told listed there live frames known : ℕ) → told ≤ listed + 1 → there ≡ listed → live ≤ known → listed ≤ frames
+        → told + (there + live) ≤ 2 * frames + known + 1
+    by told listed there live frames known first same fewer few = omega (arith, first, same, fewer, few)
+word_costs m other k mid ids few dies = let told = word_few m k few in omega (arith, told)

@@ -1,0 +1,27 @@
+-- Tasks, their entries, regions, and the objects under these.
+pub mod ChildEntries
+pub mod CopiesCounted
+pub mod CountsChanged
+pub mod EntriesAtBoundary
+pub mod EntriesChanged
+pub mod EntriesCounted
+pub mod EntriesCut
+pub mod EntriesGone
+pub mod EntriesLeave
+pub mod EntriesRewritten
+pub mod ForkShares
+pub mod NothingChanged
+pub mod ObjectEnds
+pub mod ObjectsEnd
+pub mod RangeAllocated
+pub mod RegionCases
+pub mod RegionCopied
+pub mod RegionEnds
+pub mod RegionRows
+pub mod RegionsFilled
+pub mod RegionsInUse
+pub mod SharedEntries
+pub mod TaskMade
+pub mod TaskTables
+pub mod TasksEnd
+pub mod WhatStoodUnder

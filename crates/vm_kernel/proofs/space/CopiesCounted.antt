@@ -1,0 +1,68 @@
+-- How many entries a fork copies, and how many regions it marks, counted one after another.
+use Rattle.vm_kernel.proofs.Common.{Bool, Entry, List, Some, [], meets_declared, meets_range, ap, arith, copies, copies_from, drop, false, is_copied, length}
+use Rattle.vm_kernel.proofs.Common.{new_marks, refl, suc, true, zero, ℕ, ◌&&◌, ◌+◌, ◌==◌, ◌||◌, ◌∙◌, ◌∷◌, ◌≡◌, ◌≤◌}
+use Rattle.std.proofs.Common.{if◌then◌else◌, nat_lt, not, slice_get}
+use Rattle.vm_kernel.proofs.space.CountsChanged.{next_row}
+
+pub drop_past : (rows : List Entry) (i : ℕ) → length rows ≤ i → drop i rows ≡ []
+drop_past [] zero le = refl
+drop_past [] (suc i) le = refl
+drop_past (row ∷ rows) zero le = absurd (omega arith)
+drop_past (row ∷ rows) (suc i) le = drop_past rows i (omega arith)
+
+-- how many are copied, counted one after another
+
+pub copies_one : (rows : List Entry) (i : ℕ) (row : Entry) → slice_get rows i ≡ Some row → is_copied row.inherit ≡ true
+    → copies (drop i rows) ≡ copies (drop (i + 1) rows) + 1
+copies_one rows i row found is = ap copies (next_row rows i row found) ∙ rw is refl
+
+pub copies_other : (rows : List Entry) (i : ℕ) (row : Entry) → slice_get rows i ≡ Some row → is_copied row.inherit ≡ false
+    → copies (drop i rows) ≡ copies (drop (i + 1) rows)
+copies_other rows i row found is = ap copies (next_row rows i row found) ∙ rw is refl
+
+from_next : (rows : List Entry) (i region : ℕ) (row : Entry) → slice_get rows i ≡ Some row
+    → copies_from region (drop i rows) ≡ ((is_copied row.inherit && row.region.0 == region) || copies_from region (drop (i + 1) rows))
+from_next rows i region row found = ap (copies_from region) (next_row rows i row found)
+
+pub from_one : (rows : List Entry) (i region : ℕ) (row : Entry) → slice_get rows i ≡ Some row → (is_copied row.inherit && row.region.0 == region) ≡ true
+    → copies_from region (drop i rows) ≡ true
+from_one rows i region row found is = from_next rows i region row found ∙ rw is refl
+
+pub from_other : (rows : List Entry) (i region : ℕ) (row : Entry) → slice_get rows i ≡ Some row → (is_copied row.inherit && row.region.0 == region) ≡ false
+    → copies_from region (drop i rows) ≡ copies_from region (drop (i + 1) rows)
+from_other rows i region row found is = from_next rows i region row found ∙ rw is refl
+
+-- the entry makes a mark
+abbrev pub makes_mark : (ℕ → Bool) → Entry → List Entry → Bool
+makes_mark marked row later = is_copied row.inherit && (not (copies_from row.region.0 later) && not (marked row.region.0))
+
+pub marks_one : (marked : ℕ → Bool) (rows : List Entry) (i : ℕ) (row : Entry) → slice_get rows i ≡ Some row → makes_mark marked row (drop (i + 1) rows) ≡ true
+    → new_marks marked (drop i rows) ≡ new_marks marked (drop (i + 1) rows) + 1
+marks_one marked rows i row found is = ap (new_marks marked) (next_row rows i row found) ∙ rw is refl
+
+pub marks_other : (marked : ℕ → Bool) (rows : List Entry) (i : ℕ) (row : Entry) → slice_get rows i ≡ Some row
+    → makes_mark marked row (drop (i + 1) rows) ≡ false → new_marks marked (drop i rows) ≡ new_marks marked (drop (i + 1) rows)
+marks_other marked rows i row found is = ap (new_marks marked) (next_row rows i row found) ∙ rw is refl
+
+-- no more regions are marked than entries are copied
+pub marks_few : (marked : ℕ → Bool) (rows : List Entry) → new_marks marked rows ≤ copies rows
+marks_few marked [] = omega arith
+marks_few marked (row ∷ rows) = more (is_copied row.inherit) (not (copies_from row.region.0 rows) && not (marked row.region.0)) _ _ (marks_few marked rows)
+  where
+    more : (copied marks : Bool) (n m : ℕ) → n ≤ m → (if copied && marks then n + 1 else n) ≤ (if copied then m + 1 else m)
+    more true true n m le = omega (arith, le)
+    more true false n m le = omega (arith, le)
+    more false marks n m le = le
+
+-- whether one of the entries is on a declared object and in a range, one after another
+
+pub meets_one : (rows : List Entry) (i declared address bytes : ℕ) (row : Entry) → slice_get rows i ≡ Some row
+    → (nat_lt row.region.0 declared && meets_range address bytes (row ∷ [])) ≡ true → meets_declared declared address bytes (drop i rows) ≡ true
+meets_one rows i declared address bytes row found is =
+    ap (meets_declared declared address bytes) (next_row rows i row found) ∙ ap (λ b. b || meets_declared declared address bytes (drop (i + 1) rows)) is
+
+pub meets_other : (rows : List Entry) (i declared address bytes : ℕ) (row : Entry) → slice_get rows i ≡ Some row
+    → (nat_lt row.region.0 declared && meets_range address bytes (row ∷ [])) ≡ false
+    → meets_declared declared address bytes (drop i rows) ≡ meets_declared declared address bytes (drop (i + 1) rows)
+meets_other rows i declared address bytes row found is =
+    ap (meets_declared declared address bytes) (next_row rows i row found) ∙ ap (λ b. b || meets_declared declared address bytes (drop (i + 1) rows)) is

@@ -1,0 +1,628 @@
+-- A fork makes a child, and gives it what is shared, and copies of what is copied, one entry after another.
+use Rattle.vm_kernel.proofs.Common.{Access, AllRows, AreEntries, ArePlain, CanShare, ChainTable, ChangesOnly, Command, Enters, Entry, Event, Fit, HasEntries}
+use Rattle.vm_kernel.proofs.Common.{HasWaiters, HasWholePages, HaveHomes, Header, HostParts, Ids, InOrder, IsFilledIn, IsInside, IsShared, IsSome, List, Mapped}
+use Rattle.vm_kernel.proofs.Common.{None, Option, Outside, Parts, PutsEntries, Ran, RegionRow, Rests, Shares, Some, Starts, Target, TaskId, Waiting, []}
+use Rattle.vm_kernel.proofs.Common.{all_tasks, ap, arith, code_where, copies, copy_target, count_again, count_by, drop, entered, entering, entries_in}
+use Rattle.vm_kernel.proofs.Common.{entries_in_row, entries_of, entry, entry_at, eqb_tells, false, got, has_entry, has_region, head, holds, home_stays}
+use Rattle.vm_kernel.proofs.Common.{homes_next, host_id, host_of, if◌then◌else◌, in_use, inl, inr, is_copied, is_filled, is_fork_full, is_none, is_range}
+use Rattle.vm_kernel.proofs.Common.{is_some, is_woken, length, length_entered, lives_on, most_entries, named, nat_tests, next_region, one_case, pages_in, refl}
+use Rattle.vm_kernel.proofs.Common.{region_at, region_entries, region_of, region_pages, reverse, reverse-append, rows_entered, rows_in, rows_known, rows_map}
+use Rattle.vm_kernel.proofs.Common.{slice_get, slice_get_within, some_is, subst, sym, tasks, true, unwrap_or, waiting, ℕ, ◌%◌, ◌*◌, ◌++◌, ◌+◌, ◌/◌, ◌<◌, ◌==◌}
+use Rattle.vm_kernel.proofs.Common.{◌^◌, ◌∙◌, ◌∷◌, ◌≡◌, ◌≢◌, ◌≤◌, ◌⊎◌}
+use Rattle.vm_kernel.proofs.space.RegionsFilled.{counted_unfilled, entry_some, recount_filled, same_waiting}
+use Rattle.vm_kernel.proofs.space.RegionsInUse.{fills_here, holds_rows, paged_file, paged_temporary, unfilled, uses_entered}
+use Rattle.vm_state.proofs.Filling.{copies_kept, rows_unmade}
+use Rattle.std.proofs.Common.{nat_lt}
+use Rattle.vm_abroad.proofs.Elsewhere.{filled_other}
+use Rattle.vm_abroad.proofs.Home.{object_stays}
+use Rattle.vm_base.specs.declared.code.Code.TheVariants as code
+use Rattle.vm_base.specs.declared.ids.Inherit.TheVariants as inherit
+use Rattle.vm_base.specs.declared.ids.RegionId.{RegionId}
+use Rattle.vm_legal.specs.Follows.{inherits, inherits_all, next_behind}
+use Rattle.vm_maps.specs.Judge.{judged}
+use Rattle.vm_model.specs.declared.event.Event.TheVariants as event
+use Rattle.vm_model.specs.declared.command.Command.TheVariants as command
+use Rattle.vm_state.proofs.Changing.{SameButEntries, regions_recounted}
+use Rattle.vm_model.specs.Waiting.{is_target}
+use Rattle.vm_state.proofs.Declared.{kind_cases}
+use Rattle.vm_state.proofs.Files.{files_entered}
+use Rattle.vm_state.proofs.Marks.{marked_copied}
+use Rattle.vm_state.proofs.Referred.{referred_recounted}
+use Rattle.vm_state.proofs.Referring.{small_region}
+use Rattle.vm_state.proofs.Waited.{told_changed, waits_changed}
+use Rattle.vm_state.specs.Places.{with_entries}
+use Rattle.vm_supply.specs.declared.woken.Woken.TheVariants as woken
+use Rattle.vm_kernel.specs.Forking.{EntersCopy, entry_on}
+use Rattle.vm_kernel.proofs.space.CopiesCounted.{drop_past}
+use Rattle.vm_kernel.proofs.space.RegionCopied.{MayCopy, copied, free_of, heads_copied, heads_more, keeps_recounted, no_row, rests_copied, same_put}
+use Rattle.vm_kernel.proofs.space.RegionCopied.{told_copied, used_there}
+use Rattle.vm_kernel.proofs.space.EntriesCounted.{by_few, most_is, none_on, on_entered, one_on}
+use Rattle.vm_kernel.proofs.space.ChildEntries.{free_behind, found_first, told_next, whole_at}
+use Rattle.vm_kernel.proofs.steps.EventsGrow.{suffices}
+use Rattle.vm_kernel.proofs.steps.HeadAlone.{Heads, passed, ran_head}
+use Rattle.vm_kernel.proofs.space.TaskMade.{rests_made}
+use Rattle.vm_kernel.proofs.abroad.OwnEvents.{own_new, own_task}
+use Rattle.vm_kernel.proofs.abroad.OwnHost.{free_in, lives_here, lives_in, named_host, rows_here}
+use Rattle.vm_kernel.proofs.space.CountsChanged.{has_same, next_row, pages_same, recounts_put, row_among}
+use Rattle.vm_kernel.proofs.space.RegionRows.{region_row}
+use Rattle.vm_kernel.proofs.steps.RoomOfFork.{HasRoom, room_copied, room_more, room_of, room_other}
+use Rattle.vm_kernel.proofs.space.TaskTables.{Keeps, entries_changed, inside_kept, tasks_entered}
+use Rattle.vm_kernel.proofs.space.SharedEntries.{kinds_recounted, shared_entered}
+use Rattle.vm_kernel.proofs.space.NothingChanged.{controls_stay, regions_behind}
+use Rattle.vm_kernel.proofs.space.EntriesRewritten.{lives_below}
+use Rattle.vm_kernel.proofs.controls.LockReplied.{replied_behind}
+use Rattle.vm_state.specs.Passed.{IsUnmet, StaysAway}
+
+-- One entry is shared.
+
+-- what an entry has that may be shared
+pub record MayShare (header : Header) (task : ℕ) (row : Entry) (past : List Event) (k : Parts) : Type 0 where
+  pub counted : 0 < region_entries k.chains row.region.0
+  pub lives : entries_in task k.maps ≡ Some (rows_in task k.maps)
+  pub idle : waiting task past ≡ None
+  pub free : judged k.maps.size (entering row) (rows_in task k.maps) ≡ None
+  pub pages : row.offset + row.bytes / k.maps.size < 2 ^ 32
+  pub inside : IsInside header.size k.chains row
+  pub shared : IsShared (named header) row
+
+pub lives_some : (o : Option (List Entry)) (rows : List Entry) → o ≡ Some rows → IsSome o
+lives_some None rows is = absurd (let bad : None ≡ Some rows = is in cc)
+lives_some (Some more) rows is = refl
+
+pub same_rows : (a b : List Entry) (o : Option (List Entry)) → o ≡ Some a → o ≡ Some b → a ≡ b
+same_rows a b o one two = let both : ◌≡◌ {A = Option (List Entry)} (Some a) (Some b) = sym one ∙ two in cc
+
+-- the number of a region's entries is far below its limit
+pub few_entries : (size : ℕ) (maps : Mapped) (chains : ChainTable) (r : ℕ) → HasEntries size maps chains [] → has_region chains r ≡ true
+    → region_entries chains r + 1 < 2 ^ 32
+few_entries size maps chains r has there =
+    let row = region_row chains r there in
+    let same : region_entries chains r ≡ row.0.entries = ap entries_in_row row.1 in
+    let most : count_by all_tasks r maps ≤ 1024 * most_entries = subst (λ (z : ℕ). count_by all_tasks r maps ≤ z * most_entries) most_is
+    (by_few all_tasks r most_entries maps has.few) in
+    omega (arith, same, has.counts r row.0 row.1, most)
+
+pub can_share : (header : Header) (h task : ℕ) (row : Entry) (past : List Event) (k : Parts) (ids : Ids) → Rests header h k ids past
+    → MayShare header task row past k → CanShare task row k
+can_share header h task row past k ids rests may =
+    record {
+      lives = lives_some (entries_in task k.maps) (rows_in task k.maps) may.lives;
+      free = may.free;
+      pages = may.pages;
+      region = may.inside.region;
+      few = few_entries header.size k.maps k.chains row.region.0 rests.matches.entries may.inside.region;
+    }
+
+-- the counts of the regions, where one has an entry more
+
+keeps_share : (r n : ℕ) (cs cs2 : ChainTable) → PutsEntries r n cs cs2 → Keeps cs cs2
+keeps_share r n cs cs2 put =
+    let recounts = recounts_put r n cs cs2 put in
+    record { there = λ q is. has_same _ cs cs2 recounts q ∙ is; pages = λ q is. pages_same _ cs cs2 recounts q }
+
+used_share : (r n : ℕ) (row : RegionRow) (cs cs2 : ChainTable) (list : List Waiting) → region_at cs r ≡ Some row → PutsEntries r (n + 1) cs cs2
+    → ((r : ℕ) (row : RegionRow) → region_at cs r ≡ Some row → (0 < row.entries) ⊎ IsFilledIn list r)
+    → (r : ℕ) (row : RegionRow) → region_at cs2 r ≡ Some row → (0 < row.entries) ⊎ IsFilledIn list r
+used_share r n row cs cs2 list there put used q now found =
+    elim (one_case r q (with_entries (n + 1) (region_at cs r)) (region_at cs q) (region_at cs2 q) (put.at q)) [
+      | inl this ↦
+          let count = ap (λ z. z.entries) (some_is (record row { entries = n + 1 }) now (sym (this.1 ∙ ap (with_entries (n + 1)) there) ∙ found)) in
+          inl (omega (arith, count))
+      | inr other ↦ used q now (sym other.1 ∙ found)
+    ]
+
+pub entries_share : (size : ℕ) (maps new : Mapped) (cs cs2 : ChainTable) (task : ℕ) (row : Entry) → HasEntries size maps cs [] → IsInside size cs row
+    → PutsEntries row.region.0 (region_entries cs row.region.0 + 1) cs cs2
+    → ChangesOnly maps new task (Some (entered row (rows_in task maps))) → task < all_tasks → length (rows_in task maps) < most_entries
+    → HasEntries size new cs2 []
+entries_share size maps new cs cs2 task row has inside put changes below room =
+    let r = row.region.0 in
+    let n = region_entries cs r in
+    let there = region_row cs r inside.region in
+    let keeps = keeps_share r (n + 1) cs cs2 put in
+    entries_changed size maps new cs cs2 task (entered row (rows_in task maps)) has keeps changes below
+    (rows_entered (IsInside size cs2) row (rows_in task maps) (inside_kept size cs cs2 row keeps inside)
+    (rows_map (IsInside size cs) (IsInside size cs2) (λ other is. inside_kept size cs cs2 other keeps is) (rows_in task maps) (has.inside task)))
+    (omega (arith, length_entered row (rows_in task maps), room))
+    (λ q now found. elim (one_case r q (with_entries (n + 1) (region_at cs r)) (region_at cs q) (region_at cs2 q) (put.at q)) [
+      | inl this ↦
+          let count = ap (λ z. z.entries) (some_is (record there.0 { entries = n + 1 }) now (sym (this.1 ∙ ap (with_entries (n + 1)) there.1) ∙ found)) in
+          let were : n ≡ there.0.entries = ap entries_in_row there.1 in
+          let old = subst (λ (z : ℕ). there.0.entries ≡ count_by all_tasks z maps + 0) this.0 (has.counts r there.0 there.1) in
+          omega (arith, count, were, old, one_on r q this.0, on_entered q row (rows_in task maps))
+      | inr other ↦ omega (arith, has.counts q now (sym other.1 ∙ found), none_on r q other.0, on_entered q row (rows_in task maps))
+    ])
+
+-- no slow copy fills a declared region
+
+target_declared : (header : Header) (r : ℕ) (x : Option Target) → r < named header → ((target : Target) → x ≡ Some target → named header ≤ target.region)
+    → is_target r x ≡ false
+target_declared header r None declared temporary = refl
+target_declared header r (Some target) declared temporary = let least = temporary target refl in grind (arith, nat_tests)
+
+pub unfilled_declared : (header : Header) (r : ℕ) (list : List ℕ) (past : List Event) → r < named header → HaveHomes header past → is_filled r list past ≡ false
+unfilled_declared header r [] past declared homes = refl
+unfilled_declared header r (task ∷ others) past declared homes =
+    rw (filled_other r (waiting task past) (copy_target task past) (target_declared header r (copy_target task past) declared (homes.fills task)))
+    (unfilled_declared header r others past declared homes)
+
+-- the entry has its cause
+pub share_enters : (header : Header) (h : ℕ) (task : TaskId) (row : Entry) (past : List Event) (k : Parts) (ids : Ids) → Rests header h k ids past
+    → MayShare header task.0 row past k → Enters header task.0 row.bytes row.region.0 row.offset past
+share_enters header h task row past k ids rests may =
+    let m = rests.matches in
+    let r = row.region.0 in
+    let there = region_row k.chains r may.inside.region in
+    let used = used_there header h k ids past r there.0 rests there.1 in
+    let pages : (region_of header r past).pages ≡ region_pages k.chains r = ap (λ z. z.pages) (m.regions.rows r there.0 there.1) ∙ sym (ap pages_in there.1) in
+    let inside = may.inside.inside.whole in
+    record {
+      idle = may.idle;
+      host = h;
+      lives = lives_here m.tasks may.lives;
+      whole = subst (λ (z : ℕ). row.bytes % z ≡ 0) m.tasks.sized (free_of k.maps.size row (rows_in task.0 k.maps) may.free).whole;
+      inside = omega (arith, inside, pages);
+      made = small_region m.regions r there.0 there.1;
+      used = λ temporary. used (paged_temporary header r temporary);
+      file = λ is. used (paged_file header r is);
+      unfilled = elim (kind_cases header r) [
+        | inl declared ↦ unfilled_declared header r (tasks past) past declared m.homeless
+        | inr temporary ↦ unfilled header.size r (tasks past) k.maps k.waits.rows past (fills_here {past = past} rests.waits rests.used.copies)
+            (counted_unfilled r there.0 rests.used.copies there.1 (subst (λ (z : ℕ). 0 < z) (ap entries_in_row there.1) may.counted))
+            (λ t none. m.uses.apart t r none (inl (used (paged_temporary header r temporary))))
+      ];
+    }
+
+-- the kernel behind the entry
+pub rests_shared : (header : Header) (h : ℕ) (outside : Outside) (doing : Command) (task : TaskId) (row : Entry) (past : List Event) (k k2 : Parts) (ids : Ids)
+    (before after : List Event) → Rests header h k ids past → MayShare header task.0 row past k
+    → Shares task row k k2 before after → Rests header h k2 ids (got task row ∷ past)
+rests_shared header h outside doing task row past k k2 ids before after rests may s =
+    let m = rests.matches in
+    let size = header.size in
+    let r = row.region.0 in
+    let e = got task row in
+    let there = region_row k.chains r may.inside.region in
+    let recount : SameButEntries k.chains k2.chains = same_put r (region_entries k.chains r + 1) k.chains k2.chains s.counts in
+    let lives = may.lives in
+    let below = lives_below size task.0 k.maps k.chains [] m.entries lives in
+    let free = free_of k.maps.size row (rows_in task.0 k.maps) may.free in
+    let waits_at = λ (t : ℕ). waiting t past in
+    let none = no_row k.maps.size (entry k.waits.rows task.0) (waiting task.0 past) (rests.waits.is task.0 (ap is_some lives)) may.idle in
+    let now_waits : HasWaiters k2.maps k2.chains k.memory.resident k.memory.objects k.waits.rows (is_woken woken.Nobody) waits_at (StaysAway header h past)
+    (IsUnmet header h past) =
+    waits_changed k.maps k2.maps k.chains k2.chains k.memory.resident k.memory.objects k.waits.rows (is_woken woken.Nobody) waits_at task.0
+    (Some (entered row (rows_in task.0 k.maps))) rests.waits s.maps none (keeps_recounted k.chains k2.chains recount)
+    (told_changed k.maps k2.maps k.waits.rows waits_at task.0 (rows_in task.0 k.maps) (Some (entered row (rows_in task.0 k.maps))) rests.waits.is s.maps
+    lives) in
+    record {
+      matches =
+          record {
+            ranged = m.ranged;
+            declared = ap (λ z. z.items) s.declared ∙ m.declared;
+            kinds =
+                rw s.memory (kinds_recounted header _ k.memory.objects k.chains k2.chains
+                (recounts_put r (region_entries k.chains r + 1) k.chains k2.chains s.counts) m.kinds);
+            shared = shared_entered (named header) task.0 k.maps k2.maps row s.maps may.shared m.shared;
+            known = m.known;
+            size = s.size ∙ m.size;
+            host = rw s.host m.host;
+            fits =
+                record {
+                  parts = subst Fit (sym s.memory) m.fits.parts;
+                  plain = subst (λ (z : HostParts). ArePlain z.resident) (sym s.memory) m.fits.plain;
+                  buffers = ap (λ (z : HostParts). z.buffers.size) s.memory ∙ (m.fits.buffers ∙ sym s.size);
+                };
+            tasks = tasks_entered h size k.maps k2.maps past task row m.tasks s.maps lives;
+            regions =
+                rw s.memory (regions_behind header e past k2.chains k.memory.objects ids (λ r. refl)
+                (regions_recounted k.chains k2.chains k.memory.objects ids _ _ _ _ _ recount m.regions));
+            files = rw s.memory (files_entered header h task row k.memory.objects past (λ file. m.homes r there.0 (paged_file header r file) there.1) m.files);
+            homes = λ q now paged found. home_stays q h e past (m.homes q (was_row recount q now found).0 paged (was_row recount q now found).1);
+            entries = entries_share size k.maps k2.maps k.chains k2.chains task.0 row m.entries may.inside s.counts s.maps below free.room;
+            pages = rw s.memory m.pages;
+            uses =
+                rw s.waits (uses_entered header k.maps k2.maps (λ q. in_use header h q past) (tasks past) (λ t q. holds header.size t q (e ∷ past))
+                (next_region header past) task.0 row (lives_on h task.0 past) (λ q temporary apart. m.uses.used q temporary)
+                (λ q file apart some. m.uses.files q file some) (used_there header h k ids past r there.0 rests there.1) m.uses.among s.maps lives below
+                (m.tasks.hosts task.0 ∙ ap is_some lives)
+                (λ t q away why. holds_rows header.size task.0 t q k.maps (rows_in task.0 k.maps) _ past lives away ∙ m.uses.apart t q away why));
+            controls = rw s.memory (controls_stay (λ o at_home. object_stays o h e past at_home) m.controls);
+            homeless = homes_next header outside e past (doing, share_enters header h task row past k ids rests may) m.homeless;
+            settled = record { none_owed = refl; shut = λ region. refl };
+            replied = replied_behind tt m.replied;
+            laundry = rw (s.memory, s.laundry) m.laundry;
+            frames = rw s.memory m.frames;
+          };
+      used = rw (s.memory, s.waits) (record {
+        regions = used_share r (region_entries k.chains r) there.0 k.chains k2.chains k.waits.rows there.1 s.counts rests.used.regions;
+        copies =
+            copies_kept k.maps k2.maps k.chains k2.chains k.memory.resident k.memory.resident rests.used.copies
+            (same_waiting k.maps k2.maps task.0 (Some (entered row (rows_in task.0 k.maps))) k.waits.rows s.maps none)
+            (recount_filled _ k.chains k2.chains (recounts_put r (region_entries k.chains r + 1) k.chains k2.chains s.counts) none_counted)
+            (rows_unmade k.chains k.memory.resident);
+      });
+      referred = rw s.memory (referred_recounted k.chains k2.chains k.memory.objects k.memory.resident recount rests.referred);
+      waits = rw (s.memory, s.waits) now_waits;
+      order = rw s.waits rests.order;
+      idle = ap (λ z. count_again z.rows) s.waits ∙ rests.idle;
+    }
+  where
+    none_counted : (q : ℕ) → has_region k.chains q ≡ true → region_entries k.chains q ≡ 0
+        → (if row.region.0 == q then region_entries k.chains row.region.0 + 1 else region_entries k.chains q) ≡ 0
+    none_counted q there_q none_q = elim (eqb_tells row.region.0 q) [
+      | inl same ↦ let some = may.counted in let that = ap (region_entries k.chains) same.1 in absurd (omega (arith, some, that, none_q))
+      | inr apart ↦ ap (λ b. if b then region_entries k.chains row.region.0 + 1 else region_entries k.chains q) apart.0 ∙ none_q
+    ]
+
+    some_of : (n : ℕ) (x : Option RegionRow) (now : RegionRow) → with_entries n x ≡ Some now → (was : RegionRow) × (x ≡ Some was)
+    some_of n None now is = absurd (let bad : None ≡ Some now = is in cc)
+    some_of n (Some was) now is = (was, refl)
+
+    was_row : SameButEntries k.chains k2.chains → (q : ℕ) (now : RegionRow) → region_at k2.chains q ≡ Some now → (was : RegionRow)
+        × (region_at k.chains q ≡ Some was)
+    was_row same q now found = some_of (same.count q) (region_at k.chains q) now (sym (same.at q) ∙ found)
+
+-- The fork.
+
+-- a task that can be forked lives, its child doesn't, and what is copied fits
+pub record MayFork (header : Header) (k : Parts) (task child : ℕ) (past : List Event) : Type 0 where
+  pub lives : entries_in task k.maps ≡ Some (rows_in task k.maps)
+  pub free : entries_in child k.maps ≡ None
+  pub new : is_some (host_of child past) ≡ false
+  pub room : HasRoom header (rows_in task k.maps) past
+
+pub may_fork : (header : Header) (h : ℕ) (task child : TaskId) (past : List Event) (k : Parts) (ids : Ids) (events : List Event)
+    → Starts header h (command.Fork task child) past k ids events → MayFork header k task.0 child.0 past
+may_fork header h task child past k ids events s =
+    let m = s.rests.matches in
+    let rows = entries_of header.size task.0 past in
+    let last = code_where (is_fork_full header rows past) code.TableFull None in
+    let next = code_where (is_some (waiting task.0 past)) code.Blocked last in
+    let first = passed (is_none (host_of task.0 past)) code.NoSuchName (code_where (is_some (host_of child.0 past)) code.NameTaken next) s.accepted in
+    let second = passed (is_some (host_of child.0 past)) code.NameTaken next first.1 in
+    let third = passed (is_some (waiting task.0 past)) code.Blocked last second.1 in
+    let fourth = passed (is_fork_full header rows past) code.TableFull None third.1 in
+    let lives = lives_in task.0 m.tasks s.acts in
+    record {
+      lives = lives;
+      free = free_in child.0 m.tasks second.0;
+      new = second.0;
+      room = subst (λ (z : List Entry). HasRoom header z past) (rows_here m.tasks lives) (room_of header rows past fourth.0);
+    }
+
+-- what a fork tells
+abbrev pub forked : Header → ℕ → TaskId → List Entry → List Event → List Event
+forked header h child rows past = event.TaskMade child (host_id h) ∷ inherits_all header.size child (next_region header past) rows
+
+-- So many entries of the forked task were given to its child, or weren't to be: the child's end in front of the others, which fit, and
+-- what is left to tell is told of the others.
+pub record HasForked (header : Header) (h : ℕ) (outside : Outside) (task child : TaskId) (rows : List Entry) (i : ℕ) (past : List Event) (k : Parts) (ids : Ids)
+    (events : List Event) : Type 0 where
+  pub apart : task.0 ≢ child.0
+  pub rests : Rests header h k ids (events ++ past)
+  pub heads : Heads header h outside (command.Fork task child) past events
+  pub others : entries_in task.0 k.maps ≡ Some rows
+  pub lives : entries_in child.0 k.maps ≡ Some (rows_in child.0 k.maps)
+  pub front : ℕ
+  pub own : AllRows (λ mine. mine.address + mine.bytes ≤ front) (rows_in child.0 k.maps)
+  pub order : InOrder front (2 ^ 32) (drop i rows)
+  pub few : length (rows_in child.0 k.maps) ≤ i
+  pub idle : waiting child.0 (events ++ past) ≡ None
+  pub room : HasRoom header (drop i rows) (events ++ past)
+  pub told : reverse (forked header h child rows past) ≡ reverse (inherits_all header.size child ids.next_region (drop i rows)) ++ events
+
+-- nothing has been given yet
+pub fork_start : (header : Header) (h : ℕ) (outside : Outside) (task child : TaskId) (past : List Event) (k : Parts) (ids : Ids) (before after : List Event)
+    (maps : Mapped) → Starts header h (command.Fork task child) past k ids before
+    → ChangesOnly k.maps maps child.0 (Some []) → (list : List Entry) → entries_in task.0 maps ≡ Some list → InOrder 0 (2 ^ 32) list
+    → after ≡ event.TaskMade child k.host ∷ before
+    → HasForked header h outside task child (rows_in task.0 k.maps) 0 past (record k { maps = maps }) ids after
+fork_start header h outside task child past k ids before after maps s changes list still in_order told =
+    let m = s.rests.matches in
+    let may = may_fork header h task child past k ids before s in
+    let rows = rows_in task.0 k.maps in
+    let apart : task.0 ≢ child.0 = λ e. (let bad : None ≡ Some rows = sym may.free ∙ (ap (λ z. entries_in z k.maps) (sym e) ∙ may.lives) in cc) in
+    let e : Event = event.TaskMade child (host_id h) in
+    let log : after ≡ e ∷ [] = told ∙ (ap (λ z. event.TaskMade child z ∷ before) (named_host k.host h m.host) ∙ ap (λ z. e ∷ z) s.nothing) in
+    let nobody : rows_in child.0 maps ≡ [] = ap (λ z. unwrap_or z []) changes.changed in
+    subst (λ (z : List Event). HasForked header h outside task child rows 0 past (record k { maps = maps }) ids z) (sym log)
+    (record {
+      apart = apart;
+      rests = rests_made header h child past k ids maps s.rests changes may.free s.range.1;
+      heads =
+          heads_more header h outside (command.Fork task child) past [] e (record
+          { licensed = tt; own_bytes = tt; frames = tt; inner = tt; said = tt; mine = tt })
+          (record {
+            settled = m.settled;
+            cause = tt;
+            own_bytes = tt;
+            frames = suffices header h k.memory.frames past m.frames;
+            inner = tt;
+            said = refl;
+            own = own_new h child.0 past may.new;
+            creates = tt;
+          });
+      others = changes.others task.0 apart ∙ may.lives;
+      lives = changes.changed ∙ ap Some (sym nobody);
+      front = 0;
+      own = subst (AllRows (λ mine. mine.address + mine.bytes ≤ 0)) (sym nobody) tt;
+      order = subst (InOrder 0 (2 ^ 32)) (same_rows list rows (entries_in task.0 maps) still (changes.others task.0 apart ∙ may.lives)) in_order;
+      few = let none = ap length nobody in omega (arith, none);
+      idle = not_begun child.0 (waiting child.0 past);
+      room = room_more header rows past (e ∷ past) refl refl (λ r. refl) may.room;
+      told =
+          reverse-append (e ∷ []) (inherits_all header.size child (next_region header past) rows)
+          ∙ ap (λ (z : ℕ). reverse (inherits_all header.size child z rows) ++ e ∷ []) (sym m.regions.region);
+    })
+  where
+    not_begun : (n : ℕ) (other : Option Access) → ◌≡◌ {A = Option Access} (if n == n then None else other) None
+    not_begun n other = elim (eqb_tells n n) [ inl same ↦ ap (λ b. if b then None else other) same.0 | inr apart ↦ absurd (apart.1 refl) ]
+
+-- the next entry, as far as its place goes
+record IsNext (header : Header) (child : ℕ) (rows : List Entry) (i : ℕ) (row : Entry) (k : Parts) : Type 0 where
+  leads : has_entry row.region.0 rows ≡ true
+  inside : IsInside header.size k.chains row
+  shared : IsShared (named header) row
+  whole : HasWholePages k.maps.size row
+  free : judged k.maps.size (entering row) (rows_in child k.maps) ≡ None
+  own : AllRows (λ mine. mine.address + mine.bytes ≤ row.address + row.bytes) (rows_in child k.maps)
+  order : InOrder (row.address + row.bytes) (2 ^ 32) (drop (i + 1) rows)
+
+is_next : (header : Header) (h : ℕ) (outside : Outside) (task child : TaskId) (rows : List Entry) (i : ℕ) (row : Entry) (past : List Event) (k : Parts)
+    (ids : Ids) (events : List Event) → HasForked header h outside task child rows i past k ids events
+    → AreEntries k.maps.size rows → slice_get rows i ≡ Some row → IsNext header child.0 rows i row k
+is_next header h outside task child rows i row past k ids events f sound found =
+    let size = k.maps.size in
+    let order = subst (InOrder f.front (2 ^ 32)) (next_row rows i row found) f.order in
+    let start : f.front ≤ row.address = order.0 in
+    let whole = whole_at size i rows row sound.whole found in
+    let here : rows_in task.0 k.maps ≡ rows = ap (λ z. unwrap_or z []) f.others in
+    let inside = row_among (IsInside header.size k.chains) rows i row (subst (AllRows (IsInside header.size k.chains)) here
+    (f.rests.matches.entries.inside task.0)) found in
+    let low = inside.below in
+    let some = inside.some in
+    let even = whole.address in
+    let pages = whole.bytes in
+    let range : is_range size row.address row.bytes ≡ true = grind (arith, nat_tests) in
+    let free = free_behind row (rows_in child.0 k.maps) (rows_map (λ mine. mine.address + mine.bytes ≤ f.front)
+    (λ mine. mine.address + mine.bytes ≤ row.address) (λ mine le. omega (arith, le, start)) (rows_in child.0 k.maps) f.own) in
+    let count = slice_get_within rows i row found in
+    let most = sound.few in
+    let few = f.few in
+    let fits : nat_lt most_entries (length (rows_in child.0 k.maps) + 1) ≡ false = let le : length (rows_in child.0 k.maps) + 1 ≤ most_entries = omega
+    (arith, count, most, few) in grind (arith, nat_tests) in
+    record {
+      leads =
+          (row_among (λ mine. IsInside header.size k.chains mine × (has_entry mine.region.0 rows ≡ true)) rows i row
+          (rows_known (IsInside header.size k.chains) rows (subst (AllRows (IsInside header.size k.chains)) here (f.rests.matches.entries.inside task.0)))
+          found).1;
+      inside = inside;
+      shared = row_among (IsShared (named header)) rows i row (subst (AllRows (IsShared (named header))) here (f.rests.matches.shared task.0)) found;
+      whole = whole;
+      free = rw (range, free, fits) refl;
+      own =
+          rows_map (λ mine. mine.address + mine.bytes ≤ f.front) (λ mine. mine.address + mine.bytes ≤ row.address + row.bytes)
+          (λ mine le. omega (arith, le, start)) (rows_in child.0 k.maps) f.own;
+      order = order.1.1;
+    }
+
+-- the next entry may be shared
+pub may_share : (header : Header) (h : ℕ) (outside : Outside) (task child : TaskId) (rows : List Entry) (i : ℕ) (row : Entry) (past : List Event) (k : Parts)
+    (ids : Ids) (events : List Event) → HasForked header h outside task child rows i past k ids events
+    → AreEntries k.maps.size rows → slice_get rows i ≡ Some row → MayShare header child.0 row (events ++ past) k
+may_share header h outside task child rows i row past k ids events f sound found =
+    let next = is_next header h outside task child rows i row past k ids events f sound found in
+    let there = region_row k.chains row.region.0 next.inside.region in
+    let some = entry_some header.size row.region.0 task.0 k.maps k.chains [] there.0 f.rests.matches.entries there.1
+    (ap (has_entry row.region.0) (ap (λ z. unwrap_or z []) f.others) ∙ next.leads) in
+    record {
+      counted = subst (λ (z : ℕ). 0 < z) (sym (ap entries_in_row there.1)) some;
+      lives = f.lives;
+      idle = f.idle;
+      free = next.free;
+      pages = next.whole.pages;
+      inside = next.inside;
+      shared = next.shared;
+    }
+
+-- the next entry may be copied
+pub may_copy : (header : Header) (h : ℕ) (outside : Outside) (task child : TaskId) (rows : List Entry) (i : ℕ) (row : Entry) (past : List Event) (k : Parts)
+    (ids : Ids) (events : List Event) → HasForked header h outside task child rows i past k ids events
+    → AreEntries k.maps.size rows → slice_get rows i ≡ Some row → row.inherit ≡ inherit.Copy
+    → MayCopy header child.0 row.region row.offset row (events ++ past) k
+may_copy header h outside task child rows i row past k ids events f sound found is =
+    let m = f.rests.matches in
+    let size = header.size in
+    let before = events ++ past in
+    let rest = drop (i + 1) rows in
+    let next = is_next header h outside task child rows i row past k ids events f sound found in
+    let region = region_row k.chains row.region.0 next.inside.region in
+    let pages : region_pages k.chains row.region.0 ≡ region.0.pages = ap pages_in region.1 in
+    let inside = next.inside.inside.whole in
+    let whole = next.whole.pages in
+    let sized : row.bytes / k.maps.size ≡ row.bytes / size = ap (λ (z : ℕ). row.bytes / z) m.tasks.sized in
+    let room : HasRoom header (row ∷ rest) before = subst (λ (z : List Entry). HasRoom header z before) (next_row rows i row found) f.room in
+    let count : copies (row ∷ rest) ≡ copies rest + 1 = rw (ap is_copied is) refl in
+    let copy : RegionId = record { 0 = next_region header before } in
+    let small = small_region m.regions row.region.0 region.0 region.1 in
+    let later = room_copied header row rest before copy (row.bytes / size) (ap is_copied is) refl small room in
+    let marks = marked_copied header before copy row.region row.offset (row.bytes / size) refl small in
+    let regions = room.regions in
+    let objects = later.objects in
+    record {
+      lives = f.lives;
+      idle = f.idle;
+      free = next.free;
+      pages = omega (arith, whole, sized);
+      counted =
+          entry_some header.size row.region.0 task.0 k.maps k.chains [] region.0 m.entries region.1
+          (ap (has_entry row.region.0) (ap (λ z. unwrap_or z []) f.others) ∙ next.leads);
+      region = region.0;
+      there = region.1;
+      temporary = elim (kind_cases header row.region.0) [ inl declared ↦ absurd (next.shared declared is) | inr least ↦ least ];
+      inside = omega (arith, inside, pages);
+      regions = omega (arith, regions, count);
+      objects = omega (arith, objects, marks);
+      from =
+          record {
+            task = task.0;
+            address = row.address;
+            at =
+                record {
+                  host = h;
+                  entry = row;
+                  lives = lives_here m.tasks f.others;
+                  found =
+                      ap (entry_at row.address) (rows_here m.tasks f.others ∙ ap (λ z. unwrap_or z []) f.others)
+                      ∙ (found_first 0 (2 ^ 32) rows i row sound.in_order found).1;
+                };
+            source_is = refl;
+            inside = omega arith;
+          };
+    }
+
+-- an entry more was shared
+pub fork_shared : (header : Header) (h : ℕ) (outside : Outside) (task child : TaskId) (rows : List Entry) (i : ℕ) (row : Entry) (past : List Event)
+    (k k2 : Parts) (ids : Ids) (events after : List Event) → HasForked header h outside task child rows i past k ids events
+    → AreEntries k.maps.size rows → slice_get rows i ≡ Some row → row.inherit ≡ inherit.Share → Shares child row k k2 events after
+    → HasForked header h outside task child rows (i + 1) past k2 ids after
+fork_shared header h outside task child rows i row past k k2 ids events after f sound found is s =
+    let m = f.rests.matches in
+    let doing = command.Fork task child in
+    let e = got child row in
+    let rest = drop (i + 1) rows in
+    let next = is_next header h outside task child rows i row past k ids events f sound found in
+    let may = may_share header h outside task child rows i row past k ids events f sound found in
+    let now : rows_in child.0 k2.maps ≡ entered row (rows_in child.0 k.maps) = ap (λ z. unwrap_or z []) s.maps.changed in
+    let few = f.few in
+    let told = told_next header.size child ids.next_region ids.next_region row rest (forked header h child rows past) (e ∷ []) events (e ∷ events)
+    (ap (λ z. inherits z header.size child ids.next_region row) is) (ap (λ z. next_behind z ids.next_region) is)
+    (subst (λ (z : List Entry). reverse (forked header h child rows past) ≡ reverse (inherits_all header.size child ids.next_region z) ++ events)
+    (next_row rows i row found) f.told) refl in
+    subst (λ (z : List Event). HasForked header h outside task child rows (i + 1) past k2 ids z) (sym s.told)
+    (record {
+      apart = f.apart;
+      rests = rests_shared header h outside doing child row (events ++ past) k k2 ids events after f.rests may s;
+      heads =
+          heads_more header h outside doing past events e f.heads
+          (record {
+            settled = m.settled;
+            cause = share_enters header h child row (events ++ past) k ids f.rests may;
+            own_bytes = tt;
+            frames = suffices header h k.memory.frames (events ++ past) m.frames;
+            inner = tt;
+            said = tt;
+            own = own_task h child.0 (events ++ past) (m.tasks.hosts child.0 ∙ ap is_some f.lives);
+            creates = tt;
+          });
+      others = s.maps.others task.0 f.apart ∙ f.others;
+      lives = s.maps.changed ∙ ap Some (sym now);
+      front = row.address + row.bytes;
+      own =
+          subst (AllRows (λ mine. mine.address + mine.bytes ≤ row.address + row.bytes)) (sym now)
+          (rows_entered (λ mine. mine.address + mine.bytes ≤ row.address + row.bytes) row (rows_in child.0 k.maps) (omega arith) next.own);
+      order = next.order;
+      few = let count = ap length now in omega (arith, count, length_entered row (rows_in child.0 k.maps), few);
+      idle = f.idle;
+      room =
+          room_more header rest (events ++ past) (e ∷ (events ++ past)) refl refl (λ r. refl)
+          (room_other header row rest (events ++ past) (ap is_copied is) (subst (λ (z : List Entry). HasRoom header z (events ++ past))
+          (next_row rows i row found) f.room));
+      told = told;
+    })
+
+-- an entry more was copied
+pub fork_copied : (header : Header) (h : ℕ) (outside : Outside) (task child : TaskId) (rows : List Entry) (i : ℕ) (row : Entry) (past : List Event)
+    (k k2 : Parts) (ids ids2 : Ids) (events after : List Event) → HasForked header h outside task child rows i past k ids events
+    → AreEntries k.maps.size rows → slice_get rows i ≡ Some row → row.inherit ≡ inherit.Copy
+    → EntersCopy child row.region row.offset row k k2 ids ids2 events after → HasForked header h outside task child rows (i + 1) past k2 ids2 after
+fork_copied header h outside task child rows i row past k k2 ids ids2 events after f sound found is s =
+    let m = f.rests.matches in
+    let doing = command.Fork task child in
+    let size = header.size in
+    let before = events ++ past in
+    let new = entry_on row s.copy in
+    let rest = drop (i + 1) rows in
+    let one : Event = copied s.copy row.region row.offset (row.bytes / size) in
+    let e = got child new in
+    let next = is_next header h outside task child rows i row past k ids events f sound found in
+    let may = may_copy header h outside task child rows i row past k ids events f sound found is in
+    let number : s.copy.0 ≡ next_region header before = s.number ∙ m.regions.region in
+    let named_copy : record { 0 = ids.next_region } ≡ s.copy = λ j. record { 0 = sym s.number j } in
+    let next2 : ids.next_region + 1 ≡ ids2.next_region = sym (ap (λ z. z.next_region) s.ids) in
+    let now : rows_in child.0 k2.maps ≡ entered new (rows_in child.0 k.maps) = ap (λ z. unwrap_or z []) s.maps.changed in
+    let few = f.few in
+    let region = region_row k.chains row.region.0 next.inside.region in
+    let small = small_region m.regions row.region.0 region.0 region.1 in
+    let told = told_next size child ids.next_region ids2.next_region row rest (forked header h child rows past) (one ∷ e ∷ []) events (e ∷ one ∷ events)
+    (ap (λ z. inherits z size child ids.next_region row) is
+    ∙ ap (λ (z : RegionId). copied z row.region row.offset (row.bytes / size) ∷ got child (entry_on row z) ∷ []) named_copy)
+    (ap (λ z. next_behind z ids.next_region) is ∙ next2)
+    (subst (λ (z : List Entry). reverse (forked header h child rows past) ≡ reverse (inherits_all size child ids.next_region z) ++ events)
+    (next_row rows i row found) f.told) refl in
+    subst (λ (z : List Event). HasForked header h outside task child rows (i + 1) past k2 ids2 z)
+    (sym (told_copied header h child row.region row.offset row before k k2 ids ids2 events after f.rests s))
+    (record {
+      apart = f.apart;
+      rests = rests_copied header h outside doing child row.region row.offset row before k k2 ids ids2 events after f.rests may s;
+      heads = heads_copied header h outside doing child s.copy row.region row.offset row past events k ids f.rests may number f.heads;
+      others = s.maps.others task.0 f.apart ∙ f.others;
+      lives = s.maps.changed ∙ ap Some (sym now);
+      front = row.address + row.bytes;
+      own =
+          subst (AllRows (λ mine. mine.address + mine.bytes ≤ row.address + row.bytes)) (sym now)
+          (rows_entered (λ mine. mine.address + mine.bytes ≤ row.address + row.bytes) new (rows_in child.0 k.maps) (omega arith) next.own);
+      order = next.order;
+      few = let count = ap length now in omega (arith, count, length_entered new (rows_in child.0 k.maps), few);
+      idle = f.idle;
+      room =
+          room_more header rest (one ∷ before) (e ∷ one ∷ before) refl refl (λ r. refl)
+          (room_copied header row rest before s.copy (row.bytes / size) (ap is_copied is) number small
+          (subst (λ (z : List Entry). HasRoom header z before) (next_row rows i row found) f.room));
+      told = told;
+    })
+
+-- an entry isn't given
+pub fork_other : (header : Header) (h : ℕ) (outside : Outside) (task child : TaskId) (rows : List Entry) (i : ℕ) (row : Entry) (past : List Event) (k : Parts)
+    (ids : Ids) (events : List Event) → HasForked header h outside task child rows i past k ids events
+    → AreEntries k.maps.size rows → slice_get rows i ≡ Some row → row.inherit ≡ inherit.Never
+    → HasForked header h outside task child rows (i + 1) past k ids events
+fork_other header h outside task child rows i row past k ids events f sound found isnt =
+    let next = is_next header h outside task child rows i row past k ids events f sound found in
+    let few = f.few in
+    record {
+      apart = f.apart;
+      rests = f.rests;
+      heads = f.heads;
+      others = f.others;
+      lives = f.lives;
+      front = row.address + row.bytes;
+      own = next.own;
+      order = next.order;
+      few = omega (arith, few);
+      idle = f.idle;
+      room =
+          room_other header row (drop (i + 1) rows) (events ++ past) (ap is_copied isnt)
+          (subst (λ (z : List Entry). HasRoom header z (events ++ past)) (next_row rows i row found) f.room);
+      told =
+          told_next header.size child ids.next_region ids.next_region row (drop (i + 1) rows) (forked header h child rows past) [] events events
+          (ap (λ z. inherits z header.size child ids.next_region row) isnt) (ap (λ z. next_behind z ids.next_region) isnt)
+          (subst (λ (z : List Entry). reverse (forked header h child rows past) ≡ reverse (inherits_all header.size child ids.next_region z) ++ events)
+          (next_row rows i row found) f.told) refl;
+    }
+
+-- all was given
+pub ran_fork : (header : Header) (h : ℕ) (outside : Outside) (task child : TaskId) (i : ℕ) (past : List Event) (k k2 : Parts) (ids ids2 : Ids)
+    (before events : List Event) → Starts header h (command.Fork task child) past k ids before
+    → HasForked header h outside task child (rows_in task.0 k.maps) i past k2 ids2 events → length (rows_in task.0 k.maps) ≤ i
+    → Ran header h outside (command.Fork task child) past k2 ids2 events
+ran_fork header h outside task child i past k k2 ids ids2 before events s f end =
+    let m = s.rests.matches in
+    let may = may_fork header h task child past k ids before s in
+    let rows = rows_in task.0 k.maps in
+    let first = forked header h child rows past in
+    let whole : reverse first ≡ events = f.told ∙ ap (λ (z : List Entry). reverse (inherits_all header.size child ids2.next_region z) ++ events)
+    (drop_past rows i end) in
+    let is : head header past (command.Fork task child) ≡ Some first = rw (lives_here m.tasks may.lives, rows_here m.tasks may.lives) refl in
+    ran_head header h outside (command.Fork task child) past k2 ids2 events first is (sym whole) f.heads tt f.rests

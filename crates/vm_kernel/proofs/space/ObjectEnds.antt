@@ -1,0 +1,913 @@
+-- An object to which nothing refers: its pages go, its control ends, where one lives, and what stood under it has one reference less.
+use Rattle.vm_kernel.proofs.Common.{AllEntriesInside, Below, Bool, CausedInTurn, ChainTable, Changes, Command, Does, Drops, Elsewhere, EndsObject, Entry, Event}
+use Rattle.vm_kernel.proofs.Common.{Fit, FrameTable, HasControls, HasEntries, HasFrames, HasKinds, HasPages, HasSlow, HasWaiters, HaveHomes, Header, HostParts}
+use Rattle.vm_kernel.proofs.Common.{Ids, Inside, IsAmid, IsInside, IsOfKind, IsReferred, IsWhole, LaundryList, LegalEvents, List, Local, LocalEffect, Mapped}
+use Rattle.vm_kernel.proofs.Common.{Matches, None, ObjectId, ObjectRow, ObjectTable, Option, Outside, PageKey, PageRow, Parts, PutsAbsent, PutsObject, Reach}
+use Rattle.vm_kernel.proofs.Common.{Region, RegionRow, ResidentTable, ReturnCause, Returns, SameMarks, SameObjects, Some, Unreached, Up, UsesAll, Woken, []}
+use Rattle.vm_kernel.proofs.Common.{absent_at, all_tasks, ap, arith, away, backing_of, entries_in, entries_of, eqb_tells, false, fit_objects, frames_held}
+use Rattle.vm_kernel.proofs.Common.{frames_wired, has_entry, has_region, home_of, host_id, if◌then◌else◌, in_use, inl, inr, is_control, is_ready, is_some}
+use Rattle.vm_kernel.proofs.Common.{is_woken, last_control, last_in, length, live_control, live_in, local, local_after, local_of_row, marked_regions, named}
+use Rattle.vm_kernel.proofs.Common.{nat_tests, next_object, next_region, not, object_at, one_case, page_in, pages_in, pages_of_row, paging, place_of}
+use Rattle.vm_kernel.proofs.Common.{queues_except, ready_in, refl, region_at, region_of, returns_out, reverse, row_at, row_cases, rows_in, rows_map, same_pages}
+use Rattle.vm_kernel.proofs.Common.{slice_get, some_is, subst, suc, sym, true, waiting, without_control, zero, ℕ, ◌&&◌, ◌++◌, ◌+◌, ◌-◌, ◌<◌, ◌==◌, ◌^◌, ◌||◌}
+use Rattle.vm_kernel.proofs.Common.{◌∙◌, ◌∷◌, ◌≡◌, ◌≤◌, ◌⊎◌}
+use Rattle.std.proofs.lemmas.Bool.{or_parts}
+use Rattle.vm_kernel.specs.Fits.{ArePlain}
+use Rattle.vm_legal.specs.Licences.{DropCause, Ended, IsUnheld}
+use Rattle.vm_kernel.specs.Plays.{AsUnheld, AsUnreached, Departs, DepartsUnheld}
+use Rattle.vm_model.specs.declared.event.Event.TheVariants as event
+use Rattle.vm_model.specs.declared.message.Message.TheVariants as message
+use Rattle.vm_model.specs.Local.{Ends as EndsControl}
+use Rattle.vm_objects.specs.declared.row.PagerState.TheVariants as state
+use Rattle.vm_parts.proofs.Fitting.{fit_changed}
+use Rattle.vm_parts.specs.Changes.{Discards, Removes}
+use Rattle.vm_shadow.specs.Chains.{DropsShadow, shadow_at}
+use Rattle.vm_shadow.specs.declared.shadow_row.ShadowRow.{ShadowRow}
+use Rattle.vm_kernel.proofs.space.NothingChanged.{Leaves, controls_after, homeless_after, regions_after}
+use Rattle.vm_kernel.proofs.memory.PartsStillFit.{plain_changed}
+use Rattle.vm_kernel.proofs.space.EntriesCounted.{by_some}
+use Rattle.vm_kernel.proofs.steps.EventsGrow.{goes_one, suffices}
+use Rattle.vm_kernel.proofs.memory.WhatIsKnown.{IsOther, known_on, other_if, pages_known}
+use Rattle.vm_kernel.proofs.memory.MayLeave.{IsSeen, seen_here}
+use Rattle.vm_kernel.proofs.abroad.OwnEvents.{own_named}
+use Rattle.vm_kernel.proofs.abroad.OwnHost.{own_host}
+use Rattle.vm_kernel.proofs.memory.PagesShown.{frames_changed, itself, laundry_changed, pages_moved}
+use Rattle.vm_kernel.proofs.lists.ListsAsTold.{frames_put, here_is, same_paging}
+use Rattle.vm_kernel.proofs.space.RegionRows.{region_row}
+use Rattle.vm_kernel.proofs.memory.PageReturned.{controls_same}
+use Rattle.vm_kernel.proofs.space.RegionEnds.{controls_referred}
+use Rattle.vm_kernel.proofs.memory.FramesWashed.{laundry_returned}
+use Rattle.vm_kernel.proofs.controls.LockReplied.{replied_behind}
+use Rattle.vm_state.proofs.Changing.{regions_controlled}
+use Rattle.vm_state.proofs.Declared.{kind_cases, kind_referred, kinds_dropped, kinds_put, kinds_same, whole_row}
+use Rattle.vm_state.proofs.Files.{files_put, files_same}
+use Rattle.vm_state.proofs.Going.{regions_dropped}
+use Rattle.vm_state.proofs.Knowing.{known_put}
+use Rattle.vm_state.proofs.Places.{told_apart, unsent_apart, waits_dropped}
+use Rattle.vm_state.proofs.Reaching.{chain_known}
+use Rattle.vm_state.proofs.Referred.{but_dropped, but_gone, but_known, referred_dropped}
+use Rattle.vm_state.proofs.Referring.{unreferred_region, unreferred_shadow}
+use Rattle.vm_state.proofs.Filling.{away_put, copies_kept, filled_there, rows_unmade, used_away}
+use Rattle.vm_state.proofs.Told.{waiters_lost, waits_told}
+use Rattle.vm_state.specs.Filling.{filled_row}
+use Rattle.vm_kernel.proofs.space.RegionsFilled.{dropped_filled}
+use Rattle.vm_state.specs.Places.{known_local}
+use Rattle.vm_state.specs.References.{is_live_in}
+use Rattle.vm_legal.specs.InTurn.{DropsInTurn}
+use Rattle.vm_state.specs.Passed.{IsUnmet, StaysAway}
+use Rattle.vm_kernel.proofs.memory.WalksShown.{shown_at}
+use Rattle.vm_legal.specs.Walks.{page_on}
+use Rattle.vm_state.proofs.Bypassing.{waits_quiet, waits_returned}
+use Rattle.vm_state.proofs.Passing.{quiet_if}
+use Rattle.vm_state.proofs.Shown.{shows_row}
+
+-- no region that is in use leads to it
+
+pub entry_there : (size r : ℕ) (cs : ChainTable) (rows : List Entry) → AllEntriesInside size cs rows → has_entry r rows ≡ true → has_region cs r ≡ true
+entry_there size r cs [] all has = absurd (let bad : false ≡ true = has in cc)
+entry_there size r cs (row ∷ rows) all has = elim (eqb_tells row.region.0 r) [
+  | inl same ↦ subst (λ (z : ℕ). has_region cs z ≡ true) same.1 all.0.region
+  | inr apart ↦ entry_there size r cs rows all.1 (rw apart.0 at has)
+]
+
+-- a temporary region in use is there
+pub used_there : (header : Header) (h : ℕ) (k : Parts) (ids : Ids) (rest : List Entry) (past : List Event) (r : ℕ) → Matches header h k ids rest past
+    → HasSlow header k past → named header ≤ r → in_use header h r past ≡ true → (row : RegionRow) × (region_at k.chains r ≡ Some row)
+used_there header h k ids rest past r m copies temporary used = elim ((m.uses.used r temporary).why used) [
+  | inl some ↦ let task =
+      by_some all_tasks r k.maps some in region_row k.chains r (entry_there header.size r k.chains (rows_in task.0 k.maps) (m.entries.inside task.0) task.1)
+  | inr filled ↦ let there = filled_there copies filled.task r filled.fills in (filled_row there.object there.pages, there.region)
+]
+
+-- the chain of a declared region is of its own object alone
+pub declared_chain : (header : Header) (past : List Event) (r n u : ℕ) → HaveHomes header past → r < named header
+    → Below (λ o. backing_of header o past) n (region_of header r past).top u → r ≡ u
+declared_chain header past r n u homes declared below =
+    by_steps n (subst (λ (z : ℕ). Below (λ o. backing_of header o past) n z u) (ap (λ (z : Region). z.top) (homes.whole r declared)) below)
+  where
+    by_steps : (n : ℕ) → Below (λ o. backing_of header o past) n r u → r ≡ u
+    by_steps zero is = is
+    by_steps (suc n) is = absurd (let bad : true ≡ false = sym is.0 ∙ homes.bare r declared in cc)
+
+pub unreached : (header : Header) (h : ℕ) (k : Parts) (ids : Ids) (rest : List Entry) (past : List Event) (o : ℕ) (row : ObjectRow)
+    → Matches header h k ids rest past → HasSlow header k past → object_at k.memory.objects o ≡ Some row → row.references ≡ 0 → named header ≤ o
+    → Reach header h o past → ⊥
+unreached header h k ids rest past o row m copies known none least reach = elim (kind_cases header reach.0) [
+  | inl declared ↦ let same = declared_chain header past reach.0 reach.1 o m.homeless declared reach.3 in omega (arith, same, declared, least)
+  | inr temporary ↦
+      let there = used_there header h k ids rest past reach.0 m copies temporary reach.2 in
+      let is : IsReferred k.memory.objects o = chain_known m.regions reach.0 there.0 there.1 reach.1 o reach.3 in
+      let some = is.some in
+      let same = ap (λ z. z.references) (some_is row is.row (sym known ∙ is.known)) in
+      omega (arith, some, same, none)
+]
+
+-- nothing holds a declared object to which nothing refers
+pub unheld : (header : Header) (h : ℕ) (k : Parts) (ids : Ids) (rest : List Entry) (past : List Event) (o : ℕ) (row : ObjectRow)
+    → Matches header h k ids rest past → object_at k.memory.objects o ≡ Some row → row.references ≡ 0 → o < named header → IsUnheld header h o past
+unheld header h k ids rest past o row m known none declared task lives = by_test (has_entry o (entries_of header.size task past)) refl
+  where
+    here : is_some (entries_in task k.maps) ≡ true
+    here = sym (m.tasks.hosts task) ∙ lives
+
+    by_test : (b : Bool) → has_entry o (entries_of header.size task past) ≡ b → b ≡ false
+    by_test false is = refl
+    by_test true is =
+        let there = region_row k.chains o (entry_there header.size o k.chains (rows_in task k.maps) (m.entries.inside task)
+        (sym (ap (has_entry o) (m.tasks.rows task here)) ∙ is)) in
+        absurd (unreferred_region m.regions o row known none o there.0 there.1 (whole_row m.regions m.homeless o there.0 declared there.1).top)
+
+-- nobody waits for the unlock of a page of it
+unsent : (header : Header) (h : ℕ) (past : List Event) (who : Woken) (k : Parts) (ids : Ids) (rest : List Entry) (key : PageKey) (row : PageRow)
+    (events : List Event)
+    → EndsObject header h who k ids rest key.object.0 (events ++ past) → row_at k.memory.resident key.object.0 key.page.0 ≡ Some row → row.unlock_sent ≡ false
+unsent header h past who k ids rest key row events e found =
+    let m = e.runs.matches in
+    unsent_apart k.maps k.chains k.memory.resident k.memory.objects k.waits.rows (is_woken who) (λ t. waiting t (events ++ past)) key.object.0 key.page.0 row
+    e.runs.waits
+    (unreferred_region m.regions key.object.0 e.row e.known e.none) (unreferred_shadow m.regions key.object.0 e.row e.known e.none) found
+
+-- a page of it goes
+pub ends_lost : (header : Header) (h : ℕ) (outside : Outside) (doing : Command) (past : List Event) (who : Woken) (k : Parts) (ids : Ids) (rest : List Entry)
+    (key : PageKey) (row : PageRow) (memory : HostParts) (events : List Event)
+    → EndsObject header h who k ids rest key.object.0 (events ++ past) → ((q : ℕ) → q < key.page.0 → row_at k.memory.resident key.object.0 q ≡ None)
+    → row.here ≡ true → (key.object.0 < named header → (row.dirty || row.precious) ≡ false) → Discards key row k.memory memory
+    → memory.objects ≡ k.memory.objects → memory.buffers ≡ k.memory.buffers
+    → EndsObject header h who (record k { memory = memory }) ids rest key.object.0 ((event.Dropped (host_id h) key.object key.page ∷ events) ++ past)
+    × LegalEvents header h outside doing past events (event.Dropped (host_id h) key.object key.page ∷ events)
+ends_lost header h outside doing past who k ids rest key row memory events e first is_here clean c objects buffers = (
+  record {
+    runs = record {
+      matches = record {
+        ranged = m.ranged;
+        declared = m.declared;
+        kinds = rw objects m.kinds;
+        shared = m.shared;
+        known = m.known;
+        size = m.size;
+        host = m.host;
+        fits = record {
+          parts =
+              fit_changed key row.frame (Some row) None false (page_in k.memory.frames row.frame.0) (queues_except row.frame.0 k.memory.queues) k.memory memory
+              m.fits.parts c (λ some. absurd (let bad : false ≡ true = some in cc))
+              (λ some. absurd (let bad : false ≡ true = some in cc)) (m.fits.parts.all_sized row.frame.0 c.inside) refl objects buffers;
+          plain = plain2;
+          buffers = ap (λ z. z.size) buffers ∙ m.fits.buffers;
+        };
+        tasks = m.tasks;
+        regions = rw objects (regions_after leaves m.regions);
+        homes = m.homes;
+        files = rw objects m.files;
+        entries = m.entries;
+        pages = rw objects pages2;
+        uses = m.uses;
+        controls = rw objects (controls_after leaves m.controls);
+        homeless = homeless_after leaves m.homeless;
+        settled = record { none_owed = refl; shut = λ region. refl };
+        replied = replied_behind tt m.replied;
+        laundry = laundry_changed key row.frame _ _ _ _ _ k.memory memory k.laundry (returns_out h moment) m.laundry c;
+        frames = frames2;
+      };
+      waits = rw objects waits2;
+      order = e.runs.order;
+    };
+    used = used_away k.memory.resident memory.resident e.used (away_put o p None row k.memory.resident memory.resident c.found c.row);
+    row = e.row;
+    known = rw objects e.known;
+    none = e.none;
+    referred = rw objects (but_gone o o p k.chains k.memory.objects k.memory.resident memory.resident c.row e.referred);
+  },
+  goes_one header h outside doing past events gone m.settled (record {
+    consequence = tt;
+    cause = cause;
+    own_bytes = tt;
+    frames = suffices header h memory.frames (gone ∷ moment) frames2;
+    inner = tt;
+    said = tt;
+    own = own_named h;
+    creates = tt;
+  }),
+)
+  where
+    m : Matches header h k ids rest (events ++ past)
+    m = e.runs.matches
+
+    moment : List Event
+    moment = events ++ past
+
+    o : ℕ
+    o = key.object.0
+
+    p : ℕ
+    p = key.page.0
+
+    gone : Event
+    gone = event.Dropped (host_id h) key.object key.page
+
+    leaves : Leaves header (events ++ past) (event.Dropped (host_id h) key.object key.page ∷ (events ++ past))
+    leaves =
+        record {
+          regions_made = refl;
+          objects_made = refl;
+          region = λ r. refl;
+          backing = λ o. refl;
+          home = λ r. refl;
+          made_for = λ o. refl;
+          used = λ g r. refl;
+          target = λ task. refl;
+        }
+
+    is : known_local header o p (local header.size h (place_of o p) (events ++ past)) ≡ local_of_row k.memory.frames (Some row) (absent_at k.memory.objects o p)
+    is = m.pages.shown o p ∙ ap (λ z. local_of_row k.memory.frames z (absent_at k.memory.objects o p)) c.found
+
+    seen : IsSeen (known_local header o p (local header.size h (place_of o p) (events ++ past))) row (page_in k.memory.frames row.frame.0)
+    seen =
+        seen_here k.memory.frames row (absent_at k.memory.objects o p) (known_local header o p (local header.size h (place_of o p) (events ++ past))) is is_here
+
+    least : (q : ℕ) → q < p → (local header.size h (place_of o q) (events ++ past)).here ≡ false
+    least q low = ap (λ z. z.here) (m.pages.shown o q ∙ ap (λ z. local_of_row k.memory.frames z (absent_at k.memory.objects o q)) (first q low))
+
+    why : DropCause header doing h o p (local header.size h (place_of o p) (events ++ past)) (events ++ past)
+    why = elim (kind_cases header o) [
+      | inl declared ↦ Ended (seen.dirty ∙ (or_parts row.dirty row.precious (clean declared)).0)
+          (seen.precious ∙ (or_parts row.dirty row.precious (clean declared)).1) declared
+          (unheld header h k ids rest (events ++ past) o e.row m e.known e.none declared)
+      | inr temporary ↦ Unreached temporary (unreached header h k ids rest (events ++ past) o e.row m e.used.copies e.known e.none temporary)
+    ]
+
+    turn : (cause : DropCause header doing h o p (local header.size h (place_of o p) (events ++ past)) (events ++ past))
+        → DropsInTurn header doing h o p (local header.size h (place_of o p) (events ++ past)) (events ++ past) cause
+    turn (Unreached temporary unreached) = least
+    turn (Ended clean plain declared unheld) = least
+    turn other = tt
+
+    cause : CausedInTurn header outside doing (event.Dropped (host_id h) key.object key.page) (events ++ past)
+    cause = (record { here = seen.here; why = why }, turn why)
+
+    plain2 : ArePlain memory.resident
+    plain2 o2 p2 row2 found = elim (row_cases o p None k.memory.resident memory.resident c.row o2 p2) [
+      | inl put ↦ absurd (let bad : None ≡ Some row2 = sym put.is ∙ found in cc)
+      | inr other ↦ λ away. m.fits.plain o2 p2 row2 (sym other.is ∙ found) away
+    ]
+
+    pages2 : HasPages memory.frames memory.resident k.memory.objects (λ o2 p2. known_local header o2 p2
+        (local header.size h (place_of o2 p2) (event.Dropped (host_id h) key.object key.page ∷ (events ++ past))))
+    pages2 =
+        rw (own_host h) (known_on header header.size key Drops (λ o2 p2. local header.size h (place_of o2 p2) (events ++ past)) tt
+        (pages_moved header.size Drops key row.frame _ _ _ _ _ k.memory memory k.memory.objects
+        (λ o2 p2. known_local header o2 p2 (local header.size h (place_of o2 p2) (events ++ past))) m.fits.parts m.pages c
+        (ap (λ z. record away { asked = not z; absent = absent_at k.memory.objects o p }) is_here) (λ o2 p2 apart. refl)))
+
+    frames2 : HasFrames (slice_get (reverse header.frames.items) h) memory.frames
+        (frames_held header.size h (event.Dropped (host_id h) key.object key.page ∷ (events ++ past)))
+        (frames_wired h (event.Dropped (host_id h) key.object key.page ∷ (events ++ past)))
+    frames2 =
+        rw (own_host h) (frames_changed (slice_get (reverse header.frames.items) h) key row.frame _ _ _ _ _ k.memory memory (frames_held header.size h moment)
+        (frames_held header.size h moment - 1) (frames_wired h moment) m.frames c (λ held. let less = c.claims in omega arith))
+
+    waits2 : HasWaiters k.maps k.chains memory.resident k.memory.objects k.waits.rows (is_woken who) (λ t. waiting t (events ++ past))
+        (StaysAway header h (event.Dropped (host_id h) key.object key.page ∷ (events ++ past)))
+        (IsUnmet header h (event.Dropped (host_id h) key.object key.page ∷ (events ++ past)))
+    waits2 =
+        waits_quiet header h (event.Dropped (host_id h) key.object key.page) (events ++ past)
+        (λ place. quiet_if (h == h && (key.object.0 == place.object.0 && key.page.0 == place.page.0)) Drops Elsewhere tt tt)
+        (waiters_lost k.maps k.chains k.memory.resident memory.resident k.memory.objects k.memory.objects k.waits.rows (is_woken who)
+        (λ t. waiting t (events ++ past)) o p row e.runs.waits c.found is_here (unsent header h past who k ids rest key row events e c.found) c.row
+        (λ object told. told) (λ object is. is))
+
+-- and is off the lists
+
+pub leaves_lists : (k : Parts) (key : PageKey) (row : PageRow) (held : Bool) (bytes : List ℕ) (memory : HostParts) → row.here ≡ true
+    → Changes key row.frame (Some row) None held bytes (queues_except row.frame.0 k.memory.queues) k.memory memory
+    → Departs key.object.0 key.page.0 k.memory.queues (paging k) (paging (record k { memory = memory }))
+leaves_lists k key row held bytes memory is_here c = record {
+  frame = row.frame;
+  here = here_is (row_at k.memory.resident key.object.0 key.page.0) row row.frame c.found is_here refl;
+  is = same_paging _ _ _ _ (frames_put k.memory.resident memory.resident key.object.0 key.page.0 None None c.row refl) c.queues;
+}
+
+-- of a declared object, which nothing holds
+pub departs_unheld : (header : Header) (h : ℕ) (past : List Event) (who : Woken) (k : Parts) (ids : Ids) (rest : List Entry) (key : PageKey) (row : PageRow)
+    (held : Bool) (bytes : List ℕ) (memory : HostParts) (events : List Event)
+    → EndsObject header h who k ids rest key.object.0 (events ++ past) → key.object.0 < named header → row.here ≡ true
+    → Changes key row.frame (Some row) None held bytes (queues_except row.frame.0 k.memory.queues) k.memory memory
+    → DepartsUnheld header h (events ++ past) key.object.0 key.page.0 (paging k) (paging (record k { memory = memory }))
+departs_unheld header h past who k ids rest key row held bytes memory events e declared is_here c =
+    record {
+      declared = declared;
+      unheld = unheld header h k ids rest (events ++ past) key.object.0 e.row e.runs.matches e.known e.none declared;
+      departs = leaves_lists k key row held bytes memory is_here c;
+    }
+
+pub lost_plays : (header : Header) (h : ℕ) (past : List Event) (who : Woken) (k : Parts) (ids : Ids) (rest : List Entry) (key : PageKey) (row : PageRow)
+    (memory : HostParts) (events : List Event)
+    → EndsObject header h who k ids rest key.object.0 (events ++ past) → row.here ≡ true → Discards key row k.memory memory
+    → Does header (events ++ past) (event.Dropped (host_id h) key.object key.page) (paging k) (paging (record k { memory = memory }))
+lost_plays header h past who k ids rest key row memory events e is_here c = elim (kind_cases header key.object.0) [
+  | inl declared ↦ AsUnheld (departs_unheld header h past who k ids rest key row _ _ memory events e declared is_here c)
+  | inr temporary ↦ AsUnreached (unreached header h k ids rest (events ++ past) key.object.0 e.row e.runs.matches e.used.copies e.known e.none temporary)
+      (leaves_lists k key row _ _ memory is_here c)
+]
+
+-- or it goes back to its pager, in its frame
+
+-- the return of a page of an object that ends
+abbrev pub going_back : ℕ → PageKey → ObjectRow → PageRow → List ℕ → Event
+going_back h key known row bytes = event.Sent (Up (host_id h) key.object) (message.Return known.control key.page row.dirty false bytes)
+
+-- no page of a declared object is known to be missing, so none comes to be known
+marks_kept : (header : Header) (o p : ℕ) (os os2 : ObjectTable) (cs : ChainTable) → HasKinds header os cs → o < named header → PutsAbsent o p false os os2
+    → SameMarks os os2
+marks_kept header o p os os2 cs kinds declared put = record { at = λ x q. put.at x q ∙ by_test x q (o == x) refl }
+  where
+    by_test : (x q : ℕ) (b : Bool) → (o == x) ≡ b → (if b && (p == q) then false else absent_at os x q) ≡ absent_at os x q
+    by_test x q false other = refl
+    by_test x q true same =
+        let is : o ≡ x = grind (arith, nat_tests) in
+        let none = kinds.present x q (omega (arith, is, declared)) in
+        ap (λ z. if p == q then false else z) none ∙ (either (p == q) ∙ sym none)
+      where
+        either : (b : Bool) → (if b then false else false) ≡ false
+        either true = refl
+        either false = refl
+
+-- an object is put where it is
+put_same : (o : ℕ) (row : ObjectRow) (os os2 : ObjectTable) → SameObjects os os2 → object_at os o ≡ Some row → PutsObject o (Some row) os os2
+put_same o row os os2 same found = record {
+  at = λ x. elim (eqb_tells o x) [
+    | inl is ↦ same.at x ∙ (sym (ap (object_at os) is.1) ∙ (found ∙ sym (ap (λ b. if b then Some row else object_at os x) is.0)))
+    | inr apart ↦ same.at x ∙ sym (ap (λ b. if b then Some row else object_at os x) apart.0)
+  ];
+}
+
+-- A changed or precious page of a declared object that ends has gone to the pager, which has its control still.
+pub record GoesToPager (header : Header) (k : Parts) (key : PageKey) (known : ObjectRow) (row : PageRow) (memory : HostParts) (laundry : LaundryList) : Type 0
+  where
+    pub declared : key.object.0 < named header
+    pub first : (q : ℕ) → q < key.page.0 → row_at k.memory.resident key.object.0 q ≡ None
+    pub found : object_at k.memory.objects key.object.0 ≡ Some known
+    pub live : known.live ≡ true
+    pub here : row.here ≡ true
+    pub wanted : (row.dirty || row.precious) ≡ true
+    pub removes : Removes key row k.memory memory
+    pub objects : SameObjects k.memory.objects memory.objects
+    pub absent : PutsAbsent key.object.0 key.page.0 false k.memory.objects memory.objects
+    pub buffers : memory.buffers ≡ k.memory.buffers
+    pub held : laundry.held ≡ k.laundry.held ++ row.frame ∷ []
+    pub room : laundry.room + 1 ≡ k.laundry.room
+
+pub ends_returned : (header : Header) (h : ℕ) (outside : Outside) (doing : Command) (past : List Event) (who : Woken) (k : Parts) (ids : Ids)
+    (rest : List Entry) (key : PageKey) (known : ObjectRow) (row : PageRow) (memory : HostParts) (laundry : LaundryList) (events : List Event)
+    → EndsObject header h who k ids rest key.object.0 (events ++ past) → GoesToPager header k key known row memory laundry
+    → EndsObject header h who (record k { memory = memory; laundry = laundry }) ids rest key.object.0
+    ((going_back h key known row (page_in k.memory.frames row.frame.0) ∷ events) ++ past)
+    × LegalEvents header h outside doing past events (going_back h key known row (page_in k.memory.frames row.frame.0) ∷ events)
+ends_returned header h outside doing past who k ids rest key known row memory laundry events e goes = (
+  record {
+    runs = record {
+      matches = record {
+        ranged = m.ranged;
+        declared = m.declared;
+        kinds = kinds_same header k.memory.objects memory.objects k.chains goes.objects marks m.kinds;
+        shared = m.shared;
+        known = m.known;
+        size = m.size;
+        host = m.host;
+        fits = record {
+          parts = fit2;
+          plain = plain2;
+          buffers = ap (λ z. z.size) goes.buffers ∙ m.fits.buffers;
+        };
+        tasks = m.tasks;
+        regions =
+            regions_after leaves (regions_controlled o known known k.chains k.memory.objects memory.objects ids (λ r. region_of header r moment)
+            (λ o2. backing_of header o2 moment) (next_region header moment) (next_object header moment) (marked_regions header moment) goes.found put refl refl
+            m.regions);
+        homes = m.homes;
+        files = files_same header h k.memory.objects memory.objects (λ o2. home_of o2 moment) goes.objects m.files;
+        entries = m.entries;
+        pages =
+            rw (own_host h) (pages_known header header.size effect_at (λ o2 p2. local header.size h (place_of o2 p2) moment)
+            (λ o2 p2. other_nested (o == o2) (p == p2)) pages2);
+        uses = m.uses;
+        controls =
+            controls_after leaves (controls_same k.memory.objects memory.objects (λ o2. last_control h o2 moment) (λ o2. live_control h o2 moment)
+            (λ o2. is_ready h o2 moment) m.controls goes.objects.at);
+        homeless = homeless_after leaves m.homeless;
+        settled = record { none_owed = refl; shut = λ region. refl };
+        replied = replied_behind tt m.replied;
+        laundry = rw (own_host h) (laundry_returned key row _ _ k.memory memory k.laundry laundry (returns_out h moment) m.laundry c goes.held goes.room);
+        frames = frames2;
+      };
+      waits = waits_returned header h (host_id h) key.object known.control key.page row.dirty false (page_in k.memory.frames row.frame.0) moment here_then
+          (waiters_lost k.maps k.chains k.memory.resident memory.resident k.memory.objects memory.objects k.waits.rows (is_woken who) (λ t. waiting t moment) o
+          p row e.runs.waits c.found goes.here (unsent header h past who k ids rest key row events e c.found) c.row
+          (λ object told. record { row = told.row; found = goes.objects.at object ∙ told.found; sent = told.sent })
+          (λ object is. ap ready_in (goes.objects.at object) ∙ is));
+      order = e.runs.order;
+    };
+    used = used_away k.memory.resident memory.resident e.used (away_put o p None row k.memory.resident memory.resident c.found c.row);
+    row = e.row;
+    known = goes.objects.at o ∙ e.known;
+    none = e.none;
+    referred =
+        but_known o known k.chains k.memory.objects memory.objects memory.resident put (λ p2 row2 found is. sym (ap is_live_in goes.found) ∙ is)
+        (but_gone o o p k.chains k.memory.objects k.memory.resident memory.resident c.row e.referred);
+  },
+  goes_one header h outside doing past events sent m.settled (record {
+    consequence = tt;
+    cause = cause;
+    own_bytes = tt;
+    frames = suffices header h memory.frames (sent ∷ moment) frames2;
+    inner = tt;
+    said = (refl, long);
+    own = own_named h;
+    creates = tt;
+  }),
+)
+  where
+    m : Matches header h k ids rest (events ++ past)
+    m = e.runs.matches
+
+    moment : List Event
+    moment = events ++ past
+
+    o : ℕ
+    o = key.object.0
+
+    p : ℕ
+    p = key.page.0
+
+    c : Removes key row k.memory memory
+    c = goes.removes
+
+    here_then : (page_on header h o p moment).here ≡ true
+    here_then = (shows_row (shown_at m) o p row c.found goes.here).here
+
+    sent : Event
+    sent = going_back h key known row (page_in k.memory.frames row.frame.0)
+
+    leaves : Leaves header (events ++ past) (going_back h key known row (page_in k.memory.frames row.frame.0) ∷ (events ++ past))
+    leaves =
+        record {
+          regions_made = refl;
+          objects_made = refl;
+          region = λ r. refl;
+          backing = λ o. refl;
+          home = λ r. refl;
+          made_for = λ o. refl;
+          used = λ g r. refl;
+          target = λ task. refl;
+        }
+
+    marks : SameMarks k.memory.objects memory.objects
+    marks = marks_kept header o p k.memory.objects memory.objects k.chains m.kinds goes.declared goes.absent
+
+    put : PutsObject o (Some known) k.memory.objects memory.objects
+    put = put_same o known k.memory.objects memory.objects goes.objects goes.found
+
+    seen : IsSeen (known_local header o p (local header.size h (place_of o p) (events ++ past))) row (page_in k.memory.frames row.frame.0)
+    seen = seen_here k.memory.frames row (absent_at k.memory.objects o p) (known_local header o p (local header.size h (place_of o p) (events ++ past)))
+        (m.pages.shown o p ∙ ap (λ z. local_of_row k.memory.frames z (absent_at k.memory.objects o p)) c.found) goes.here
+
+    due : ((local header.size h (place_of o p) (events ++ past)).dirty || (local header.size h (place_of o p) (events ++ past)).precious) ≡ true
+    due = ap (λ z. z || (local header.size h (place_of o p) (events ++ past)).precious) seen.dirty ∙ (ap (λ z. row.dirty || z) seen.precious ∙ goes.wanted)
+
+    why : ReturnCause header doing h o p false (events ++ past)
+    why = Ended refl goes.declared (unheld header h k ids rest (events ++ past) o e.row m e.known e.none goes.declared)
+
+    least : (q : ℕ) → q < p → (local header.size h (place_of o q) (events ++ past)).here ≡ false
+    least q low = ap (λ z. z.here) (m.pages.shown o q ∙ ap (λ z. local_of_row k.memory.frames z (absent_at k.memory.objects o q)) (goes.first q low))
+
+    cause : CausedInTurn header outside doing (going_back h key known row (page_in k.memory.frames row.frame.0)) (events ++ past)
+    cause = (
+      record {
+        live = m.controls.live o ∙ (ap live_in goes.found ∙ ap (λ b. if b then Some known.control else None) goes.live);
+        here = seen.here;
+        due = due;
+        same = sym seen.bytes_are;
+        flag = sym seen.dirty;
+        why = why;
+      },
+      least,
+    )
+
+    long : length (page_in k.memory.frames row.frame.0) ≡ header.size
+    long = m.fits.parts.all_sized row.frame.0 c.inside ∙ (m.fits.buffers ∙ m.size)
+
+    fit2 : Fit memory
+    fit2 =
+        let kept : HostParts = record memory { objects = k.memory.objects } in
+        let was : Changes key row.frame (Some row) None true (page_in k.memory.frames row.frame.0) (queues_except row.frame.0 k.memory.queues) k.memory kept =
+        record {
+          found = c.found;
+          was_in = c.was_in;
+          inside = c.inside;
+          had = c.had;
+          owned = c.owned;
+          listed = c.listed;
+          row = c.row;
+          now_in = c.now_in;
+          owner = c.owner;
+          frames = c.frames;
+          page = c.page;
+          claim = c.claim;
+          claims = c.claims;
+          left = c.left;
+          queues = c.queues;
+          lists_are = c.lists_are;
+        } in
+        fit_objects kept memory.objects
+        (fit_changed key row.frame (Some row) None true (page_in k.memory.frames row.frame.0) (queues_except row.frame.0 k.memory.queues) k.memory kept
+        m.fits.parts was (λ some. absurd (let bad : false ≡ true = some in cc))
+        (λ some. absurd (let bad : false ≡ true = some in cc)) (m.fits.parts.all_sized row.frame.0 c.inside) refl refl goes.buffers)
+        (λ o2. ap pages_of_row (goes.objects.at o2))
+
+    plain2 : ArePlain memory.resident
+    plain2 = plain_changed key row.frame _ _ _ _ _ k.memory memory m.fits.plain c tt
+
+    effect_at : ℕ → ℕ → LocalEffect
+    effect_at o2 p2 = if o == o2 then (if p == p2 then Returns false else Elsewhere) else Elsewhere
+
+    other_nested : (a b : Bool) → IsOther (if a then (if b then Returns false else Elsewhere) else Elsewhere)
+    other_nested true b = other_if b (Returns false) tt
+    other_nested false b = tt
+
+    nested : (a b : Bool) → (if a then (if b then Returns false else Elsewhere) else Elsewhere) ≡ (if a && b then Returns false else Elsewhere)
+    nested true b = refl
+    nested false b = refl
+
+    pages2 : HasPages memory.frames memory.resident memory.objects (λ o2 p2. local_after header.size (effect_at o2 p2)
+        (known_local header o2 p2 (local header.size h (place_of o2 p2) (events ++ past))))
+    pages2 =
+        let local_at = λ (o2 p2 : ℕ). known_local header o2 p2 (local header.size h (place_of o2 p2) (events ++ past)) in
+        let moved = pages_moved header.size (Returns false) key row.frame _ _ _ _ _ k.memory memory memory.objects local_at m.fits.parts m.pages c
+        (ap (λ z. record away { asked = not z }) goes.here ∙ ap (λ z. record away { absent = z }) (sym (marks.at o p ∙ m.kinds.present o p goes.declared)))
+        (λ o2 p2 apart. marks.at o2 p2) in
+        record { shown = λ o2 p2. ap (λ e. local_after header.size e (local_at o2 p2)) (nested (o == o2) (p == p2)) ∙ moved.shown o2 p2 }
+
+    frames2 : HasFrames (slice_get (reverse header.frames.items) h) memory.frames
+        (frames_held header.size h (going_back h key known row (page_in k.memory.frames row.frame.0) ∷ (events ++ past)))
+        (frames_wired h (going_back h key known row (page_in k.memory.frames row.frame.0) ∷ (events ++ past)))
+    frames2 =
+        frames_changed (slice_get (reverse header.frames.items) h) key row.frame _ _ _ _ _ k.memory memory (frames_held header.size h moment)
+        (frames_held header.size h moment) (frames_wired h moment) m.frames c (λ held. let same = c.claims in omega arith)
+
+-- its control ends
+
+-- the row of an object whose control has ended
+abbrev pub quiet_row : ObjectRow → ObjectRow
+quiet_row row = record row { live = false; state = state.Without }
+
+pages_quiet : (size control o : ℕ) (fs : FrameTable) (rs : ResidentTable) (os os2 : ObjectTable) (local_at : ℕ → ℕ → Local) (live_at : ℕ → Option ℕ)
+    → HasPages fs rs os local_at → live_at o ≡ Some control → ((p : ℕ) → row_at rs o p ≡ None) → SameMarks os os2
+    → HasPages fs rs os2 (λ o2 p. local_after size (if o == o2 then (if is_control control (live_at o2) then EndsControl else Elsewhere) else Elsewhere)
+    (local_at o2 p))
+pages_quiet size control o fs rs os os2 local_at live_at has live bare marks =
+    record {
+      shown = λ o2 p. elim (eqb_tells o o2) [
+        | inl same ↦
+            let none : row_at rs o2 p ≡ None = subst (λ (z : ℕ). row_at rs z p ≡ None) same.1 (bare p) in
+            let had : local_at o2 p ≡ local_of_row fs None (absent_at os o2 p) = has.shown o2 p ∙ ap (λ z. local_of_row fs z (absent_at os o2 p)) none in
+            let its : is_control control (live_at o2) ≡ true = ap (λ z. is_control control (live_at z)) (sym same.1)
+            ∙ (ap (is_control control) live ∙ itself control) in
+            ap (λ b. local_after size (if b then (if is_control control (live_at o2) then EndsControl else Elsewhere) else Elsewhere) (local_at o2 p)) same.0
+            ∙ (ap (λ b. local_after size (if b then EndsControl else Elsewhere) (local_at o2 p)) its
+            ∙ (ap (local_after size EndsControl) had ∙ (ap (λ z. record away { absent = z }) (sym (marks.at o2 p))
+            ∙ sym (ap (λ z. local_of_row fs z (absent_at os2 o2 p)) none))))
+        | inr apart ↦
+            ap (λ b. local_after size (if b then (if is_control control (live_at o2) then EndsControl else Elsewhere) else Elsewhere) (local_at o2 p)) apart.0
+            ∙ (has.shown o2 p ∙ ap (local_of_row fs (row_at rs o2 p)) (sym (marks.at o2 p)))
+      ];
+    }
+
+controls_quiet : {d h : ℕ} {home_at : ℕ → Option ℕ} (control o : ℕ) (row : ObjectRow) (os os2 : ObjectTable) (last_at : ℕ → ℕ) (live_at : ℕ → Option ℕ)
+    (ready_at : ℕ → Bool) → HasControls d h os last_at live_at ready_at home_at → object_at os o ≡ Some row → live_at o ≡ Some control
+    → PutsObject o (Some (quiet_row row)) os os2 → HasControls d h os2 last_at (λ o2. if o == o2 then without_control control (live_at o2) else live_at o2)
+    ready_at home_at
+controls_quiet {h = h} {home_at = home_at} control o row os os2 last_at live_at ready_at has found live put =
+    record {
+      last = λ o2. elim (cases o2) [
+        | inl this ↦ has.last o2 ∙ (ap last_in (was o2 this.0) ∙ sym (ap last_in this.1))
+        | inr other ↦ has.last o2 ∙ sym (ap last_in other.1)
+      ];
+      live = λ o2. elim (eqb_tells o o2) [
+        | inl same ↦
+            ap (λ b. if b then without_control control (live_at o2) else live_at o2) same.0
+            ∙ (ap (without_control control) (alive o2 same.1) ∙ (ended ∙ sym (ap live_in (now o2 same.1))))
+        | inr apart ↦ ap (λ b. if b then without_control control (live_at o2) else live_at o2) apart.0 ∙ (has.live o2 ∙ sym (ap live_in (kept o2 apart.1)))
+      ];
+      ready = λ o2 number is. elim (eqb_tells o o2) [
+        | inl same ↦
+            let none : (if o == o2 then without_control control (live_at o2) else live_at o2) ≡ None = ap
+            (λ b. if b then without_control control (live_at o2) else live_at o2) same.0 ∙ (ap (without_control control) (alive o2 same.1) ∙ ended) in
+            absurd (let bad : None ≡ Some number = sym none ∙ is in cc)
+        | inr apart ↦
+            let still : (if o == o2 then without_control control (live_at o2) else live_at o2) ≡ live_at o2 = ap
+            (λ b. if b then without_control control (live_at o2) else live_at o2) apart.0 in
+            has.ready o2 number (sym still ∙ is) ∙ sym (ap ready_in (kept o2 apart.1))
+      ];
+      all_live = record {
+        at = λ o2 row2 is told. elim (cases o2) [
+          | inl this ↦ absurd (told (ap (λ z. z.state) (some_is row2 (quiet_row row) (sym is ∙ this.1))))
+          | inr other ↦ has.all_live.at o2 row2 (sym other.1 ∙ is) told
+        ];
+      };
+      numbers = record {
+        at = λ o2 row2 is. elim (cases o2) [
+          | inl this ↦ subst (λ (z : ℕ). z < 2 ^ 32 - 1) (ap (λ z. z.control) (some_is (quiet_row row) row2 (sym this.1 ∙ is))) (has.numbers.at o row found)
+          | inr other ↦ has.numbers.at o2 row2 (sym other.1 ∙ is)
+        ];
+      };
+      ended = λ o2 row2 is lives none. elim (cases o2) [
+        | inl this ↦ absurd (let bad : true ≡ false = sym lives ∙ ap (λ z. z.live) (some_is row2 (quiet_row row) (sym is ∙ this.1)) in cc)
+        | inr other ↦ has.ended o2 row2 (sym other.1 ∙ is) lives none
+      ];
+      home = λ o2 row2 least is. elim (cases o2) [
+        | inl this ↦ subst (λ (z : ℕ). home_at z ≡ Some h) this.0 (has.home o row (let same = this.0 in omega (arith, same, least)) found)
+        | inr other ↦ has.home o2 row2 least (sym other.1 ∙ is)
+      ];
+    }
+  where
+    cases : (o2 : ℕ) → ((o ≡ o2) × (object_at os2 o2 ≡ Some (quiet_row row))) ⊎ ((o ≡ o2 → ⊥) × (object_at os2 o2 ≡ object_at os o2))
+    cases o2 = one_case o o2 (Some (quiet_row row)) (object_at os o2) (object_at os2 o2) (put.at o2)
+
+    was : (o2 : ℕ) → o ≡ o2 → object_at os o2 ≡ Some row
+    was o2 same = subst (λ (z : ℕ). object_at os z ≡ Some row) same found
+
+    now : (o2 : ℕ) → o ≡ o2 → object_at os2 o2 ≡ Some (quiet_row row)
+    now o2 same = elim (cases o2) [ inl this ↦ this.1 | inr other ↦ absurd (other.0 same) ]
+
+    kept : (o2 : ℕ) → (o ≡ o2 → ⊥) → object_at os2 o2 ≡ object_at os o2
+    kept o2 apart = elim (cases o2) [ inl this ↦ absurd (apart this.0) | inr other ↦ other.1 ]
+
+    alive : (o2 : ℕ) → o ≡ o2 → live_at o2 ≡ Some control
+    alive o2 same = subst (λ (z : ℕ). live_at z ≡ Some control) same live
+
+    ended : without_control control (Some control) ≡ None
+    ended = ap (λ b. if b then None else Some control) (itself control)
+
+-- the control ends, and its pager is told
+pub ends_told : (header : Header) (h : ℕ) (outside : Outside) (doing : Command) (past : List Event) (who : Woken) (k : Parts) (ids : Ids) (rest : List Entry)
+    (object : ObjectId) (events : List Event) (row : ObjectRow) (objects : ObjectTable)
+    → EndsObject header h who k ids rest object.0 (events ++ past) → ((p : ℕ) → row_at k.memory.resident object.0 p ≡ None)
+    → object_at k.memory.objects object.0 ≡ Some row → row.live ≡ true
+    → PutsObject object.0 (Some (quiet_row row)) k.memory.objects objects → SameMarks k.memory.objects objects
+    → EndsObject header h who (record k { memory = record k.memory { objects = objects } }) ids rest object.0
+    ((event.Sent (Up (host_id h) object) (message.Terminate row.control) ∷ events) ++ past)
+    × LegalEvents header h outside doing past events (event.Sent (Up (host_id h) object) (message.Terminate row.control) ∷ events)
+ends_told header h outside doing past who k ids rest object events row objects s none found live put marks = (
+  record {
+    runs = record {
+      matches = record {
+        ranged = m.ranged;
+        declared = m.declared;
+        kinds = kinds_put header o (quiet_row row) k.memory.objects objects k.chains put marks quiet m.kinds;
+        shared = m.shared;
+        known = m.known;
+        size = m.size;
+        host = m.host;
+        fits =
+            record {
+              parts = fit_objects k.memory objects m.fits.parts (same_pages k.memory.objects objects o row (quiet_row row) found refl put);
+              plain = m.fits.plain;
+              buffers = m.fits.buffers;
+            };
+        tasks = m.tasks;
+        regions =
+            regions_after leaves (regions_controlled o row (quiet_row row) k.chains k.memory.objects objects ids (λ r. region_of header r moment)
+            (λ o2. backing_of header o2 moment) (next_region header moment) (next_object header moment) (marked_regions header moment) found put refl refl
+            m.regions);
+        homes = m.homes;
+        files = files_put header h o row (quiet_row row) k.memory.objects objects (λ o2. home_of o2 moment) found put m.files;
+        entries = m.entries;
+        pages = rw (own_host h)
+            (pages_known header header.size (λ o2 p. if o == o2 then (if is_control row.control (live_control h o2 moment) then EndsControl else Elsewhere) else
+            Elsewhere) (λ o2 p. local header.size h (place_of o2 p) moment)
+            (λ o2 p. other_if (o == o2) (if is_control row.control (live_control h o2 moment) then EndsControl else Elsewhere)
+            (other_if (is_control row.control (live_control h o2 moment)) EndsControl tt))
+            (pages_quiet header.size row.control o k.memory.frames k.memory.resident k.memory.objects objects
+            (λ o2 p. known_local header o2 p (local header.size h (place_of o2 p) moment)) (λ o2. live_control h o2 moment) m.pages alive none marks));
+        uses = m.uses;
+        controls =
+            controls_after leaves (rw (own_host h) (controls_quiet row.control o row k.memory.objects objects (λ o2. last_control h o2 moment)
+            (λ o2. live_control h o2 moment) (λ o2. is_ready h o2 moment) m.controls found alive put));
+        homeless = homeless_after leaves m.homeless;
+        settled = record { none_owed = refl; shut = λ region. refl };
+        replied = replied_behind tt m.replied;
+        laundry = m.laundry;
+        frames = m.frames;
+      };
+      waits = waits_quiet header h (event.Sent (Up (host_id h) object) (message.Terminate row.control)) moment
+          (λ place. quiet_if (h == h && o == place.object.0) (if is_control row.control (live_control h place.object.0 moment) then EndsControl else Elsewhere)
+          Elsewhere (quiet_if (is_control row.control (live_control h place.object.0 moment)) EndsControl Elsewhere tt tt) tt)
+          (waits_told k.maps k.chains k.memory.resident k.memory.objects objects k.waits.rows (is_woken who) (λ t. waiting t moment) s.runs.waits
+          (told_apart k.maps k.chains k.memory.objects objects o (Some (quiet_row row)) put (unreferred_region m.regions o row found unreferred)
+          (unreferred_shadow m.regions o row found unreferred))
+          (λ o2 p page there is. elim (one_case o o2 (Some (quiet_row row)) (object_at k.memory.objects o2) (object_at objects o2) (put.at o2)) [
+            | inl this ↦ absurd (let bad : None ≡ Some page = sym (subst (λ (z : ℕ). row_at k.memory.resident z p ≡ None) this.0 (none p)) ∙ there in cc)
+            | inr other ↦ ap ready_in other.1 ∙ is
+          ]));
+      order = s.runs.order;
+    };
+    used = s.used;
+    row = quiet_row row;
+    known = known_put o (quiet_row row) k.memory.objects objects put;
+    none = unreferred;
+    referred =
+        but_known o (quiet_row row) k.chains k.memory.objects objects k.memory.resident put
+        (λ p row2 there is. absurd (let bad : None ≡ Some row2 = sym (none p) ∙ there in cc)) s.referred;
+  },
+  goes_one header h outside doing past events ending m.settled (record {
+    consequence = tt;
+    cause = cause;
+    own_bytes = tt;
+    frames = suffices header h k.memory.frames (ending ∷ moment) m.frames;
+    inner = tt;
+    said = refl;
+    own = own_named h;
+    creates = tt;
+  }),
+)
+  where
+    moment : List Event
+    moment = events ++ past
+
+    o : ℕ
+    o = object.0
+
+    m : Matches header h k ids rest (events ++ past)
+    m = s.runs.matches
+
+    ending : Event
+    ending = event.Sent (Up (host_id h) object) (message.Terminate row.control)
+
+    leaves : Leaves header (events ++ past) (event.Sent (Up (host_id h) object) (message.Terminate row.control) ∷ (events ++ past))
+    leaves =
+        record {
+          regions_made = refl;
+          objects_made = refl;
+          region = λ r. refl;
+          backing = λ o. refl;
+          home = λ r. refl;
+          made_for = λ o. refl;
+          used = λ g r. refl;
+          target = λ task. refl;
+        }
+
+    unreferred : row.references ≡ 0
+    unreferred = ap (λ z. z.references) (some_is row s.row (sym found ∙ s.known)) ∙ s.none
+
+    quiet : IsOfKind header object.0 (quiet_row row)
+    quiet =
+        let its = m.kinds.kinds object.0 row found in
+        record {
+          lives = refl;
+          temporary = λ least. record { kind = (its.temporary least).kind; number = λ some. absurd (omega (arith, some, unreferred)) };
+          declared =
+              λ less. record { kind = (its.declared less).kind; pages = (its.declared less).pages; told = λ some. absurd (omega (arith, some, unreferred)) };
+        }
+
+    alive : live_control h object.0 (events ++ past) ≡ Some row.control
+    alive = m.controls.live object.0 ∙ (ap live_in found ∙ ap (λ b. if b then Some row.control else None) live)
+
+    bare : (p : ℕ) → known_local header object.0 p (local header.size h (place_of object.0 p) (events ++ past)) ≡ local_of_row k.memory.frames None
+        (absent_at k.memory.objects object.0 p)
+    bare p = m.pages.shown object.0 p ∙ ap (λ z. local_of_row k.memory.frames z (absent_at k.memory.objects object.0 p)) (none p)
+
+    cause : CausedInTurn header outside doing (event.Sent (Up (host_id h) object) (message.Terminate row.control)) (events ++ past)
+    cause = record {
+      live = alive;
+      unreached = unreached header h k ids rest (events ++ past) object.0 row m s.used.copies found unreferred;
+      unheld = unheld header h k ids rest (events ++ past) object.0 row m found unreferred;
+      away = λ p. ap (λ z. z.here) (bare p);
+      unasked = λ p. ap (λ z. z.asked) (bare p);
+    }
+
+-- what stood under it goes
+
+entries_kept : (size : ℕ) (maps : Mapped) (cs cs2 : ChainTable) (rest : List Entry) → ((r : ℕ) → region_at cs2 r ≡ region_at cs r)
+    → HasEntries size maps cs rest → HasEntries size maps cs2 rest
+entries_kept size maps cs cs2 rest same has =
+    record {
+      inside = λ task.
+          rows_map (IsInside size cs) (IsInside size cs2)
+          (λ row is. record {
+            region = ap is_some (same row.region.0) ∙ is.region;
+            some = is.some;
+            below = is.below;
+            inside = subst (λ (z : ℕ). Inside size z row) (sym (ap pages_in (same row.region.0))) is.inside;
+          })
+          (rows_in task maps) (has.inside task);
+      known =
+          rows_map (λ row. has_region cs row.region.0 ≡ true) (λ row. has_region cs2 row.region.0 ≡ true) (λ row is. ap is_some (same row.region.0) ∙ is) rest
+          has.known;
+      most = has.most;
+      few = has.few;
+      counts = λ r row found. has.counts r row (sym (same r) ∙ found);
+    }
+
+-- An object to which nothing refers, without pages and without a control, loses what stands under it: that has so many references left.
+pub record LeavesOne (k : Parts) (o left : ℕ) (row : ShadowRow) (known : ObjectRow) (chains : ChainTable) (objects : ObjectTable) : Type 0 where
+  pub bare : (p : ℕ) → row_at k.memory.resident o p ≡ None
+  pub quiet : (known : ObjectRow) → object_at k.memory.objects o ≡ Some known → known.live ≡ false
+  pub found : shadow_at k.chains o ≡ Some row
+  pub drops : DropsShadow o k.chains chains
+  pub under : object_at k.memory.objects row.under.0 ≡ Some known
+  pub less : left + 1 ≡ known.references
+  pub put : PutsObject row.under.0 (Some (record known { references = left })) k.memory.objects objects
+  pub marks : SameMarks k.memory.objects objects
+
+runs_dropped : (header : Header) (h : ℕ) (past : List Event) (who : Woken) (k : Parts) (ids : Ids) (rest : List Entry) (o left : ℕ) (row : ShadowRow)
+    (known : ObjectRow) (events : List Event) (chains : ChainTable) (objects : ObjectTable)
+    → EndsObject header h who k ids rest o (events ++ past) → LeavesOne k o left row known chains objects
+    → IsAmid header h who (record k { chains = chains; memory = record k.memory { objects = objects } }) ids rest (events ++ past)
+runs_dropped header h past who k ids rest o left row known events chains objects e leaves =
+    let moment = events ++ past in
+    let m : Matches header h k ids rest moment = e.runs.matches in
+    let under = row.under.0 in
+    record {
+      matches = record {
+        ranged = m.ranged;
+        declared = m.declared;
+        kinds = kinds_put header under (record known { references = left }) k.memory.objects objects chains leaves.put leaves.marks
+            (kind_referred header under known left (let less = leaves.less in omega (arith, less)) (m.kinds.kinds under known leaves.under))
+            (kinds_dropped header o k.memory.objects k.chains chains leaves.drops m.kinds);
+        shared = m.shared;
+        known = m.known;
+        size = m.size;
+        host = m.host;
+        fits =
+            record {
+              parts = fit_objects k.memory objects m.fits.parts (same_pages k.memory.objects objects under known (record known { references = left })
+                  leaves.under refl leaves.put);
+              plain = m.fits.plain;
+              buffers = m.fits.buffers;
+            };
+        tasks = m.tasks;
+        regions =
+            regions_dropped o left row e.row known k.chains chains k.memory.objects objects ids (λ r. region_of header r moment)
+            (λ o2. backing_of header o2 moment) (next_region header moment) (next_object header moment) (marked_regions header moment)
+            leaves.found e.known e.none leaves.drops leaves.under leaves.less leaves.put m.regions;
+        homes = λ r region paged found. m.homes r region paged (sym (ap (λ f. f r) leaves.drops.regions) ∙ found);
+        files =
+            files_put header h under known (record known { references = left }) k.memory.objects objects (λ o2. home_of o2 moment) leaves.under leaves.put
+            m.files;
+        entries = entries_kept header.size k.maps k.chains chains rest (λ r. ap (λ f. f r) leaves.drops.regions) m.entries;
+        pages = record { shown = λ o2 p. m.pages.shown o2 p ∙ ap (local_of_row k.memory.frames (row_at k.memory.resident o2 p)) (sym (leaves.marks.at o2 p)) };
+        uses = m.uses;
+        controls = controls_referred under left known k.memory.objects objects _ _ _ leaves.under leaves.put m.controls;
+        homeless = m.homeless;
+        settled = m.settled;
+        replied = m.replied;
+        laundry = m.laundry;
+        frames = m.frames;
+      };
+      waits =
+          waits_dropped k.maps k.chains chains k.memory.resident k.memory.objects objects k.waits.rows (is_woken who) (λ t. waiting t moment) o under left known
+          e.runs.waits leaves.drops
+          (unreferred_region m.regions o e.row e.known e.none) (unreferred_shadow m.regions o e.row e.known e.none) leaves.under leaves.put;
+      order = e.runs.order;
+    }
+
+used_dropped : (header : Header) (h : ℕ) (past : List Event) (who : Woken) (k : Parts) (ids : Ids) (rest : List Entry) (o : ℕ) (events : List Event)
+    (chains : ChainTable) → EndsObject header h who k ids rest o (events ++ past)
+    → DropsShadow o k.chains chains → UsesAll header (record k { chains = chains }) (events ++ past)
+used_dropped header h past who k ids rest o events chains e drops =
+    record {
+      regions = λ r row found. e.used.regions r row (sym (ap (λ f. f r) drops.regions) ∙ found);
+      copies =
+          copies_kept k.maps k.maps k.chains chains k.memory.resident k.memory.resident e.used.copies (λ t w found. record { size = refl; entries = refl })
+          (dropped_filled o k.chains chains drops) (rows_unmade k.chains k.memory.resident);
+    }
+
+-- something else refers to that still
+pub whole_dropped : (header : Header) (h : ℕ) (past : List Event) (who : Woken) (k : Parts) (ids : Ids) (rest : List Entry) (o left : ℕ) (row : ShadowRow)
+    (known : ObjectRow) (events : List Event) (chains : ChainTable) (objects : ObjectTable)
+    → EndsObject header h who k ids rest o (events ++ past) → LeavesOne k o left row known chains objects → 0 < left
+    → IsWhole header h who (record k { chains = chains; memory = record k.memory { objects = objects } }) ids rest (events ++ past)
+whole_dropped header h past who k ids rest o left row known events chains objects e leaves some =
+    record {
+      runs = runs_dropped header h past who k ids rest o left row known events chains objects e leaves;
+      used = used_dropped header h past who k ids rest o events chains e leaves.drops;
+      referred =
+          referred_dropped o row.under.0 (record known { references = left }) k.chains chains k.memory.objects objects k.memory.resident leaves.drops leaves.put
+          some (λ is. sym (ap is_live_in leaves.under) ∙ is) leaves.quiet leaves.bare e.referred;
+    }
+
+-- or nothing does, and it ends too
+pub ends_dropped : (header : Header) (h : ℕ) (past : List Event) (who : Woken) (k : Parts) (ids : Ids) (rest : List Entry) (o : ℕ) (row : ShadowRow)
+    (known : ObjectRow) (events : List Event) (chains : ChainTable) (objects : ObjectTable)
+    → EndsObject header h who k ids rest o (events ++ past) → LeavesOne k o 0 row known chains objects
+    → EndsObject header h who (record k { chains = chains; memory = record k.memory { objects = objects } }) ids rest row.under.0 (events ++ past)
+ends_dropped header h past who k ids rest o row known events chains objects e leaves =
+    record {
+      runs = runs_dropped header h past who k ids rest o 0 row known events chains objects e leaves;
+      used = used_dropped header h past who k ids rest o events chains e leaves.drops;
+      row = record known { references = 0 };
+      known = known_put row.under.0 (record known { references = 0 }) k.memory.objects objects leaves.put;
+      none = refl;
+      referred =
+          but_dropped o row.under.0 (record known { references = 0 }) k.chains chains k.memory.objects objects k.memory.resident leaves.drops leaves.put
+          (λ is. sym (ap is_live_in leaves.under) ∙ is) leaves.quiet leaves.bare e.referred;
+    }

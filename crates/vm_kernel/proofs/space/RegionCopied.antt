@@ -1,0 +1,915 @@
+-- A task gets an entry on a symmetric copy of a region.
+use Rattle.vm_kernel.proofs.Common.{Access, AllReferred, AllRows, ArePlain, Backing, Bool, ChainTable, ChangesOnly, Command, Enters, Entry, Event, Fit}
+use Rattle.vm_kernel.proofs.Common.{HasEntries, HasKinds, HasRegions, HasSlow, HasWaiters, HasWaits, Header, HostParts, Ids, Inside, IsAllowed, IsFilledIn}
+use Rattle.vm_kernel.proofs.Common.{IsInside, IsUsed, List, Mapped, None, ObjectRow, ObjectTable, Option, Outside, Parts, Place, PutsEntries, PutsObject, Ran}
+use Rattle.vm_kernel.proofs.Common.{Region, RegionRow, ResidentTable, Rests, SameMarks, Some, Starts, TaskId, Waiting, [], all_tasks, allows, ap, arith}
+use Rattle.vm_kernel.proofs.Common.{code_where, count_again, count_by, count_on, entered, entering, entries_in, entries_of, entry, entry_at, eqb_tells, false}
+use Rattle.vm_kernel.proofs.Common.{fit_objects, found_row, got, has_entry, head, holds, home_entered, home_of, home_stays, homes_next, host_of, if◌then◌else◌}
+use Rattle.vm_kernel.proofs.Common.{in_use, inl, inr, is_none, is_on, is_range, is_ready, is_some, is_woken, last_control, length, length_entered, live_control}
+use Rattle.vm_kernel.proofs.Common.{lives_on, local_of_row, marked_regions, meets_range, most_entries, named, nat_le, nat_tests, next_object, next_region}
+use Rattle.vm_kernel.proofs.Common.{object_at, one_case, page_at, page_below, pages_in, pages_of_row, place_at, refl, region_at, region_entries, region_of}
+use Rattle.vm_kernel.proofs.Common.{region_pages, row_at, rows_entered, rows_in, rows_map, same_pages, some_is, subst, suc, sym, tasks, true, waiting}
+use Rattle.vm_kernel.proofs.Common.{waiting_in, whole_entry, zero, ℕ, ◌%◌, ◌&&◌, ◌++◌, ◌+◌, ◌-◌, ◌/◌, ◌<◌, ◌==◌, ◌^◌, ◌||◌, ◌∙◌, ◌∷◌, ◌≡◌, ◌≤◌, ◌⊎◌}
+use Rattle.vm_kernel.proofs.space.RegionsFilled.{entry_some, filled_temporary, free_unfilled, row_use, same_waiting}
+use Rattle.vm_kernel.proofs.space.RegionsInUse.{fills_here, holds_rows, paged_temporary, unfilled, uses_entered}
+use Rattle.vm_state.proofs.Places.{keeps_copied, on_its_region}
+use Rattle.vm_state.proofs.Filling.{KeepsFilled, copies_kept, rows_unmade, top_unfilled}
+use Rattle.vm_state.specs.Filling.{filled_row}
+use Rattle.std.proofs.Common.{nat_lt, not}
+use Rattle.std.specs.Prelude.{IsSome}
+use Rattle.vm_base.specs.declared.ids.ObjectId.{ObjectId}
+use Rattle.vm_base.specs.declared.code.Code.TheVariants as code
+use Rattle.vm_base.specs.declared.ids.RegionId.{RegionId}
+use Rattle.vm_base.specs.Limits.{most_objects, most_pages, most_regions}
+use Rattle.vm_base.specs.declared.ids.Access.TheVariants as need
+use Rattle.vm_maps.specs.Judge.{judged}
+use Rattle.vm_model.specs.Rows.{div_grows, div_sum}
+use Rattle.vm_model.specs.declared.command.Command.TheVariants as command
+use Rattle.vm_model.specs.declared.event.Event.TheVariants as event
+use Rattle.vm_parts.specs.Changes.{one}
+use Rattle.vm_shadow.specs.Chains.{CopiesRegion, copy_of, shadow_at}
+use Rattle.vm_state.proofs.Changing.{SameButEntries, regions_recounted}
+use Rattle.vm_state.proofs.Copying.{regions_copied}
+use Rattle.vm_state.proofs.Counting.{elsewhere}
+use Rattle.vm_state.proofs.Files.{files_entered, files_put, no_file}
+use Rattle.vm_state.proofs.Marks.{marked_copied}
+use Rattle.vm_state.proofs.Referred.{referred_copied, referred_recounted}
+use Rattle.vm_state.proofs.Waited.{KeepsPlaces, waits_changed, told_changed}
+use Rattle.vm_state.specs.Places.{with_entries}
+use Rattle.vm_state.specs.References.{is_backing, is_live_in, is_over, tally}
+use Rattle.vm_kernel.specs.Forking.{CanCopy, EntersCopy, entry_on}
+use Rattle.vm_abroad.proofs.Home.{named_regions, object_stays}
+use Rattle.vm_legal.specs.Accesses.{At}
+use Rattle.vm_legal.specs.Follows.{copy_head}
+use Rattle.vm_legal.specs.Licences as cause
+use Rattle.vm_legal.specs.Outside.{is_file}
+use Rattle.vm_legal.specs.Refusal as refusing
+use Rattle.vm_legal.specs.Refusal.{is_uncopied}
+use Rattle.vm_state.proofs.Declared.{kind_cases, kind_referred, kinds_put}
+use Rattle.vm_state.proofs.Referring.{refers_region, row_of, small_region}
+use Rattle.vm_state.proofs.Told.{waits_referred}
+use Rattle.vm_supply.specs.declared.woken.Woken.TheVariants as woken
+use Rattle.vm_kernel.proofs.space.EntriesCounted.{by_none, none_on, on_entered, one_on}
+use Rattle.vm_kernel.proofs.steps.EventsGrow.{licensed, suffices}
+use Rattle.vm_kernel.proofs.steps.HeadAlone.{Heads, IsOne, passed, ran_head}
+use Rattle.vm_kernel.proofs.abroad.OwnEvents.{mine_of, own_task}
+use Rattle.vm_kernel.proofs.abroad.OwnHost.{lives_here, lives_in, rows_here}
+use Rattle.vm_kernel.proofs.space.CountsChanged.{recounts_put}
+use Rattle.vm_kernel.proofs.space.RegionRows.{apart_there, none_leads, region_row}
+use Rattle.vm_kernel.proofs.space.TaskTables.{Keeps, entries_changed, inside_kept, tasks_entered}
+use Rattle.vm_kernel.proofs.space.SharedEntries.{shared_entered, temporary_shared}
+use Rattle.vm_kernel.proofs.space.NothingChanged.{controls_stay, regions_behind}
+use Rattle.vm_kernel.proofs.space.EntriesRewritten.{lives_below}
+use Rattle.vm_kernel.proofs.space.RegionEnds.{controls_referred}
+use Rattle.vm_kernel.proofs.controls.LockReplied.{replied_behind}
+use Rattle.std.proofs.lemmas.Bool.{and_parts, not-false, or_parts}
+use Rattle.vm_state.specs.Passed.{IsUnmet, StaysAway}
+
+-- regions that count other entries
+
+pub same_put : (r n : ℕ) (old new : ChainTable) → PutsEntries r n old new → SameButEntries old new
+same_put r n old new put =
+    record {
+      count = λ q. if r == q then n else region_entries old q;
+      at = (recounts_put r n old new put).at;
+      shadows = λ o. ap (λ f. f o) put.shadows;
+    }
+
+pub keeps_recounted : (old new : ChainTable) → SameButEntries old new → KeepsPlaces old new
+keeps_recounted old new same =
+    record {
+      tops =
+          λ r row found. record {
+            row_now = record row { entries = same.count r };
+            found = same.at r ∙ ap (with_entries (same.count r)) found;
+            top = refl;
+            shift = refl;
+          };
+      shadows = λ o row found. same.shadows o ∙ found;
+    }
+
+pub keeps_both : (one two three : ChainTable) → KeepsPlaces one two → KeepsPlaces two three → KeepsPlaces one three
+keeps_both one two three a b =
+    record {
+      tops = λ r row found.
+          let first = a.tops r row found in
+          let second = b.tops r first.row_now first.found in
+          record { row_now = second.row_now; found = second.found; top = second.top ∙ first.top; shift = second.shift ∙ first.shift };
+      shadows = λ o row found. b.shadows o row (a.shadows o row found);
+    }
+
+-- The rows of regions, where one is copied and the copy has its first entry.
+
+data RowNow (source copy offset pages : ℕ) (region : RegionRow) (old : ChainTable) (r : ℕ) (row : RegionRow) : Type 0 where
+  OfCopy : copy ≡ r → row ≡ record (copy_of region offset pages) { entries = 1 } → RowNow source copy offset pages region old r row
+  OfSource : source ≡ r → row ≡ record region { marked = true } → RowNow source copy offset pages region old r row
+  OfOther : (copy ≡ r → ⊥) → region_at old r ≡ Some row → RowNow source copy offset pages region old r row
+
+-- a copy was made, and has one entry
+record CopiesOnce (source copy offset pages : ℕ) (region : RegionRow) (old mid new : ChainTable) : Type 0 where
+  free : region_at old copy ≡ None
+  there : region_at old source ≡ Some region
+  copies : CopiesRegion source copy offset pages region old mid
+  counts : PutsEntries copy 1 mid new
+
+copied_mid : (source copy offset pages : ℕ) (region : RegionRow) (old mid new : ChainTable) → CopiesOnce source copy offset pages region old mid new
+    → region_at mid copy ≡ Some (copy_of region offset pages)
+copied_mid source copy offset pages region old mid new c =
+    elim (one_case copy copy (Some (copy_of region offset pages)) (if source == copy then Some (record region { marked = true }) else region_at old copy)
+    (region_at mid copy) (c.copies.at copy)) [
+      | inl this ↦ this.1
+      | inr other ↦ absurd (other.0 refl)
+    ]
+
+copied_now : (source copy offset pages : ℕ) (region : RegionRow) (old mid new : ChainTable) → CopiesOnce source copy offset pages region old mid new
+    → region_at new copy ≡ Some (record (copy_of region offset pages) { entries = 1 })
+copied_now source copy offset pages region old mid new c =
+    elim (one_case copy copy (with_entries 1 (region_at mid copy)) (region_at mid copy) (region_at new copy) (c.counts.at copy)) [
+      | inl this ↦ this.1 ∙ ap (with_entries 1) (copied_mid source copy offset pages region old mid new c)
+      | inr other ↦ absurd (other.0 refl)
+    ]
+
+other_now : (source copy offset pages : ℕ) (region : RegionRow) (old mid new : ChainTable) → CopiesOnce source copy offset pages region old mid new → (r : ℕ)
+    → (copy ≡ r → ⊥)
+    → ((source ≡ r) × (region_at new r ≡ Some (record region { marked = true }))) ⊎ ((source ≡ r → ⊥) × (region_at new r ≡ region_at old r))
+other_now source copy offset pages region old mid new c r apart =
+    one_case source r (Some (record region { marked = true })) (region_at old r) (region_at new r)
+    (elsewhere copy r (with_entries 1 (region_at mid copy)) (region_at mid r) (region_at new r) (c.counts.at r) apart
+    ∙ elsewhere copy r (Some (copy_of region offset pages)) (if source == r then Some (record region { marked = true }) else region_at old r) (region_at mid r)
+    (c.copies.at r) apart)
+
+row_now : (source copy offset pages : ℕ) (region : RegionRow) (old mid new : ChainTable) → CopiesOnce source copy offset pages region old mid new
+    → (r : ℕ) (row : RegionRow) → region_at new r ≡ Some row → RowNow source copy offset pages region old r row
+row_now source copy offset pages region old mid new c r row found = elim (eqb_tells copy r) [
+  | inl same ↦ OfCopy same.1 (some_is row (record (copy_of region offset pages) { entries = 1 })
+      (sym found ∙ (ap (region_at new) (sym same.1) ∙ copied_now source copy offset pages region old mid new c)))
+  | inr apart ↦ elim (other_now source copy offset pages region old mid new c r apart.1) [
+    | inl this ↦ OfSource this.0 (some_is row (record region { marked = true }) (sym found ∙ this.1))
+    | inr other ↦ OfOther apart.1 (sym other.1 ∙ found)
+  ]
+]
+
+-- the regions that were there stay
+keeps_copy : (source copy offset pages : ℕ) (region : RegionRow) (old mid new : ChainTable) → CopiesOnce source copy offset pages region old mid new
+    → Keeps old new
+keeps_copy source copy offset pages region old mid new c =
+    record {
+      there = λ r is. elim (other_now source copy offset pages region old mid new c r (apart_there old copy r c.free is)) [
+        | inl this ↦ ap is_some this.1
+        | inr other ↦ ap is_some other.1 ∙ is
+      ];
+      pages = λ r is. elim (other_now source copy offset pages region old mid new c r (apart_there old copy r c.free is)) [
+        | inl this ↦ ap pages_in this.1 ∙ sym (ap pages_in (ap (region_at old) (sym this.0) ∙ c.there))
+        | inr other ↦ ap pages_in other.1
+      ];
+    }
+
+places_copy : (source copy offset pages : ℕ) (region : RegionRow) (old mid new : ChainTable) → CopiesOnce source copy offset pages region old mid new
+    → KeepsPlaces old new
+places_copy source copy offset pages region old mid new c =
+    keeps_both old mid new (keeps_copied old mid source copy offset pages region c.free c.there c.copies)
+    (keeps_recounted mid new (same_put copy 1 mid new c.counts))
+
+used_copy : (source copy offset pages : ℕ) (region : RegionRow) (old mid new : ChainTable) → CopiesOnce source copy offset pages region old mid new
+    → (list : List Waiting) → 0 < region.entries → ((r : ℕ) (row : RegionRow) → region_at old r ≡ Some row → (0 < row.entries) ⊎ IsFilledIn list r)
+    → (r : ℕ) (row : RegionRow) → region_at new r ≡ Some row → (0 < row.entries) ⊎ IsFilledIn list r
+used_copy source copy offset pages region old mid new c list some used r row found = by (row_now source copy offset pages region old mid new c r row found)
+  where
+    by : RowNow source copy offset pages region old r row → (0 < row.entries) ⊎ IsFilledIn list r
+    by (OfCopy same is) = let one = ap (λ z. z.entries) is in inl (omega (arith, one))
+    by (OfSource same is) = let count = ap (λ z. z.entries) is in inl (omega (arith, count, some))
+    by (OfOther apart was) = used r row was
+
+-- a region with entries is copied, over its object
+filled_copy : (source copy offset pages : ℕ) (region : RegionRow) (old mid new : ChainTable) → CopiesOnce source copy offset pages region old mid new
+    → 0 < region.entries → KeepsFilled old new
+filled_copy source copy offset pages region old mid new c some r object count was alone =
+    let over = top_unfilled old source region c.there some r object count was alone in (
+      elim (other_now source copy offset pages region old mid new c r (λ same. let bad : None ≡ Some (filled_row object count) = sym c.free
+          ∙ (ap (region_at old) same ∙ was) in cc)) [
+            | inl this ↦
+                let none : region.entries ≡ 0 = ap (λ z. z.entries) (some_is region (filled_row object count) (sym c.there ∙ (ap (region_at old) this.0 ∙ was))) in
+                absurd (omega (arith, some, none))
+            | inr other ↦ other.1 ∙ was
+          ],
+      record {
+        tops = λ q row found top. by_row over q row top (row_now source copy offset pages region old mid new c q row found);
+        unders = λ s row found under. alone.unders s row (sym (ap (λ f. f s) c.counts.shadows ∙ ap (λ f. f s) c.copies.shadows) ∙ found) under;
+      },
+    )
+  where
+    by_row : (region.top.0 ≡ object.0 → ⊥) → (q : ℕ) (row : RegionRow) → row.top.0 ≡ object.0 → RowNow source copy offset pages region old q row → q ≡ r
+    by_row over q row top (OfCopy same is) = absurd (over (sym (ap (λ z. z.top.0) is) ∙ top))
+    by_row over q row top (OfSource same is) = absurd (over (sym (ap (λ z. z.top.0) is) ∙ top))
+    by_row over q row top (OfOther apart found) = alone.tops q row found top
+
+-- an entry that holds an address
+pub entry_within : (address : ℕ) (rows : List Entry) (row : Entry) → entry_at address rows ≡ Some row → (row.address ≤ address)
+    × (address < row.address + row.bytes)
+entry_within address rows row found = let is = found_row (λ other. Unit {0}) address rows row (any rows) found in (is.from, is.below)
+  where
+    any : (rows : List Entry) → AllRows (λ other. Unit {0}) rows
+    any [] = tt
+    any (row ∷ rows) = (tt, any rows)
+
+-- an entry that a task can get, as far as its numbers and the task's others go
+pub record IsFree (size : ℕ) (row : Entry) (rows : List Entry) : Type 0 where
+  pub whole : row.bytes % size ≡ 0
+  pub some : 0 < row.bytes
+  pub below : row.address + row.bytes ≤ 2 ^ 32
+  pub room : length rows < most_entries
+
+entries_copy : (size : ℕ) (maps new : Mapped) (source offset : ℕ) (region : RegionRow) (cs mid cs2 : ChainTable) (task : ℕ) (copy : RegionId) (row : Entry)
+    → HasEntries size maps cs []
+    → CopiesOnce source copy.0 offset (row.bytes / size) region cs mid cs2 → ChangesOnly maps new task (Some (entered (entry_on row copy) (rows_in task maps)))
+    → task < all_tasks → IsFree size row (rows_in task maps) → HasEntries size new cs2 []
+entries_copy size maps new source offset region cs mid cs2 task copy row has c changes below free =
+    entries_changed size maps new cs cs2 task (entered (entry_on row copy) (rows_in task maps)) has keeps changes below
+    (rows_entered (IsInside size cs2) (entry_on row copy) (rows_in task maps) one
+    (rows_map (IsInside size cs) (IsInside size cs2) (λ other is. inside_kept size cs cs2 other keeps is) (rows_in task maps) (has.inside task)))
+    (omega (arith, length_entered (entry_on row copy) (rows_in task maps), free.room))
+    (λ r now found. by r now (row_now source copy.0 offset (row.bytes / size) region cs mid cs2 c r now found))
+  where
+    keeps : Keeps cs cs2
+    keeps = keeps_copy source copy.0 offset (row.bytes / size) region cs mid cs2 c
+
+    made : region_at cs2 copy.0 ≡ Some (record (copy_of region offset (row.bytes / size)) { entries = 1 })
+    made = copied_now source copy.0 offset (row.bytes / size) region cs mid cs2 c
+
+    sized : region_pages cs2 copy.0 ≡ row.bytes / size
+    sized = ap pages_in made
+
+    one : IsInside size cs2 (entry_on row copy)
+    one =
+        record {
+          region = ap is_some made;
+          some = free.some;
+          below = free.below;
+          inside =
+              subst (λ (z : ℕ). Inside size z (entry_on row copy)) (sym sized) (record {
+                whole = omega arith;
+                each = λ a low high. let less = page_below size (a - row.address) row.bytes (omega (arith, low, high)) free.whole in omega
+                    (arith, less);
+              });
+        }
+
+    by : (r : ℕ) (now : RegionRow) → RowNow source copy.0 offset (row.bytes / size) region cs r now
+        → now.entries + count_on r (rows_in task maps) ≡ count_by all_tasks r maps + count_on r (entered (entry_on row copy) (rows_in task maps))
+    by r now (OfCopy same is) =
+        let count = ap (λ z. z.entries) is in
+        let nothing : count_by all_tasks r maps ≡ 0 = by_none all_tasks r maps (λ t. subst (λ (z : ℕ). has_entry z (rows_in t maps) ≡ false) same
+        (none_leads size cs copy.0 (rows_in t maps) c.free (has.inside t))) in
+        omega (arith, count, nothing, one_on copy.0 r same, on_entered r (entry_on row copy) (rows_in task maps))
+    by r now (OfSource same is) =
+        let count = ap (λ z. z.entries) is in
+        let was = subst (λ (z : ℕ). region.entries ≡ count_by all_tasks z maps + 0) same (has.counts source region c.there) in
+        let other = none_on copy.0 r (λ e. apart_there cs copy.0 source c.free (ap is_some c.there) (e ∙ sym same)) in
+        omega (arith, count, was, other, on_entered r (entry_on row copy) (rows_in task maps))
+    by r now (OfOther apart found) = omega (arith, has.counts r now found, none_on copy.0 r apart, on_entered r (entry_on row copy) (rows_in task maps))
+
+-- the pages of the region are among those of an entry
+pub record IsFrom (header : Header) (source offset pages : ℕ) (past : List Event) : Type 0 where
+  pub task : ℕ
+  pub address : ℕ
+  pub at : At header task address past
+  pub source_is : source ≡ at.entry.region.0
+  pub inside : offset + pages ≤ at.entry.offset + at.entry.bytes / header.size
+
+-- What a copy that may be made has: its task lives here and doesn't wait, the range is free, the source has the pages, and numbers are left.
+
+pub record MayCopy (header : Header) (task : ℕ) (source : RegionId) (offset : ℕ) (row : Entry) (past : List Event) (k : Parts) : Type 0 where
+  pub lives : entries_in task k.maps ≡ Some (rows_in task k.maps)
+  pub idle : waiting task past ≡ None
+  pub free : judged k.maps.size (entering row) (rows_in task k.maps) ≡ None
+  pub pages : row.bytes / header.size < 2 ^ 32
+  pub region : RegionRow
+  pub there : region_at k.chains source.0 ≡ Some region
+  pub counted : 0 < region.entries
+  pub temporary : named header ≤ source.0
+  pub inside : offset + row.bytes / header.size ≤ region.pages
+  pub regions : next_region header past + 1 ≤ most_regions
+  pub objects : next_object header past + (marked_regions header past + (if (region_of header source.0 past).mark then 1 else 2)) ≤ most_objects
+  pub from : IsFrom header source.0 offset (row.bytes / header.size) past
+
+-- of a list of tests that finds nothing, each found nothing
+pub free_of : (size : ℕ) (row : Entry) (rows : List Entry) → judged size (entering row) rows ≡ None → IsFree size row rows
+free_of size row rows fine =
+    by (is_range size row.address row.bytes) (meets_range row.address row.bytes rows) (nat_lt most_entries (length rows + 1)) refl refl fine
+  where
+    by : (a b c : Bool) → is_range size row.address row.bytes ≡ a → nat_lt most_entries (length rows + 1) ≡ c
+        → (if not a then Some code.InvalidArgument else (if false then Some code.InvalidAddress else
+        (if b then Some code.NoSpace else (if c then Some code.TableFull else None)))) ≡ None → IsFree size row rows
+    by false b c range few none = absurd (let bad : Some code.InvalidArgument ≡ None = none in cc)
+    by true true c range few none = absurd (let bad : Some code.NoSpace ≡ None = none in cc)
+    by true false true range few none = absurd (let bad : Some code.TableFull ≡ None = none in cc)
+    by true false false range few none =
+        record {
+          whole = grind (arith, nat_tests);
+          some = grind (arith, nat_tests);
+          below = grind (arith, nat_tests);
+          room = grind (arith, nat_tests);
+        }
+
+-- as many references as regions and objects at most
+tally_few : (test : ℕ → Bool) (n : ℕ) → tally test n ≤ n
+tally_few test zero = omega arith
+tally_few test (suc n) = by (test n) (tally_few test n)
+  where
+    by : (b : Bool) → tally test n ≤ n → one b + tally test n ≤ suc n
+    by true le = omega arith
+    by false le = omega arith
+
+pub can_copy : (header : Header) (h : ℕ) (task : ℕ) (source : RegionId) (offset : ℕ) (row : Entry) (past : List Event) (k : Parts) (ids : Ids)
+    → Rests header h k ids past → MayCopy header task source offset row past k → CanCopy task source offset row k ids
+can_copy header h task source offset row past k ids rests may =
+    let m = rests.matches in
+    let known = row_of (object_at k.memory.objects may.region.top.0) (m.regions.tops source.0 may.region may.there) in
+    let few = m.regions.few in
+    let more = may.regions in
+    let next = m.regions.region in
+    let marks = m.regions.marks in
+    let count = m.regions.counts may.region.top.0 known.0 known.1 in
+    let overs = tally_few (λ r. is_over may.region.top.0 (region_at k.chains r)) (next_region header past) in
+    let unders = tally_few (λ s. is_backing may.region.top.0 (shadow_at k.chains s)) (next_object header past) in
+    let over = m.regions.fits.tops source.0 may.region may.there in
+    let sized = ap pages_of_row known.1 in
+    record {
+      lives = subst (λ (z : Option (List Entry)). IsSome z) (sym may.lives) refl;
+      free = may.free;
+      sized = m.tasks.sized ∙ sym m.size;
+      pages = subst (λ (z : ℕ). row.bytes / z < 2 ^ 32) (sym m.size) may.pages;
+      region = may.region;
+      there = may.there;
+      inside = subst (λ (z : ℕ). offset + row.bytes / z ≤ may.region.pages) (sym m.size) may.inside;
+      known = known.0;
+      object = known.1;
+      over = omega (arith, over, sized);
+      references = omega (arith, count, overs, unders, few, more);
+      below = λ r high. m.regions.unmade r (omega (arith, high, next));
+      regions = omega (arith, next, more);
+      marks = omega (arith, marks, few);
+    }
+
+-- that a region was copied
+abbrev pub copied : RegionId → RegionId → ℕ → ℕ → Event
+copied copy source offset pages = event.RegionCopied copy source offset pages
+
+-- a copy is in use where its source is, and each other region where it was
+
+copy_use : (header : Header) (h : ℕ) (copy source : RegionId) (offset pages : ℕ) (past : List Event)
+    → in_use header h copy.0 (copied copy source offset pages ∷ past) ≡ in_use header h source.0 past
+copy_use header h copy source offset pages past =
+    elim (eqb_tells copy.0 copy.0) [
+      | inl same ↦ ap (λ b. if b then in_use header h source.0 past else in_use header h copy.0 past) same.0
+      | inr apart ↦ absurd
+          (apart.1 refl)
+    ]
+
+others_use : (header : Header) (h : ℕ) (copy source : RegionId) (offset pages : ℕ) (past : List Event) (r : ℕ) → (r ≡ copy.0 → ⊥)
+    → in_use header h r (copied copy source offset pages ∷ past) ≡ in_use header h r past
+others_use header h copy source offset pages past r apart =
+    elim (eqb_tells r copy.0) [
+      | inl same ↦ absurd (apart same.1)
+      | inr other ↦ ap (λ b. if b then in_use header h source.0 past else in_use header h r past)
+          other.0
+    ]
+
+copy_pages : (header : Header) (copy source : RegionId) (offset pages : ℕ) (past : List Event)
+    → (region_of header copy.0 (copied copy source offset pages ∷ past)).pages ≡ pages
+copy_pages header copy source offset pages past =
+    elim (eqb_tells copy.0 copy.0) [
+      | inl same ↦ ap (λ (b : Bool). if b then pages else (region_of header copy.0 past).pages) same.0
+      | inr apart ↦ absurd
+          (apart.1 refl)
+    ]
+
+-- a declared region of one host is a file's
+pub file_of : (header : Header) (r : ℕ) → r < named header → cause.is_paged header r ≡ true → is_file header r ≡ true
+file_of header r declared paged = let test : nat_lt r (named header) ≡ true = grind (arith, nat_tests) in sym (ap (λ b. not b || is_file header r) test) ∙ paged
+
+-- a region that is there is in use, if it is temporary or a file's
+pub used_there : (header : Header) (h : ℕ) (k : Parts) (ids : Ids) (past : List Event) (r : ℕ) (row : RegionRow) → Rests header h k ids past
+    → region_at k.chains r ≡ Some row → cause.is_paged header r ≡ true → in_use header h r past ≡ true
+used_there header h k ids past r row rests there paged =
+    let m = rests.matches in
+    elim (kind_cases header r) [
+      | inl declared ↦ elim (row_use r row m.entries there rests.used) [
+        | inl some ↦ m.uses.files r (file_of header r declared paged) some
+        | inr filled ↦ let least = filled_temporary r rests.used.copies m.homeless filled in absurd (omega (arith, declared, least))
+      ]
+      | inr temporary ↦ (m.uses.used r temporary).is (row_use r row m.entries there rests.used)
+    ]
+
+-- the entry on the copy has its cause
+pub copy_enters : (header : Header) (h : ℕ) (task : TaskId) (copy source : RegionId) (offset : ℕ) (row : Entry) (past : List Event) (k : Parts) (ids : Ids)
+    → Rests header h k ids past → MayCopy header task.0 source offset row past k → copy.0 ≡ next_region header past
+    → Enters header task.0 row.bytes copy.0 0 (copied copy source offset (row.bytes / header.size) ∷ past)
+copy_enters header h task copy source offset row past k ids rests may number =
+    let m = rests.matches in
+    let used : in_use header h copy.0 (copied copy source offset (row.bytes / header.size) ∷ past) ≡ true = copy_use header h copy source offset
+    (row.bytes / header.size) past ∙ used_there header h k ids past source.0 may.region rests may.there (paged_temporary header source.0 may.temporary) in
+    let waits_copied : HasWaits header h k woken.Nobody (copied copy source offset (row.bytes / header.size) ∷ past) = rests.waits in
+    let copies_copied : HasSlow header k (copied copy source offset (row.bytes / header.size) ∷ past) = rests.used.copies in
+    record {
+      idle = may.idle;
+      host = h;
+      lives = lives_here m.tasks may.lives;
+      whole = subst (λ (z : ℕ). row.bytes % z ≡ 0) m.tasks.sized (free_of k.maps.size row (rows_in task.0 k.maps) may.free).whole;
+      inside = let pages = copy_pages header copy source offset (row.bytes / header.size) past in omega (arith, pages);
+      made = omega (arith, number);
+      used = λ temporary. used;
+      file = λ is. used;
+      unfilled =
+          unfilled header.size copy.0 (tasks past) k.maps k.waits.rows (copied copy source offset (row.bytes / header.size) ∷ past)
+          (fills_here {past = copied copy source offset (row.bytes / header.size) ∷ past} waits_copied copies_copied)
+          (free_unfilled copy.0 rests.used.copies (m.regions.unmade copy.0 (omega (arith, number))))
+          (λ t none. m.uses.apart t copy.0 none (inr (omega (arith, number))));
+    }
+
+-- the copy has its cause
+pub copy_cause : (header : Header) (copy source : RegionId) (offset pages : ℕ) (past : List Event) → named header ≤ source.0
+    → IsFrom header source.0 offset pages past → copy.0 ≡ next_region header past → cause.CopiesRegion header copy.0 source.0 offset pages past
+copy_cause header copy source offset pages past temporary from number =
+    record { next = number; temporary = temporary; task = from.task; address = from.address; at = from.at; source_is = from.source_is; inside = from.inside }
+
+-- who doesn't wait in the history has no row
+pub no_row : (size : ℕ) (x : Option Waiting) (w : Option Access) → w ≡ waiting_in size x → w ≡ None → x ≡ None
+no_row size None w is none = refl
+no_row size (Some row) w is none = absurd (let bad : waiting_in size (Some row) ≡ None = sym is ∙ none in cc)
+
+-- the next region in use elsewhere, or not made, was so before the copy
+use_before : (header : Header) (h : ℕ) (copy source : RegionId) (offset pages : ℕ) (past : List Event) (r : ℕ) → copy.0 ≡ next_region header past
+    → (in_use header h r (copied copy source offset pages ∷ past) ≡ true) ⊎ (next_region header past + 1 ≤ r) → (in_use header h r past ≡ true)
+    ⊎ (next_region header past ≤ r)
+use_before header h copy source offset pages past r number (inl used) = elim (eqb_tells r copy.0) [
+  | inl same ↦ inr (let is = same.1 in omega (arith, is, number))
+  | inr apart ↦ inl (sym (others_use header h copy source offset pages past r apart.1) ∙ used)
+]
+use_before header h copy source offset pages past r number (inr high) = inr (omega (arith, high))
+
+-- the source's top is referred to
+referred_source : {chains : ChainTable} {objects : ObjectTable} {ids : Ids} {region_from : ℕ → Region} {backing_from : ℕ → Backing}
+    {regions_made objects_made marked : ℕ} → HasRegions chains objects ids region_from backing_from regions_made objects_made marked
+    → (r : ℕ) (row : RegionRow) (known : ObjectRow) → region_at chains r ≡ Some row → object_at objects row.top.0 ≡ Some known → 0 < known.references
+referred_source has r row known there found =
+    let is = refers_region has r row there in subst (λ (z : ObjectRow). 0 < z.references) (some_is is.row known (sym is.known ∙ found)) is.some
+
+-- the copy of a temporary region is over what that is over
+kinds_copied : (header : Header) (source copy offset pages : ℕ) (region : RegionRow) (known : ObjectRow) (cs mid cs2 : ChainTable) (os os2 : ObjectTable)
+    → CopiesOnce source copy offset pages region cs mid cs2 → named header ≤ source → 0 < known.references
+    → object_at os region.top.0 ≡ Some known → PutsObject region.top.0 (Some (record known { references = known.references + 1 })) os os2 → SameMarks os os2
+    → HasKinds header os cs → HasKinds header os2 cs2
+kinds_copied header source copy offset pages region known cs mid cs2 os os2 once temporary some found put marks has =
+    let now = kinds_put header region.top.0 (record known { references = known.references + 1 }) os os2 cs put marks
+    (kind_referred header region.top.0 known (known.references + 1) some (has.kinds region.top.0 known found)) has in
+    let top : named header ≤ region.top.0 = has.tops source region temporary once.there in
+    record {
+      kinds = now.kinds;
+      present = now.present;
+      tops = λ r row least there. by_row top r row least (row_now source copy offset pages region cs mid cs2 once r row there);
+      unders = λ o row there. has.unders o row (sym (ap (λ f. f o) once.copies.shadows) ∙ (sym (ap (λ f. f o) once.counts.shadows) ∙ there));
+    }
+  where
+    by_row : named header ≤ region.top.0 → (r : ℕ) (row : RegionRow) → named header ≤ r → RowNow source copy offset pages region cs r row
+        → named header ≤ row.top.0
+    by_row top r row least (OfCopy same is) = subst (λ (z : RegionRow). named header ≤ z.top.0) (sym is) top
+    by_row top r row least (OfSource same is) = subst (λ (z : RegionRow). named header ≤ z.top.0) (sym is) top
+    by_row top r row least (OfOther apart was) = has.tops r row least was
+
+-- the kernel behind a copy and its entry
+pub rests_copied : (header : Header) (h : ℕ) (outside : Outside) (doing : Command) (task : TaskId) (source : RegionId) (offset : ℕ) (row : Entry)
+    (past : List Event) (k k2 : Parts) (ids ids2 : Ids) (before after : List Event) → Rests header h k ids past
+    → MayCopy header task.0 source offset row past k → (s : EntersCopy task source offset row k k2 ids ids2 before after)
+    → Rests header h k2 ids2 (got task (entry_on row s.copy) ∷ copied s.copy source offset (row.bytes / header.size) ∷ past)
+rests_copied header h outside doing task source offset row past k k2 ids ids2 before after rests may s =
+    let m = rests.matches in
+    let size = header.size in
+    let pages = row.bytes / size in
+    let now : Event = copied s.copy source offset pages in
+    let new : Entry = entry_on row s.copy in
+    let e = got task new in
+    let top = s.region.top.0 in
+    let number : s.copy.0 ≡ next_region header past = s.number ∙ m.regions.region in
+    let same : may.region ≡ s.region = some_is may.region s.region (sym may.there ∙ s.there) in
+    let copies : CopiesRegion source.0 s.copy.0 offset pages s.region k.chains s.mid = subst
+    (λ (z : ℕ). CopiesRegion source.0 s.copy.0 offset (row.bytes / z) s.region k.chains s.mid) m.size s.copies in
+    let once : CopiesOnce source.0 s.copy.0 offset pages s.region k.chains s.mid k2.chains = record {
+      free = m.regions.unmade s.copy.0 (omega (arith, number));
+      there = s.there;
+      copies = copies;
+      counts = s.counts;
+    } in
+    let free : IsFree size row (rows_in task.0 k.maps) = subst (λ (z : ℕ). IsFree z row (rows_in task.0 k.maps)) m.tasks.sized
+    (free_of k.maps.size row (rows_in task.0 k.maps) may.free) in
+    let lives = may.lives in
+    let below = lives_below size task.0 k.maps k.chains [] m.entries lives in
+    let enters = copy_enters header h task s.copy source offset row past k ids rests may number in
+    let recount = same_put s.copy.0 1 s.mid k2.chains s.counts in
+    let small = small_region m.regions source.0 s.region s.there in
+    let marked = marked_copied header past s.copy source offset pages number small in
+    let mark : (region_of header source.0 past).mark ≡ s.region.marked = ap (λ z. z.mark) (m.regions.rows source.0 s.region s.there) in
+    let marks : ids2.marks ≡ marked_regions header (now ∷ past) =
+    ap (λ z. z.marks) s.ids ∙ (ap (λ z. z + (if s.region.marked then 1 else 2)) m.regions.marks
+    ∙ (ap (λ (b : Bool). marked_regions header past + (if b then 1 else 2)) (sym mark) ∙ sym marked)) in
+    let few : next_object header past + marked_regions header (now ∷ past) ≤ most_objects = subst (λ (z : ℕ). next_object header past + z ≤ most_objects)
+    (sym marked) may.objects in
+    let counted : 0 < s.region.entries = subst (λ (z : RegionRow). 0 < z.entries) same may.counted in
+    let within : offset + pages ≤ s.region.pages = subst (λ (z : RegionRow). offset + pages ≤ z.pages) same may.inside in
+    let frames_are : k2.memory.frames ≡ k.memory.frames = ap (λ (z : HostParts). z.frames) s.memory in
+    let rows_are : k2.memory.resident ≡ k.memory.resident = ap (λ (z : HostParts). z.resident) s.memory in
+    let waits_at = λ (t : ℕ). waiting t past in
+    let none = no_row k.maps.size (entry k.waits.rows task.0) (waiting task.0 past) (rests.waits.is task.0 (ap is_some lives)) may.idle in
+    let now_waits : HasWaiters k2.maps k2.chains k.memory.resident k2.memory.objects k.waits.rows (is_woken woken.Nobody) waits_at (StaysAway header h past)
+    (IsUnmet header h past) =
+    waits_referred k2.maps k2.chains k.memory.resident k.memory.objects k2.memory.objects k.waits.rows (is_woken woken.Nobody) waits_at top
+    (s.known.references + 1) s.known
+    (waits_changed k.maps k2.maps k.chains k2.chains k.memory.resident k.memory.objects k.waits.rows (is_woken woken.Nobody) waits_at task.0
+    (Some (entered new (rows_in task.0 k.maps))) rests.waits s.maps none
+    (places_copy source.0 s.copy.0 offset pages s.region k.chains s.mid k2.chains once)
+    (told_changed k.maps k2.maps k.waits.rows waits_at task.0 (rows_in task.0 k.maps) (Some (entered new (rows_in task.0 k.maps))) rests.waits.is s.maps
+    lives))
+    s.object s.refers in
+    let referred : AllReferred k2.chains k2.memory.objects k.memory.resident =
+    referred_recounted s.mid k2.chains k2.memory.objects k.memory.resident recount
+    (referred_copied top (record s.known { references = s.known.references + 1 }) source.0 s.copy.0 offset pages s.region k.chains s.mid k.memory.objects
+    k2.memory.objects k.memory.resident copies s.refers (omega arith) (λ is. sym (ap is_live_in s.object) ∙ is) rests.referred) in
+    record {
+      matches =
+          record {
+            ranged = m.ranged;
+            declared = ap (λ z. z.items) s.declared ∙ m.declared;
+            kinds =
+                kinds_copied header source.0 s.copy.0 offset pages s.region s.known k.chains s.mid k2.chains k.memory.objects k2.memory.objects once
+                may.temporary (referred_source m.regions source.0 s.region s.known s.there s.object) s.object s.refers s.absent m.kinds;
+            shared =
+                shared_entered (named header) task.0 k.maps k2.maps new s.maps (temporary_shared (named header) new
+                (let more = named_regions header past in omega (arith, number, more))) m.shared;
+            known = m.known;
+            size = s.size ∙ m.size;
+            host = rw s.host m.host;
+            fits =
+                record {
+                  parts =
+                      subst Fit (sym s.memory) (fit_objects k.memory k2.memory.objects m.fits.parts
+                      (same_pages k.memory.objects k2.memory.objects top s.known (record s.known { references = s.known.references + 1 }) s.object refl
+                      s.refers));
+                  plain = subst ArePlain (sym rows_are) m.fits.plain;
+                  buffers = ap (λ (z : HostParts). z.buffers.size) s.memory ∙ (m.fits.buffers ∙ sym s.size);
+                };
+            tasks = tasks_entered h size k.maps k2.maps (now ∷ past) task new m.tasks s.maps lives;
+            regions =
+                regions_behind header e (now ∷ past) k2.chains k2.memory.objects ids2 (λ r. refl)
+                (regions_recounted s.mid k2.chains k2.memory.objects ids2 _ _ _ _ _ recount
+                (regions_copied header past s.copy source offset pages s.region s.known k.chains s.mid k.memory.objects k2.memory.objects ids ids2
+                (next_region header past) (next_object header past) (marked_regions header past) (marked_regions header (now ∷ past)) s.there number within
+                copies s.object s.refers
+                (ap (λ z. z.next_region) s.ids) (ap (λ z. z.next_object) s.ids) marks few m.regions));
+            files =
+                files_entered header h task new k2.memory.objects (now ∷ past) (λ file. absurd
+                (no_file header s.copy.0 (let more = named_regions header past in omega (arith, number, more)) file))
+                (files_put header h top s.known (record s.known { references = s.known.references + 1 }) k.memory.objects k2.memory.objects
+                (λ o. home_of o past) s.object s.refers m.files);
+            homes =
+                λ r found_row paged found. by_row number r found_row paged (row_now source.0 s.copy.0 offset pages s.region k.chains s.mid k2.chains once r
+                found_row found);
+            entries = entries_copy size k.maps k2.maps source.0 offset s.region k.chains s.mid k2.chains task.0 s.copy row m.entries once s.maps below free;
+            pages =
+                record {
+                  shown = λ o p. rw (frames_are, rows_are) (m.pages.shown o p
+                      ∙ ap (local_of_row k.memory.frames (row_at k.memory.resident o p)) (sym (s.absent.at o p)));
+                };
+            uses =
+                rw s.waits (uses_entered header k.maps k2.maps (λ r. in_use header h r (now ∷ past)) (tasks past)
+                (λ t r. holds header.size t r (e ∷ now ∷ past)) (next_region header past + 1) task.0 new (lives_on h task.0 (now ∷ past))
+                (λ r temporary apart. subst (λ (b : Bool). IsUsed k.maps k.waits.rows r b) (sym (others_use header h s.copy source offset pages past r apart))
+                (m.uses.used r temporary))
+                (λ r file apart some. others_use header h s.copy source offset pages past r apart ∙ m.uses.files r file some)
+                (λ paged. copy_use header h s.copy source offset pages past
+                ∙ used_there header h k ids past source.0 s.region rests s.there (paged_temporary header source.0 may.temporary)) m.uses.among s.maps lives
+                below
+                (m.tasks.hosts task.0 ∙ ap is_some lives)
+                (λ t r away why. holds_rows header.size task.0 t r k.maps (rows_in task.0 k.maps) _ (now ∷ past) lives away
+                ∙ m.uses.apart t r away (use_before header h s.copy source offset pages past r number why)));
+            controls = controls_stay (λ o home. object_stays o h e (now ∷ past) (object_stays o h now past home))
+                (controls_referred top (s.known.references + 1) s.known k.memory.objects k2.memory.objects (λ o. last_control h o past)
+                (λ o. live_control h o past) (λ o. is_ready h o past) s.object s.refers m.controls);
+            homeless =
+                homes_next header outside e (now ∷ past) (
+                  doing,
+                  enters,
+                ) (homes_next header outside now past (doing, copy_cause header s.copy source offset pages past may.temporary may.from number)
+                m.homeless);
+            settled = record { none_owed = refl; shut = λ region. refl };
+            replied = replied_behind tt (replied_behind tt m.replied);
+            laundry = rw (frames_are, rows_are, s.laundry) m.laundry;
+            frames = rw frames_are m.frames;
+          };
+      used = rw (rows_are, s.waits) (record {
+        regions = used_copy source.0 s.copy.0 offset pages s.region k.chains s.mid k2.chains once k.waits.rows counted rests.used.regions;
+        copies =
+            copies_kept k.maps k2.maps k.chains k2.chains k.memory.resident k.memory.resident rests.used.copies
+            (same_waiting k.maps k2.maps task.0 (Some (entered new (rows_in task.0 k.maps))) k.waits.rows s.maps none)
+            (filled_copy source.0 s.copy.0 offset pages s.region k.chains s.mid k2.chains once counted) (rows_unmade k.chains k.memory.resident);
+      });
+      referred = subst (λ (z : ResidentTable). AllReferred k2.chains k2.memory.objects z) (sym rows_are) referred;
+      waits = rw (rows_are, s.waits) now_waits;
+      order = rw s.waits rests.order;
+      idle = ap (λ z. count_again z.rows) s.waits ∙ rests.idle;
+    }
+  where
+    by_row : s.copy.0 ≡ next_region header past → (r : ℕ) (found_row : RegionRow) → cause.is_paged header r ≡ true
+        → RowNow source.0 s.copy.0 offset (row.bytes / header.size) s.region k.chains r found_row
+        → home_of r (got task (entry_on row s.copy) ∷ copied s.copy source offset (row.bytes / header.size) ∷ past) ≡ Some h
+    by_row number r found_row paged (OfCopy same is) =
+        let m = rests.matches in
+        let now : Event = copied s.copy source offset (row.bytes / header.size) in
+        subst (λ (z : ℕ). home_of z (got task (entry_on row s.copy) ∷ now ∷ past) ≡ Some h) same
+        (home_entered h task row.address row.bytes s.copy 0 row.prot row.inherit (now ∷ past) (m.homeless.regions s.copy.0 (omega (arith, number)))
+        (lives_here m.tasks may.lives))
+    by_row number r found_row paged (OfSource same is) =
+        home_stays r h (got task (entry_on row s.copy)) (copied s.copy source offset (row.bytes / header.size) ∷ past)
+        (subst (λ (z : ℕ). home_of z past ≡ Some h) same (rests.matches.homes source.0 s.region (paged_temporary header source.0 may.temporary) s.there))
+    by_row number r found_row paged (OfOther apart was) =
+        home_stays r h (got task (entry_on row s.copy)) (copied s.copy source offset (row.bytes / header.size) ∷ past)
+        (rests.matches.homes r found_row paged was)
+
+-- the head of a command with an event more
+pub heads_more : (header : Header) (h : ℕ) (outside : Outside) (doing : Command) (past events : List Event) (e : Event)
+    → Heads header h outside doing past events → IsOne header h outside doing (events ++ past) e → Heads header h outside doing past (e ∷ events)
+heads_more header h outside doing past events e heads is =
+    record {
+      licensed = (licensed header outside doing e (events ++ past) is.settled.none_owed is.cause, heads.licensed);
+      own_bytes = (is.own_bytes, heads.own_bytes);
+      frames = (is.frames, heads.frames);
+      inner = (is.inner, heads.inner);
+      said = (is.said, heads.said);
+      mine = (mine_of header h e (events ++ past) is.settled.shut is.own is.creates, heads.mine);
+    }
+
+-- both events are the host's
+pub heads_copied : (header : Header) (h : ℕ) (outside : Outside) (doing : Command) (task : TaskId) (copy source : RegionId) (offset : ℕ) (row : Entry)
+    (past events : List Event) (k : Parts) (ids : Ids) → Rests header h k ids (events ++ past)
+    → MayCopy header task.0 source offset row (events ++ past) k → copy.0 ≡ next_region header (events ++ past) → Heads header h outside doing past events
+    → Heads header h outside doing past (got task (entry_on row copy) ∷ copied copy source offset (row.bytes / header.size) ∷ events)
+heads_copied header h outside doing task copy source offset row past events k ids rests may number heads =
+    let m = rests.matches in
+    let now : Event = copied copy source offset (row.bytes / header.size) in
+    let fine = suffices header h k.memory.frames (events ++ past) m.frames in
+    heads_more header h outside doing past (now ∷ events) (got task (entry_on row copy))
+    (heads_more header h outside doing past events now heads
+    (record {
+      settled = m.settled;
+      cause = copy_cause header copy source offset (row.bytes / header.size) (events ++ past) may.temporary may.from number;
+      own_bytes = tt;
+      frames = fine;
+      inner = tt;
+      said = tt;
+      own = λ g used. m.homeless.stay g h source.0 used (m.homes source.0 may.region (paged_temporary header source.0 may.temporary) may.there);
+      creates = tt;
+    }))
+    (record {
+      settled = record { none_owed = refl; shut = λ region. refl };
+      cause = copy_enters header h task copy source offset row (events ++ past) k ids rests may number;
+      own_bytes = tt;
+      frames = fine;
+      inner = tt;
+      said = tt;
+      own = own_task h task.0 (now ∷ (events ++ past)) (m.tasks.hosts task.0 ∙ ap is_some may.lives);
+      creates = tt;
+    })
+
+-- the log behind them
+pub told_copied : (header : Header) (h : ℕ) (task : TaskId) (source : RegionId) (offset : ℕ) (row : Entry) (past : List Event) (k k2 : Parts) (ids ids2 : Ids)
+    (before after : List Event) → Rests header h k ids past → (s : EntersCopy task source offset row k k2 ids ids2 before after)
+    → after ≡ got task (entry_on row s.copy) ∷ copied s.copy source offset (row.bytes / header.size) ∷ before
+told_copied header h task source offset row past k k2 ids ids2 before after rests s =
+    s.told ∙ ap (λ (z : ℕ). got task (entry_on row s.copy) ∷ copied s.copy source offset (row.bytes / z) ∷ before) rests.matches.size
+
+-- The copy of a range that isn't refused.
+
+-- a copy costs an object, and one for its source where that can get a mark
+pub is_full_copy : (header : Header) (source : ℕ) (past : List Event) (a b : Bool) → nat_lt source (named header) ≡ a → (region_of header source past).mark ≡ b
+    → refusing.is_copy_full header source past ≡ (nat_le most_regions (next_region header past) || nat_lt most_objects
+    (next_object header past + marked_regions header past + (if a || b then 1 else 2)))
+is_full_copy header source past true b declared mark = rw declared refl
+is_full_copy header source past false true declared mark = rw (declared, mark) refl
+is_full_copy header source past false false declared mark = rw (declared, mark) refl
+
+-- the numbers of a range
+
+pub range_of : (size address bytes : ℕ) → is_range size address bytes ≡ true → (bytes % size ≡ 0) × (0 < bytes)
+range_of size address bytes is = (grind (arith, nat_tests), grind (arith, nat_tests))
+
+-- an entry from which a range can be copied, to a task with these entries
+record IsSource (header : Header) (address bytes to : ℕ) (rows : List Entry) (past : List Event) (x : Option Entry) : Type 0 where
+  entry : Entry
+  is : x ≡ Some entry
+  ends : address + bytes ≤ entry.address + entry.bytes
+  allowed : allows need.Load entry.prot ≡ true
+  free : meets_range to bytes rows ≡ false
+  few : nat_lt most_entries (length rows + 1) ≡ false
+  full : refusing.is_copy_full header entry.region.0 past ≡ false
+
+source_of : (header : Header) (address bytes target to : ℕ) (past : List Event) (x : Option Entry)
+    → refusing.copy_refusal header address bytes target to past x ≡ None → IsSource header address bytes to (entries_of header.size target past) past x
+source_of header address bytes target to past None fine = absurd (let bad : Some code.InvalidAddress ≡ None = fine in cc)
+source_of header address bytes target to past (Some entry) fine =
+    let rows = entries_of header.size target past in
+    let last = code_where (nat_lt most_entries (length rows + 1) || refusing.is_copy_full header entry.region.0 past) code.TableFull None in
+    let next = code_where (meets_range to bytes rows) code.NoSpace last in
+    let more = code_where (not (allows need.Load entry.prot)) code.ProtectionFailure next in
+    let one = passed (nat_lt (entry.address + entry.bytes) (address + bytes)) code.InvalidAddress more fine in
+    let two = passed (not (allows need.Load entry.prot)) code.ProtectionFailure next one.1 in
+    let three = passed (meets_range to bytes rows) code.NoSpace last two.1 in
+    let four = passed (nat_lt most_entries (length rows + 1) || refusing.is_copy_full header entry.region.0 past) code.TableFull None three.1 in
+    let both = or_parts (nat_lt most_entries (length rows + 1)) (refusing.is_copy_full header entry.region.0 past) four.0 in
+    let behind = one.0 in
+    record {
+      entry = entry;
+      is = refl;
+      ends = grind (arith, nat_tests);
+      allowed = not-false (allows need.Load entry.prot) two.0;
+      free = three.0;
+      few = both.0;
+      full = both.1;
+    }
+
+-- what a copy that may be run has: a symmetric one is of a temporary region
+pub record MayPlace (header : Header) (task address bytes : ℕ) (target : ℕ) (to : ℕ) (past : List Event) (k : Parts) : Type 0 where
+  pub entry : Entry
+  pub lives : entries_in task k.maps ≡ Some (rows_in task k.maps)
+  pub found : entry_at address (rows_in task k.maps) ≡ Some entry
+  pub allowed : IsAllowed k.maps task address need.Load
+  pub from : is_range header.size address bytes ≡ true
+  pub range : is_range header.size to bytes ≡ true
+  pub short : bytes / header.size ≤ most_pages
+  pub ends : address + bytes ≤ entry.address + entry.bytes
+  pub idle : waiting target past ≡ None
+  pub free : meets_range to bytes (rows_in target k.maps) ≡ false
+  pub few : nat_lt most_entries (length (rows_in target k.maps) + 1) ≡ false
+  pub full : refusing.is_copy_full header entry.region.0 past ≡ false
+  pub may : nat_lt entry.region.0 (named header) ≡ false
+      → MayCopy header target entry.region (page_at k.maps.size address entry) (whole_entry to bytes entry.region) past k
+
+pub may_place : (header : Header) (h : ℕ) (task : TaskId) (address bytes : ℕ) (target : TaskId) (to : ℕ) (past : List Event) (k : Parts) (ids : Ids)
+    (events : List Event) → Starts header h (command.Copy task address bytes target to) past k ids events
+    → MayPlace header task.0 address bytes target.0 to past k
+may_place header h task address bytes target to past k ids events s =
+    let m = s.rests.matches in
+    let size = header.size in
+    let own = entries_of size task.0 past in
+    let rows = entries_of size target.0 past in
+    let last = refusing.copy_refusal header address bytes target.0 to past (entry_at address own) in
+    let numbers = not (is_range size address bytes && is_range size to bytes) || (nat_lt most_pages (bytes / size) ||
+    (not (refusing.same_host (host_of task.0 past) (host_of target.0 past)) || is_uncopied header (task.0 == target.0) (entry_at address own))) in
+    let next = code_where numbers code.InvalidArgument last in
+    let waits = is_some (waiting task.0 past) || is_some (waiting target.0 past) in
+    let one = passed (is_none (host_of task.0 past) || is_none (host_of target.0 past)) code.NoSuchName (code_where waits code.Blocked next) s.accepted in
+    let two = passed waits code.Blocked next one.1 in
+    let three = passed numbers code.InvalidArgument last two.1 in
+    let tests = or_parts (not (is_range size address bytes && is_range size to bytes))
+    (nat_lt most_pages (bytes / size) || (not (refusing.same_host (host_of task.0 past) (host_of target.0 past)) || is_uncopied header (task.0 == target.0)
+    (entry_at address own))) three.0 in
+    let ranges = and_parts (is_range size address bytes) (is_range size to bytes) (not-false (is_range size address bytes && is_range size to bytes) tests.0) in
+    let sized = or_parts (nat_lt most_pages (bytes / size)) (not (refusing.same_host (host_of task.0 past) (host_of target.0 past)) || is_uncopied header
+    (task.0 == target.0) (entry_at address own)) tests.1 in
+    let hosts = or_parts (not (refusing.same_host (host_of task.0 past) (host_of target.0 past)))
+    (is_uncopied header (task.0 == target.0) (entry_at address own)) sized.1 in
+    let source = source_of header address bytes target.0 to past (entry_at address own) three.1 in
+    let lives = lives_in task.0 m.tasks s.acts in
+    let home : is_on h (host_of target.0 past) ≡ true = subst (λ (z : Option ℕ). refusing.same_host z (host_of target.0 past) ≡ true) (lives_here m.tasks lives)
+    (not-false (refusing.same_host (host_of task.0 past) (host_of target.0 past)) hosts.0) in
+    let there = lives_in target.0 m.tasks home in
+    let entry = source.entry in
+    let found : entry_at address (rows_in task.0 k.maps) ≡ Some entry = ap (entry_at address) (sym (rows_here m.tasks lives)) ∙ source.is in
+    let is_inside = found_row (IsInside size k.chains) address (rows_in task.0 k.maps) entry (m.entries.inside task.0) found in
+    let inside = is_inside.is.inside.whole in
+    let region = region_row k.chains entry.region.0 is_inside.is.region in
+    let pages : region_pages k.chains entry.region.0 ≡ region.0.pages = ap pages_in region.1 in
+    let free : meets_range to bytes (rows_in target.0 k.maps) ≡ false = ap (meets_range to bytes) (sym (rows_here m.tasks there)) ∙ source.free in
+    let few : nat_lt most_entries (length (rows_in target.0 k.maps) + 1) ≡ false = ap (λ (z : List Entry). nat_lt most_entries (length z + 1))
+    (sym (rows_here m.tasks there)) ∙ source.few in
+    let short : nat_lt most_pages (bytes / size) ≡ false = sized.0 in
+    let some = range_of size to bytes ranges.1 in
+    let sum = div_sum size (address - entry.address) bytes in
+    let start = is_inside.from in
+    let ends = source.ends in
+    let grows = div_grows size (address - entry.address + bytes) entry.bytes (omega (arith, start, ends)) in
+    let within : page_at size address entry + bytes / size ≤ entry.offset + entry.bytes / size = omega (arith, sum, grows) in
+    record {
+      entry = entry;
+      lives = lives;
+      found = found;
+      allowed = record { entry = entry; lives = lives; found = found; allowed = source.allowed };
+      from = ranges.0;
+      range = ranges.1;
+      short = grind (arith, nat_tests);
+      ends = ends;
+      idle = idle_both (waiting task.0 past) (waiting target.0 past) two.0;
+      free = free;
+      few = few;
+      full = source.full;
+      may = λ unnamed.
+          let full = sym (is_full_copy header entry.region.0 past false (region_of header entry.region.0 past).mark unnamed refl) ∙ source.full in
+          let counts = or_parts (nat_le most_regions (next_region header past)) (nat_lt most_objects
+          (next_object header past + marked_regions header past + (if (region_of header entry.region.0 past).mark then 1 else 2))) full in
+          let regions : nat_le most_regions (next_region header past) ≡ false = counts.0 in
+          let objects = counts.1 in
+          record {
+            lives = there;
+            idle = idle_both (waiting task.0 past) (waiting target.0 past) two.0;
+            free = rw (m.tasks.sized, ranges.1, free, few) refl;
+            pages = let most : bytes / size ≤ most_pages = grind (arith, nat_tests) in omega (arith, most);
+            region = region.0;
+            there = region.1;
+            counted =
+                entry_some size entry.region.0 task.0 k.maps k.chains [] region.0 m.entries region.1
+                (on_its_region address (rows_in task.0 k.maps) entry found);
+            temporary = grind (arith, nat_tests);
+            inside = subst (λ (z : ℕ). page_at z address entry + bytes / size ≤ region.0.pages) (sym m.tasks.sized) (omega (arith, within, inside, pages));
+            regions = grind (arith, nat_tests);
+            objects = few_objects (if (region_of header entry.region.0 past).mark then 1 else 2) objects;
+            from =
+                record {
+                  task = task.0;
+                  address = address;
+                  at = record { host = h; entry = entry; lives = lives_here m.tasks lives; found = source.is };
+                  source_is = refl;
+                  inside = subst (λ (z : ℕ). page_at z address entry + bytes / size ≤ entry.offset + entry.bytes / size) (sym m.tasks.sized) within;
+                };
+          };
+    }
+  where
+    few_objects : (n : ℕ) → nat_lt most_objects (next_object header past + marked_regions header past + n) ≡ false
+        → next_object header past + (marked_regions header past + n) ≤ most_objects
+    few_objects n not_more = grind (arith, nat_tests)
+
+    idle_both : (x y : Option Access) → (is_some x || is_some y) ≡ false → y ≡ None
+    idle_both (Some x) y e = absurd (let bad : true ≡ false = e in cc)
+    idle_both None None e = refl
+    idle_both None (Some y) e = absurd (let bad : true ≡ false = e in cc)
+
+-- the region that the code found is no declared object's
+plain_source : {header : Header} {h : ℕ} {k : Parts} {ids : Ids} {past : List Event} (address : ℕ) (entry : Entry) (place : Place) → Rests header h k ids past
+    → place ≡ place_at k.maps.size address entry → length k.declared.items ≤ place.region.0 → nat_lt entry.region.0 (named header) ≡ false
+plain_source {header = header} {k = k} address entry place rests is least =
+    let same : place.region.0 ≡ entry.region.0 = ap (λ z. z.region.0) is in
+    let all : length k.declared.items ≡ named header = ap length rests.matches.declared in
+    let temporary : named header ≤ entry.region.0 = omega (arith, same, all, least) in
+    grind (arith, nat_tests)
+
+-- both are in place
+pub can_place : (header : Header) (h : ℕ) (task : TaskId) (address bytes : ℕ) (target : TaskId) (to : ℕ) (past : List Event) (k : Parts) (ids : Ids)
+    (events : List Event) (place : Place) (range : Entry) → Starts header h (command.Copy task address bytes target to) past k ids events
+    → ((entry : Entry) → entry_at address (rows_in task.0 k.maps) ≡ Some entry → place ≡ place_at k.maps.size address entry)
+    → length k.declared.items ≤ place.region.0 → range ≡ whole_entry to bytes place.region → CanCopy target.0 place.region place.page.0 range k ids
+can_place header h task address bytes target to past k ids events place range s is least made =
+    let p = may_place header h task address bytes target to past k ids events s in
+    subst (λ (z : Entry). CanCopy target.0 place.region place.page.0 z k ids) (sym made)
+    (subst (λ (z : Place). CanCopy target.0 z.region z.page.0 (whole_entry to bytes z.region) k ids) (sym (is p.entry p.found))
+    (can_copy header h target.0 p.entry.region (page_at k.maps.size address p.entry) (whole_entry to bytes p.entry.region) past k ids s.rests
+    (p.may (plain_source address p.entry place s.rests (is p.entry p.found) least))))
+
+-- the two events with which a slow copy begins
+abbrev pub begun_copy : TaskId → ℕ → ℕ → ℕ → RegionId → ObjectId → ℕ → List Event
+begun_copy task address bytes to region object pages = event.BegunCopy task address bytes to ∷ event.RegionMade region object pages ∷ []
+
+pub ran_copy : (header : Header) (h : ℕ) (outside : Outside) (task : TaskId) (address bytes : ℕ) (target : TaskId) (to : ℕ) (past : List Event) (k k2 : Parts)
+    (ids ids2 : Ids) (before after : List Event) (place : Place) (range : Entry)
+    → Starts header h (command.Copy task address bytes target to) past k ids before
+    → ((entry : Entry) → entry_at address (rows_in task.0 k.maps) ≡ Some entry → place ≡ place_at k.maps.size address entry)
+    → length k.declared.items ≤ place.region.0 → range ≡ whole_entry to bytes place.region
+    → EntersCopy target place.region place.page.0 range k k2 ids ids2 before after
+    → Ran header h outside (command.Copy task address bytes target to) past k2 ids2 after
+ran_copy header h outside task address bytes target to past k k2 ids ids2 before after place range s is least made entered_copy =
+    let m = s.rests.matches in
+    let doing = command.Copy task address bytes target to in
+    let p = may_place header h task address bytes target to past k ids before s in
+    let unnamed = plain_source address p.entry place s.rests (is p.entry p.found) least in
+    let may = p.may unnamed in
+    let source = p.entry.region in
+    let page = page_at k.maps.size address p.entry in
+    let row = whole_entry to bytes source in
+    let c : EntersCopy target source page row k k2 ids ids2 before after =
+    subst (λ (z : Place). EntersCopy target z.region z.page.0 (whole_entry to bytes z.region) k k2 ids ids2 before after) (is p.entry p.found)
+    (subst (λ (z : Entry). EntersCopy target place.region place.page.0 z k k2 ids ids2 before after) made entered_copy) in
+    let number : c.copy.0 ≡ next_region header past = c.number ∙ m.regions.region in
+    let named_copy : c.copy ≡ record { 0 = next_region header past } = λ i. record { 0 = number i } in
+    let events : List Event = got target (entry_on row c.copy) ∷ copied c.copy source page (bytes / header.size) ∷ [] in
+    let first : List Event = copied c.copy source page (bytes / header.size) ∷ got target (entry_on row c.copy) ∷ [] in
+    let told : after ≡ events = told_copied header h target source page row past k k2 ids ids2 before after s.rests c
+    ∙ ap (λ z. got target (entry_on row c.copy) ∷ copied c.copy source page (bytes / header.size) ∷ z) s.nothing in
+    let same : entry_at address (entries_of header.size task.0 past) ≡ Some p.entry = ap (entry_at address) (rows_here m.tasks p.lives) ∙ p.found in
+    let written : head header past doing ≡ Some first =
+    ap (copy_head (named header) header.size (next_region header past) (next_object header past) task address bytes target to) same
+    ∙ (ap (λ b. Some (if b then begun_copy task address bytes to (record { 0 = next_region header past }) (record { 0 = next_object header past })
+    (bytes / header.size) else copied (record { 0 = next_region header past }) source (page_at header.size address p.entry) (bytes / header.size) ∷ got
+    target (entry_on row (record { 0 = next_region header past })) ∷ [])) unnamed
+    ∙ (ap (λ (z : ℕ). Some (copied (record { 0 = next_region header past }) source (page_at z address p.entry) (bytes / header.size) ∷ got target
+    (entry_on row (record { 0 = next_region header past })) ∷ [])) (sym m.tasks.sized)
+    ∙ ap (λ (z : RegionId). Some (copied z source page (bytes / header.size) ∷ got target (entry_on row z) ∷ [])) (sym named_copy))) in
+    subst (λ (z : List Event). Ran header h outside doing past k2 ids2 z) (sym told)
+    (ran_head header h outside doing past k2 ids2 events first written refl
+    (heads_copied header h outside doing target c.copy source page row past [] k ids s.rests may number
+    (record { licensed = tt; own_bytes = tt; frames = tt; inner = tt; said = tt; mine = tt })) tt
+    (rests_copied header h outside doing target source page row past k k2 ids ids2 before after s.rests may c))

@@ -1,0 +1,644 @@
+-- An access is run: what holds after each thing that it may come to.
+use Rattle.vm_kernel.proofs.Common.{Bool, Command, Event, Header, HostId, HostParts, Ids, IfSome, IsAt, IsOfNumber, LegalEvents, List, Matches, None, ObjectId}
+use Rattle.vm_kernel.proofs.Common.{Option, Outside, PageKey, PageRow, Parts, RegionRow, Some, Up, WaitTable, Waiting, Want, Wants, WantsFrame, Works, []}
+use Rattle.vm_kernel.proofs.Common.{access_in, address_in, ap, clean_row, entry, entry_at, false, free, host_id, if◌then◌else◌, inl, inr, named, page_at}
+use Rattle.vm_kernel.proofs.Common.{page_of, refl, region_at, row_put, rows_in, some_is, subst, suc, sym, true, unlocked, with_on, zero, ℕ, ◌%◌, ◌&&◌, ◌++◌}
+use Rattle.vm_kernel.proofs.Common.{◌∙◌, ◌∷◌, ◌≡◌, ◌≤◌, ◌⊎◌}
+use Rattle.vm_kernel.proofs.space.RegionsFilled.{at_unfilled, entry_some}
+use Rattle.vm_state.proofs.Places.{on_its_region}
+use Rattle.vm_base.specs.declared.entry.Entry.{Entry}
+use Rattle.vm_fault.specs.Faults.{AfterZeros, AsksUnlock, AtOnce, Copied, Ended, FaultState, Faulted, Hits, Needs, NothingChanges, Nowhere, Prepares, Raised}
+use Rattle.vm_fault.specs.Faults.{RequestsPage, ToAsk, ToCopy, ToRaise}
+use Rattle.vm_fault.specs.Walks.{Finds, PassesOver, Sinks, StopsAsked, WalksTo, is_storing, keeps_out, top_place, wanted_number, writes_at}
+use Rattle.vm_fault.specs.declared.step.FaultStep.{FaultStep}
+use Rattle.vm_fault.specs.declared.step.FaultStep.TheVariants as step
+use Rattle.vm_kernel.proofs.memory.ComesForAccess.{works_loaded, works_raised, works_stored, works_touched, works_zeroed}
+use Rattle.vm_kernel.proofs.controls.PageAsked.{works_asked, works_joined, works_turned}
+use Rattle.vm_kernel.proofs.steps.AccessCauses.{comes_at, loaded_follows, raised_follows, request_follows, shadowed_follows, stored_follows, zeroed_follows}
+use Rattle.vm_kernel.proofs.steps.EventsGrow.{goes_both, goes_none, goes_one, suffices}
+use Rattle.vm_kernel.proofs.steps.WhereAccessLeads.{Leads, it_waits, leads_of, top_at}
+use Rattle.vm_kernel.proofs.steps.RowsInOrder.{PutsInOrder}
+use Rattle.vm_kernel.proofs.abroad.OwnHost.{named_host, own_host}
+use Rattle.vm_kernel.proofs.memory.ShadowMade.{works_shadowed}
+pub use Rattle.vm_kernel.proofs.steps.FaultStates.{state_of, with_state}
+use Rattle.vm_kernel.proofs.memory.SourceIsTold.{needs_it}
+use Rattle.vm_kernel.specs.Plays.{IsToCopyPage, SparesSource}
+use Rattle.vm_kernel.specs.Serving.{IsHere, IsTheSource, IsToCopy, runs_now}
+use Rattle.vm_legal.specs.Accesses as legal
+use Rattle.vm_model.specs.declared.event.Event.TheVariants as event
+use Rattle.vm_model.specs.declared.message.Message.TheVariants as message
+use Rattle.vm_shadow.specs.Chains.{ChainTable}
+use Rattle.vm_state.proofs.Shown.{may_ask, shows_row}
+use Rattle.vm_state.proofs.Walks.{referred_down, sinks_of, walks_lead, walks_of}
+use Rattle.vm_kernel.proofs.memory.PlacesPassed.{over_walk, unmet_at}
+use Rattle.vm_state.proofs.Passing.{behind_place}
+use Rattle.vm_state.specs.Passed.{IsPlaceBehind, StaysAway}
+use Rattle.vm_state.specs.Waiters.{IsPagerTold}
+use Rattle.vm_supply.specs.declared.woken.Woken.TheVariants as woken
+use Rattle.vm_waits.specs.declared.waiting.On.TheVariants as on
+use Rattle.vm_waits.specs.declared.waiting.Want.TheVariants as want
+use Rattle.vm_kernel.proofs.memory.WalksShown.{shown_at}
+use Rattle.vm_state.proofs.Locks.{kept_anywhere, plain_open, storing_is}
+use Rattle.vm_kernel.proofs.controls.UnlockAsked.{unlock_follows, unlocking, works_unlocked}
+use Rattle.std.proofs.lemmas.Bool.{and_parts}
+use Rattle.vm_kernel.proofs.memory.PageReturned.{untold_temporary}
+use Rattle.vm_state.proofs.Declared.{kind_cases}
+use Rattle.std.specs.Prelude.{◌==◌}
+use Rattle.vm_kernel.proofs.memory.SourceOfCopy.{copies_source, only_copies, wants_copy}
+use Rattle.std.proofs.lemmas.Bool.{or_right}
+use Rattle.std.specs.Prelude.{nat_lt}
+use Rattle.vm_fault.specs.Walks.{is_copying}
+
+-- the kernel behind some more events, which follow from what stood there
+pub record Reaches (header : Header) (h : ℕ) (outside : Outside) (doing : Command) (past events : List Event) (k : Parts) (ids : Ids) (after : List Event) :
+    Type 0 where
+  pub works : Works header h k ids woken.Nobody (after ++ past)
+  pub goes : LegalEvents header h outside doing past events after
+
+-- an access that is run, and the top place of its page; the region of a store has no mark
+pub record Tries (header : Header) (h : ℕ) (past : List Event) (k : Parts) (ids : Ids) (w : Waiting) (top : PageKey) : Type 0 where
+  pub works : Works header h k ids woken.Nobody past
+  pub is : entry k.waits.rows w.task.0 ≡ Some w
+  pub now : runs_now w.on ≡ true
+  pub at : IsAt k.maps k.chains w.task.0 w.want top
+  pub clear : is_storing w.want ≡ true → at.row.marked ≡ false
+
+pub leads_there : (header : Header) (h : ℕ) (past : List Event) (k : Parts) (ids : Ids) (w : Waiting) (top : PageKey) → (t : Tries header h past k ids w top)
+    → Leads header h past k w.task.0 w.want top t.at
+leads_there header h past k ids w top t = leads_of header h k ids past woken.Nobody w.task.0 w top t.works.matches t.works.waits t.works.used.copies t.is t.at
+
+-- a want that stores
+pub record IsStore (what : Want) : Type 0 where
+  pub address : ℕ
+  pub size : ℕ
+  pub value : ℕ
+  pub is : what ≡ want.Store address size value
+
+pub store_of : (what : Want) → is_storing what ≡ true → IsStore what
+store_of (want.Load address size) stores = absurd (let bad : false ≡ true = stores in cc)
+store_of (want.CopyTo address pages target next) stores = absurd (let bad : false ≡ true = stores in cc)
+store_of (want.Store address size value) stores = record { address = address; size = size; value = value; is = refl }
+
+-- it ends with a page that is here
+
+hit_load : (header : Header) (h : ℕ) (outside : Outside) (doing : Command) (past : List Event) (k : Parts) (ids : Ids) (w : Waiting) (top : PageKey)
+    (events : List Event) (steps : ℕ) (key : PageKey) (row : PageRow) (address size value : ℕ) (e : Event) (m2 : HostParts) (waits2 : WaitTable)
+    → Tries header h (events ++ past) k ids w top → w.want ≡ want.Load address size → Finds k.memory k.chains steps top key row
+    → keeps_out row.lock false ≡ false → Hits w.task (want.Load address size) key row.frame (address % header.size) value e k.memory m2
+    → PutsInOrder w.task.0 None k.waits.rows waits2.rows
+    → Reaches header h outside doing past events (record k { memory = m2; waits = waits2 }) ids (e ∷ events)
+hit_load header h outside doing past k ids w top events steps key row address size value e m2 waits2 t is finds out hits put =
+    let moment = events ++ past in
+    let loaded : Event = event.Loaded w.task key.object key.page value in
+    let works = works_loaded header h moment k ids w key value waits2 (subst IsOfNumber (sym is) tt) t.works t.is t.now put in
+    let to = leads_there header h moment k ids w top t in
+    let s = shown_at t.works.matches in
+    let enough = suffices header h k.memory.frames (loaded ∷ moment) works.matches.frames in
+    subst (λ (z : Event). Reaches header h outside doing past events (record k { memory = m2; waits = waits2 }) ids (z ∷ events)) (sym hits.2)
+    (record {
+      works = works_touched header h (loaded ∷ moment) (record k { waits = waits2 }) ids woken.Nobody row.frame m2 hits.1 works;
+      goes = goes_one header h outside doing past events loaded t.works.matches.settled
+          (loaded_follows header h outside doing moment k w.task w.want top t.at address size value steps key row to s is finds out hits.0 enough);
+    })
+
+hit_store : (header : Header) (h : ℕ) (outside : Outside) (doing : Command) (past : List Event) (k : Parts) (ids : Ids) (w : Waiting) (top : PageKey)
+    (events : List Event) (row : PageRow) (address size number value : ℕ) (e : Event) (m2 : HostParts) (waits2 : WaitTable)
+    → Tries header h (events ++ past) k ids w top → w.want ≡ want.Store address size number → Finds k.memory k.chains 0 top top row
+    → keeps_out row.lock true ≡ false → Hits w.task (want.Store address size number) top row.frame (address % header.size) value e k.memory m2
+    → PutsInOrder w.task.0 None k.waits.rows waits2.rows
+    → Reaches header h outside doing past events (record k { memory = m2; waits = waits2 }) ids (e ∷ events)
+hit_store header h outside doing past k ids w top events row address size number value e m2 waits2 t is finds out hits put =
+    let moment = events ++ past in
+    let mid : HostParts = hits.1.0 in
+    let stored : Event = event.Stored w.task top.object top.page (address % header.size) size number in
+    let works = works_stored header h moment k ids w top row.frame (address % header.size) size number row mid waits2 (subst IsOfNumber (sym is) tt) t.works
+    t.is t.now put hits.1.1 finds.found finds.here out in
+    let to = leads_there header h moment k ids w top t in
+    let s = shown_at t.works.matches in
+    let enough = suffices header h mid.frames (stored ∷ moment) works.matches.frames in
+    subst (λ (z : Event). Reaches header h outside doing past events (record k { memory = m2; waits = waits2 }) ids (z ∷ events)) (sym hits.2)
+    (record {
+      works = works_touched header h (stored ∷ moment) (record k { memory = mid; waits = waits2 }) ids woken.Nobody row.frame m2 hits.1.2 works;
+      goes = goes_one header h outside doing past events stored t.works.matches.settled
+          (stored_follows header h outside doing moment k w.task w.want top t.at address size number row to s is (t.clear (ap is_storing is)) finds out enough);
+    })
+
+hit : (header : Header) (h : ℕ) (outside : Outside) (doing : Command) (past : List Event) (k : Parts) (ids : Ids) (w : Waiting) (top : PageKey)
+    (events : List Event) (steps : ℕ) (key : PageKey) (row : PageRow) (value : ℕ) (e : Event) (m2 : HostParts) (waits2 : WaitTable)
+    → Tries header h (events ++ past) k ids w top → Finds k.memory k.chains steps top key row → (is_storing w.want ≡ true → steps ≡ 0)
+    → keeps_out row.lock (writes_at w.want steps) ≡ false
+    → Hits w.task w.want key row.frame (address_in k.maps.size w.want % header.size) value e k.memory m2
+    → PutsInOrder w.task.0 None k.waits.rows waits2.rows
+    → Reaches header h outside doing past events (record k { memory = m2; waits = waits2 }) ids (e ∷ events)
+hit header h outside doing past k ids w top events steps key row value e m2 waits2 t finds none out hits put =
+    by w.want refl hits
+  where
+    by : (what : Want) → w.want ≡ what → Hits w.task what key row.frame (address_in k.maps.size what % header.size) value e k.memory m2
+        → Reaches header h outside doing past events (record k { memory = m2; waits = waits2 }) ids (e ∷ events)
+    by (want.CopyTo address pages target next) is hits2 = absurd hits2
+    by (want.Load address size) is hits2 =
+        hit_load header h outside doing past k ids w top events steps key row address size value e m2 waits2 t is finds
+        (subst (λ (z : Want). keeps_out row.lock (writes_at z steps) ≡ false) is out) hits2 put
+    by (want.Store address size number) is hits2 =
+        let there : Finds k.memory k.chains 0 top key row = subst (λ (z : ℕ). Finds k.memory k.chains z top key row) (none (ap is_storing is)) finds in
+        let same : key ≡ top = sym there.walks in
+        hit_store header h outside doing past k ids w top events row address size number value e m2 waits2 t is
+        (subst (λ (z : PageKey). Finds k.memory k.chains 0 top z row) same there)
+        (subst (λ (z : ℕ). keeps_out row.lock (z == 0) ≡ false) (none (ap is_storing is))
+        (subst (λ (z : Want). keeps_out row.lock (writes_at z steps) ≡ false) is out))
+        (subst (λ (z : PageKey). Hits w.task (want.Store address size number) z row.frame (address % header.size) value e k.memory m2) same hits2) put
+
+-- it goes on with other pages
+tries_on : (header : Header) (h : ℕ) (past past2 : List Event) (k : Parts) (ids : Ids) (w : Waiting) (top : PageKey) (m2 : HostParts)
+    → Tries header h past k ids w top → Works header h (record k { memory = m2 }) ids woken.Nobody past2
+    → Tries header h past2 (record k { memory = m2 }) ids w top
+tries_on header h past past2 k ids w top m2 t works = record { works = works; is = t.is; now = t.now; at = t.at; clear = t.clear }
+
+-- the walk that finds a page nowhere passes over its top place
+passes_top : (parts : HostParts) (chains : ChainTable) (top : PageKey) → Sinks parts chains top → PassesOver parts top
+passes_top parts chains top sinks = by sinks.steps sinks.walks
+  where
+    by : (steps : ℕ) → WalksTo parts chains steps top sinks.last → PassesOver parts top
+    by zero walks = subst (PassesOver parts) (sym walks) sinks.passes
+    by (suc steps) walks = walks.0
+
+-- so that is a place of a temporary object: a declared one that is referred to has a pager, which may have each of its pages
+top_temporary : (header : Header) (h : ℕ) (past : List Event) (k : Parts) (ids : Ids) (w : Waiting) (top : PageKey) → Tries header h past k ids w top
+    → Sinks k.memory k.chains top → named header ≤ top.object.0
+top_temporary header h past k ids w top t sinks = elim (over.none) [
+  | inl without ↦ untold_temporary header k.memory.objects top.object.0 over.row (leads_there header h past k ids w top t).referred over.known
+      (m.kinds.kinds top.object.0 over.row over.known) without
+  | inr lacked ↦ elim (kind_cases header top.object.0) [
+    | inl declared ↦ absurd (let bad : false ≡ true = sym (m.kinds.present top.object.0 top.page.0 declared) ∙ lacked in cc)
+    | inr temporary ↦ temporary
+  ]
+]
+  where
+    m : Matches header h k ids [] past
+    m = t.works.matches
+
+    over : PassesOver k.memory top
+    over = passes_top k.memory k.chains top sinks
+
+-- it ends with its page, after a copy or zeros came, or at once
+ended : (header : Header) (h : ℕ) (outside : Outside) (doing : Command) (past : List Event) (k : Parts) (ids : Ids) (w : Waiting) (top : PageKey)
+    (events : List Event) (value : ℕ) (m2 : HostParts) (after : List Event) (waits2 : WaitTable)
+    → IsOfNumber w.want → Tries header h (events ++ past) k ids w top
+    → Ended (host_id h) w.task w.want top (address_in k.maps.size w.want % header.size) value k.memory m2 k.chains events after
+    → PutsInOrder w.task.0 None k.waits.rows waits2.rows → Reaches header h outside doing past events (record k { memory = m2; waits = waits2 }) ids after
+ended header h outside doing past k ids w top events value m2 after waits2 number t (AtOnce steps key row finds none out e hits told) put =
+    subst (λ (z : List Event). Reaches header h outside doing past events (record k { memory = m2; waits = waits2 }) ids z) (sym told)
+    (hit header h outside doing past k ids w top events steps key row value e m2 waits2 t finds none out hits put)
+ended header h outside doing past k ids w top events value m2 after waits2 number t
+    (Raised steps key row finds stores out frame copied with_hit raises keeps e hits touched told) put =
+    let moment = events ++ past in
+    let raised : Event = event.Raised (host_id h) key.object key.page top.object top.page in
+    let to = leads_there header h moment k ids w top t in
+    let s = shown_at t.works.matches in
+    let store = store_of w.want stores in
+    let works1 = works_raised header h moment k ids steps key top row frame copied t.works finds.walks
+    (at_unfilled header.size w.task.0 w.want top k.maps k.chains [] t.works.matches.entries t.at) to.referred finds.found finds.here raises keeps in
+    let t1 = tries_on header h moment (raised ∷ moment) k ids w top copied t works1 in
+    let one = goes_one header h outside doing past events raised t.works.matches.settled
+    (raised_follows header h outside doing moment k w.task.0 w.want top t.at store.address store.size store.value steps key row to s store.is (t.clear stores)
+    finds out
+    (suffices header h copied.frames (raised ∷ moment) works1.matches.frames)) in
+    let row2 : PageRow = record (clean_row frame unlocked false) { dirty = true } in
+    let there : Finds copied k.chains 0 top top row2 = record {
+      walks = refl;
+      found = row_put k.memory.resident copied.resident top.object.0 top.page.0 (Some row2) raises.row;
+      here = refl;
+    } in
+    let two = hit header h outside doing past (record k { memory = copied }) ids w top (raised ∷ events) 0 top row2 value e with_hit waits2 t1 there
+    (λ is. refl) (plain_open row2.lock (writes_at w.want 0) refl) hits put in
+    subst (λ (z : List Event). Reaches header h outside doing past events (record k { memory = m2; waits = waits2 }) ids z) (sym told)
+    (record {
+      works = works_touched header h (e ∷ raised ∷ moment) (record k { memory = with_hit; waits = waits2 }) ids woken.Nobody row.frame m2 touched two.works;
+      goes = goes_both header h outside doing past events (raised ∷ events) (e ∷ raised ∷ events) one two.goes;
+    })
+ended header h outside doing past k ids w top events value m2 after waits2 number t (AfterZeros sinks frame brought brings keeps e hits told) put =
+    let moment = events ++ past in
+    let zeros : Event = event.Zeroed (host_id h) top.object top.page in
+    let to = leads_there header h moment k ids w top t in
+    let s = shown_at t.works.matches in
+    let works1 = works_zeroed header h moment k ids top frame brought t.works sinks
+    (at_unfilled header.size w.task.0 w.want top k.maps k.chains [] t.works.matches.entries t.at) to.referred brings keeps in
+    let t1 = tries_on header h moment (zeros ∷ moment) k ids w top brought t works1 in
+    let one = goes_one header h outside doing past events zeros t.works.matches.settled
+    (zeroed_follows header h outside doing moment k w.task.0 w.want top t.at (top_temporary header h moment k ids w top t sinks) to s t.clear sinks
+    (suffices header h brought.frames (zeros ∷ moment) works1.matches.frames)) in
+    let row2 : PageRow = clean_row frame unlocked false in
+    let there : Finds brought k.chains 0 top top row2 = record {
+      walks = refl;
+      found = row_put k.memory.resident brought.resident top.object.0 top.page.0 (Some row2) brings.row;
+      here = refl;
+    } in
+    let two = hit header h outside doing past (record k { memory = brought }) ids w top (zeros ∷ events) 0 top row2 value e m2 waits2 t1 there (λ is. refl)
+    (plain_open row2.lock (writes_at w.want 0) refl) hits put in
+    subst (λ (z : List Event). Reaches header h outside doing past events (record k { memory = m2; waits = waits2 }) ids z) (sym told)
+    (record { works = two.works; goes = goes_both header h outside doing past events (zeros ∷ events) (e ∷ zeros ∷ events) one two.goes })
+ended header h outside doing past k ids w top events value m2 after waits2 number t (Copied address pages next target is steps key row finds out is_none copies)
+    put =
+    absurd (subst IsOfNumber is number)
+
+-- a place to which its walk leads is one of its places, and it has passed over those above
+place_of_walk : (header : Header) (h : ℕ) (past : List Event) (k : Parts) (ids : Ids) (w : Waiting) (top key : PageKey) (steps : ℕ)
+    → (t : Tries header h past k ids w top) → WalksTo k.memory k.chains steps top key
+    → IsPlaceBehind (StaysAway header h past) k.maps k.chains w.task.0 w.want key
+place_of_walk header h past k ids w top key steps t walks =
+    record {
+      top = top;
+      at = t.at;
+      steps = steps;
+      leads = over_walk header h k ids past t.works.matches steps top key
+          (leads_there header h past k ids w top t).referred walks;
+    }
+
+-- its page is asked for
+asked : (header : Header) (h : ℕ) (outside : Outside) (doing : Command) (past : List Event) (k : Parts) (ids : Ids) (w : Waiting) (top key : PageKey)
+    (events : List Event) (m2 : HostParts) (after : List Event) (waits2 : WaitTable)
+    → Tries header h (events ++ past) k ids w top → RequestsPage (host_id h) w.want top key k.memory m2 k.chains events after
+    → PutsInOrder w.task.0 (Some (with_on w (on.Page key))) k.waits.rows waits2.rows
+    → Reaches header h outside doing past events (record k { memory = m2; waits = waits2 }) ids after
+asked header h outside doing past k ids w top key events m2 after waits2 t a put =
+    let moment = events ++ past in
+    let number = wanted_number w.want a.steps in
+    let request : Event = event.Sent (Up (host_id h) key.object) (message.Request a.object.control key.page number) in
+    let to = leads_there header h moment k ids w top t in
+    let s = shown_at t.works.matches in
+    let place = place_of_walk header h moment k ids w top key a.steps t a.comes.walks in
+    let may = may_ask s a.steps top key a.object a.comes a.ready in
+    let works = works_asked header h moment k ids w key a.object number a.frame m2 waits2 t.works t.is t.now
+    (referred_down s a.steps top key to.referred (walks_lead k.memory k.chains a.steps top key a.comes.walks)) place may.known a.comes.known a.ready
+    may.live a.page a.plan put in
+    subst (λ (z : List Event). Reaches header h outside doing past events (record k { memory = m2; waits = waits2 }) ids z) (sym a.told)
+    (record {
+      works = works;
+      goes = goes_one header h outside doing past events request t.works.matches.settled
+          (request_follows header h outside doing moment k w.task.0 w.want top t.at a.steps key a.object to s t.clear a.comes a.ready
+          (suffices header h m2.frames (request ∷ moment) works.matches.frames));
+    })
+
+-- an unlock of its page is asked for
+unlocked_by : (header : Header) (h : ℕ) (outside : Outside) (doing : Command) (past : List Event) (k : Parts) (ids : Ids) (w : Waiting) (top key : PageKey)
+    (events : List Event) (m2 : HostParts) (after : List Event) (waits2 : WaitTable)
+    → Tries header h (events ++ past) k ids w top → AsksUnlock (host_id h) w.want top key k.memory m2 k.chains events after
+    → PutsInOrder w.task.0 (Some (with_on w (on.Page key))) k.waits.rows waits2.rows
+    → Reaches header h outside doing past events (record k { memory = m2; waits = waits2 }) ids after
+unlocked_by header h outside doing past k ids w top key events m2 after waits2 t a put =
+    let moment = events ++ past in
+    let number = wanted_number w.want a.steps in
+    let unlock : Event = unlocking h key a.object.control number in
+    let to = leads_there header h moment k ids w top t in
+    let s = shown_at t.works.matches in
+    let place = place_of_walk header h moment k ids w top key a.steps t a.finds.walks in
+    let works = works_unlocked header h moment k ids w key a.row a.object number m2 waits2 t.works t.is t.now place a.finds.here
+    (kept_anywhere a.row.lock w.want a.steps a.locked) a.none a.page a.plan put in
+    subst (λ (z : List Event). Reaches header h outside doing past events (record k { memory = m2; waits = waits2 }) ids z) (sym a.told)
+    (record {
+      works = works;
+      goes = goes_one header h outside doing past events unlock t.works.matches.settled
+          (unlock_follows header h outside doing moment k w.task.0 w.want top t.at a.steps key a.row a.object to s t.works.matches.replied t.works.referred
+          t.works.matches.controls a.finds a.known (kept_anywhere a.row.lock w.want a.steps a.locked) a.none
+          (suffices header h m2.frames (unlock ∷ moment) works.matches.frames));
+    })
+
+-- the region of a store has an object of its own first
+
+pub record Prepared (header : Header) (h : ℕ) (outside : Outside) (doing : Command) (past : List Event) (k : Parts) (ids : Ids) (w : Waiting)
+    (events : List Event) (mid : FaultState) (top : PageKey) : Type 0 where
+  pub tries : Tries header h (mid.events ++ past) (with_state k mid) mid.ids w top
+  pub goes : LegalEvents header h outside doing past events mid.events
+
+not_both : (a b : Bool) → (a && b) ≡ false → a ≡ true → b ≡ false
+not_both true b is one = is
+not_both false b is one = absurd (let bad : false ≡ true = one in cc)
+
+-- the row of the region of an access
+its_mark : (k : Parts) (chains : ChainTable) (w : Waiting) (top : PageKey) (row2 : RegionRow) (found_entry : Entry)
+    (at : IsAt k.maps chains w.task.0 w.want top) → entry_at (address_in k.maps.size w.want) (rows_in w.task.0 k.maps) ≡ Some found_entry
+    → region_at chains found_entry.region.0 ≡ Some row2 → row2.marked ≡ false → at.row.marked ≡ false
+its_mark k chains w top row2 found_entry at found region clear =
+    let same : at.entry ≡ found_entry = some_is at.entry found_entry (sym at.found ∙ found) in
+    let rows : at.row ≡ row2 = some_is at.row row2 (sym at.region ∙ ap (λ (z : Entry). region_at chains z.region.0) same ∙ region) in
+    ap (λ (z : RegionRow). z.marked) rows ∙ clear
+
+pub prepared : (header : Header) (h : ℕ) (outside : Outside) (doing : Command) (past : List Event) (k : Parts) (ids : Ids) (w : Waiting) (may : Bool)
+    (answer : FaultStep) (events : List Event) (new : FaultState)
+    → Works header h k ids woken.Nobody (events ++ past) → entry k.waits.rows w.task.0 ≡ Some w → runs_now w.on ≡ true
+    → (f : Faulted k.maps k.host w.task w.want may answer (state_of k ids events) new)
+    → Prepared header h outside doing past k ids w events f.mid f.top
+prepared header h outside doing past k ids w may answer events new works is now f =
+    by (is_storing w.want && f.row.marked) refl f.prepares
+  where
+    moment : List Event
+    moment = events ++ past
+
+    bare : (mid : FaultState) → state_of k ids events ≡ mid → (at : IsAt k.maps mid.chains w.task.0 w.want f.top)
+        → (is_storing w.want ≡ true → at.row.marked ≡ false) → Prepared header h outside doing past k ids w events mid f.top
+    bare mid same at clear =
+        subst (λ (z : FaultState). (at2 : IsAt k.maps z.chains w.task.0 w.want f.top) → (is_storing w.want ≡ true → at2.row.marked ≡ false)
+        → Prepared header h outside doing past k ids w events z f.top) same
+        (λ at2 clear2. record {
+          tries = record { works = works; is = is; now = now; at = at2; clear = clear2 };
+          goes = goes_none header h outside doing past events;
+        }) at clear
+
+    by : (b : Bool) → (is_storing w.want && f.row.marked) ≡ b → Prepares b f.entry.region f.row (state_of k ids events) f.mid
+        → Prepared header h outside doing past k ids w events f.mid f.top
+    by false test same =
+        bare f.mid (sym same) f.at
+        (λ stores. its_mark k f.mid.chains w f.top f.row f.entry f.at f.found (ap (λ (z : FaultState). region_at z.chains f.entry.region.0) same ∙ f.region)
+        (not_both (is_storing w.want) f.row.marked test stores))
+    by true test made =
+        let both = and_parts (is_storing w.want) f.row.marked test in
+        let store = store_of w.want both.0 in
+        let before : PageKey = top_place f.row (page_at k.maps.size (address_in k.maps.size w.want) f.entry) in
+        let at : IsAt k.maps k.chains w.task.0 w.want before = record { entry = f.entry; found = f.found; row = f.row; region = f.region; is = refl } in
+        let shadow : Event = event.Shadowed f.entry.region made.object f.row.top in
+        let works1 = works_shadowed header h moment k ids f.entry.region f.row (state_of k ids events) f.mid works refl refl refl f.region
+        (entry_some header.size f.entry.region.0 w.task.0 k.maps k.chains [] f.row works.matches.entries f.region
+        (on_its_region (address_in k.maps.size w.want) (rows_in w.task.0 k.maps) f.entry f.found)) both.1 made in
+        let to = leads_of header h k ids moment woken.Nobody w.task.0 w before works.matches works.waits works.used.copies is at in
+        let follows = shadowed_follows header h outside doing moment k ids w.task w.want before at made.object store.address store.size store.value
+        works.matches to store.is both.1 made.next
+        (suffices header h f.mid.parts.frames (shadow ∷ moment) works1.matches.frames) in
+        let row2 : RegionRow = record f.row { top = made.object; shift = 0; marked = false } in
+        let region : region_at f.mid.chains f.entry.region.0 ≡ Some row2 =
+        made.chains.at f.entry.region.0 ∙ ap (λ b. if b then Some row2 else region_at k.chains f.entry.region.0) (own_host f.entry.region.0) in
+        record {
+          tries = record {
+            works = subst (λ (z : List Event). Works header h (with_state k f.mid) f.mid.ids woken.Nobody (z ++ past)) (sym made.told) works1;
+            is = is;
+            now = now;
+            at = f.at;
+            clear = λ stores. its_mark k f.mid.chains w f.top row2 f.entry f.at f.found region refl;
+          };
+          goes =
+              subst (λ (z : List Event). LegalEvents header h outside doing past events z) (sym made.told)
+              (goes_one header h outside doing past events shadow works.matches.settled follows);
+        }
+
+-- the chains and the next numbers are those behind the shadow
+settle : (header : Header) (h : ℕ) (outside : Outside) (doing : Command) (past : List Event) (k : Parts) (events : List Event) (mid new : FaultState)
+    (waits2 : WaitTable) → LegalEvents header h outside doing past events mid.events
+    → Reaches header h outside doing past mid.events (record (with_state k mid) { memory = new.parts; waits = waits2 }) mid.ids new.events
+    → new.chains ≡ mid.chains → new.ids ≡ mid.ids
+    → Reaches header h outside doing past events (record (with_state k new) { waits = waits2 }) new.ids new.events
+settle header h outside doing past k events mid new waits2 first r chains ids =
+    record {
+      works = subst (λ (z : Ids). Works header h (record (with_state k new) { waits = waits2 }) z woken.Nobody (new.events ++ past)) (sym ids)
+          (subst (λ (z : ChainTable). Works header h (record k { memory = new.parts; chains = z; waits = waits2 }) mid.ids woken.Nobody (new.events ++ past))
+          (sym chains) r.works);
+      goes = goes_both header h outside doing past events mid.events new.events first r.goes;
+    }
+
+-- nothing changes but what it waits for
+stays : (header : Header) (h : ℕ) (outside : Outside) (doing : Command) (past : List Event) (k : Parts) (mid new : FaultState) (waits2 : WaitTable)
+    → NothingChanges mid new
+    → Works header h (record (with_state k mid) { waits = waits2 }) mid.ids woken.Nobody (mid.events ++ past)
+    → Reaches header h outside doing past mid.events (record (with_state k mid) { memory = new.parts; waits = waits2 }) mid.ids new.events
+stays header h outside doing past k mid new waits2 same works =
+    record {
+      works =
+          subst (λ (z : List Event). Works header h (record (with_state k mid) { memory = new.parts; waits = waits2 }) mid.ids woken.Nobody (z ++ past))
+          (sym same.told)
+          (subst (λ (z : HostParts). Works header h (record (with_state k mid) { memory = z; waits = waits2 }) mid.ids woken.Nobody (mid.events ++ past))
+          (sym same.parts) works);
+      goes =
+          subst (λ (z : List Event). LegalEvents header h outside doing past mid.events z) (sym same.told) (goes_none header h outside doing past mid.events);
+    }
+
+-- what a fault's answer says
+
+-- it has ended
+pub done_reaches : (header : Header) (h : ℕ) (outside : Outside) (doing : Command) (past : List Event) (k : Parts) (ids : Ids) (w : Waiting) (may : Bool)
+    (value : ℕ) (events : List Event) (new : FaultState) (waits2 : WaitTable)
+    → IsOfNumber w.want → Works header h k ids woken.Nobody (events ++ past) → entry k.waits.rows w.task.0 ≡ Some w → runs_now w.on ≡ true
+    → Faulted k.maps k.host w.task w.want may (step.Done value) (state_of k ids events) new
+    → PutsInOrder w.task.0 None k.waits.rows waits2.rows
+    → Reaches header h outside doing past events (record (with_state k new) { waits = waits2 }) new.ids new.events
+done_reaches header h outside doing past k ids w may value events new waits2 number works is now f put =
+    let p = prepared header h outside doing past k ids w may (step.Done value) events new works is now f in
+    let address = address_in k.maps.size w.want in
+    let named = subst (λ (z : HostId). Ended z w.task w.want f.top (address % k.memory.buffers.size) value f.mid.parts new.parts f.mid.chains f.mid.events
+    new.events) (named_host k.host h works.matches.host) f.comes in
+    let sized = subst (λ (z : ℕ). Ended (host_id h) w.task w.want f.top (address % z) value f.mid.parts new.parts f.mid.chains f.mid.events new.events)
+    (works.matches.fits.buffers ∙ works.matches.size) named in
+    settle header h outside doing past k events f.mid new waits2 p.goes (ended header h outside doing past (with_state k f.mid) f.mid.ids w f.top f.mid.events
+    value new.parts new.events waits2 number p.tries sized put) f.chains f.ids
+
+-- it waits for its object's pager
+pub ready_reaches : (header : Header) (h : ℕ) (outside : Outside) (doing : Command) (past : List Event) (k : Parts) (ids : Ids) (w : Waiting) (may : Bool)
+    (object : ObjectId) (events : List Event) (new : FaultState) (waits2 : WaitTable)
+    → Works header h k ids woken.Nobody (events ++ past) → entry k.waits.rows w.task.0 ≡ Some w → runs_now w.on ≡ true
+    → Faulted k.maps k.host w.task w.want may (step.WaitReady object) (state_of k ids events) new
+    → PutsInOrder w.task.0 (Some (with_on w (on.Ready object))) k.waits.rows waits2.rows
+    → Reaches header h outside doing past events (record (with_state k new) { waits = waits2 }) new.ids new.events
+ready_reaches header h outside doing past k ids w may object events new waits2 works is now f put =
+    let p = prepared header h outside doing past k ids w may (step.WaitReady object) events new works is now f in
+    let why = f.comes.0 in
+    let steps = why.0 in
+    let key = why.1 in
+    let comes = why.3 in
+    let same : key.object ≡ object = why.5 in
+    let moment = f.mid.events ++ past in
+    let place = place_of_walk header h moment (with_state k f.mid) f.mid.ids w f.top key steps p.tries comes.walks in
+    let unmet = unmet_at header h (with_state k f.mid) f.mid.ids moment p.tries.works.matches steps f.top key why.2 comes in
+    let told = subst (λ (z : ObjectId). IsPagerTold f.mid.parts.objects z.0) same (record { row = why.2; found = comes.known; sent = why.4 }) in
+    settle header h outside doing past k events f.mid new waits2 p.goes
+    (stays header h outside doing past k f.mid new waits2 f.comes.1
+    (works_turned header h (f.mid.events ++ past) (with_state k f.mid) f.mid.ids w (on.Ready object) waits2 p.tries.works is now
+    (key, behind_place place, same, told) (key, place, same, unmet) put)) f.chains f.ids
+
+-- its page is asked, or an unlock of it is outstanding; it was asked for now or before
+pub page_reaches : (header : Header) (h : ℕ) (outside : Outside) (doing : Command) (past : List Event) (k : Parts) (ids : Ids) (w : Waiting) (may : Bool)
+    (answer : FaultStep) (key : PageKey) (events : List Event) (new : FaultState) (waits2 : WaitTable)
+    → Works header h k ids woken.Nobody (events ++ past) → entry k.waits.rows w.task.0 ≡ Some w → runs_now w.on ≡ true
+    → Faulted k.maps k.host w.task w.want may answer (state_of k ids events) new
+    → (answer ≡ step.Ask key) ⊎ ((answer ≡ step.Unlock key) ⊎ (answer ≡ step.WaitAnswer key))
+    → PutsInOrder w.task.0 (Some (with_on w (on.Page key))) k.waits.rows waits2.rows
+    → Reaches header h outside doing past events (record (with_state k new) { waits = waits2 }) new.ids new.events
+page_reaches header h outside doing past k ids w may answer key events new waits2 works is now faulted (inl asks) put =
+    let f : Faulted k.maps k.host w.task w.want may (step.Ask key) (state_of k ids events) new = subst
+    (λ (z : FaultStep). Faulted k.maps k.host w.task w.want may z (state_of k ids events) new) asks faulted in
+    let p = prepared header h outside doing past k ids w may (step.Ask key) events new works is now f in
+    let named = subst (λ (z : HostId). RequestsPage z w.want f.top key f.mid.parts new.parts f.mid.chains f.mid.events new.events)
+    (named_host k.host h works.matches.host) f.comes in
+    settle header h outside doing past k events f.mid new waits2 p.goes (asked header h outside doing past (with_state k f.mid) f.mid.ids w f.top key
+    f.mid.events new.parts new.events waits2 p.tries named put) f.chains f.ids
+page_reaches header h outside doing past k ids w may answer key events new waits2 works is now faulted (inr (inl unlocks)) put =
+    let f : Faulted k.maps k.host w.task w.want may (step.Unlock key) (state_of k ids events) new = subst
+    (λ (z : FaultStep). Faulted k.maps k.host w.task w.want may z (state_of k ids events) new) unlocks faulted in
+    let p = prepared header h outside doing past k ids w may (step.Unlock key) events new works is now f in
+    let named = subst (λ (z : HostId). AsksUnlock z w.want f.top key f.mid.parts new.parts f.mid.chains f.mid.events new.events)
+    (named_host k.host h works.matches.host) f.comes in
+    settle header h outside doing past k events f.mid new waits2 p.goes (unlocked_by header h outside doing past (with_state k f.mid) f.mid.ids w f.top key
+    f.mid.events new.parts new.events waits2 p.tries named put) f.chains f.ids
+page_reaches header h outside doing past k ids w may answer key events new waits2 works is now faulted (inr (inr joins)) put =
+    settle header h outside doing past k events f.mid new waits2 p.goes (stays header h outside doing past k f.mid new waits2 f.comes.1 (by f.comes.0.why))
+    f.chains f.ids
+  where
+    f : Faulted k.maps k.host w.task w.want may (step.WaitAnswer key) (state_of k ids events) new
+    f = subst (λ (z : FaultStep). Faulted k.maps k.host w.task w.want may z (state_of k ids events) new) joins faulted
+
+    p : Prepared header h outside doing past k ids w events f.mid f.top
+    p = prepared header h outside doing past k ids w may (step.WaitAnswer key) events new works is now f
+
+    steps : ℕ
+    steps = f.comes.0.steps
+
+    row : PageRow
+    row = f.comes.0.row
+
+    by : (Finds f.mid.parts f.mid.chains steps f.top key row × (keeps_out row.lock (writes_at w.want steps) ≡ true) × (row.unlock_sent ≡ true))
+        ⊎ StopsAsked f.mid.parts f.mid.chains steps f.top key row
+        → Works header h (record (with_state k f.mid) { waits = waits2 }) f.mid.ids woken.Nobody (f.mid.events ++ past)
+    by (inl locked) =
+        works_joined header h (f.mid.events ++ past) (with_state k f.mid) f.mid.ids w key waits2 p.tries.works is now
+        (place_of_walk header h (f.mid.events ++ past) (with_state k f.mid) f.mid.ids w f.top key steps p.tries locked.0.walks)
+        (inr (record { row = row; found = locked.0.found; here = locked.0.here; locked = kept_anywhere row.lock w.want steps locked.1; sent = locked.2 })) put
+    by (inr stops) =
+        works_joined header h (f.mid.events ++ past) (with_state k f.mid) f.mid.ids w key waits2 p.tries.works is now
+        (place_of_walk header h (f.mid.events ++ past) (with_state k f.mid) f.mid.ids w f.top key steps p.tries stops.walks)
+        (inl (record { row = row; found = stops.found; away = stops.away })) put
+
+-- it wants a frame: it joins the queue
+pub queued_reaches : (header : Header) (h : ℕ) (outside : Outside) (doing : Command) (past : List Event) (k : Parts) (ids : Ids) (w : Waiting) (may : Bool)
+    (source : Option PageKey) (events : List Event) (new : FaultState) (waits2 : WaitTable)
+    → Works header h k ids woken.Nobody (events ++ past) → entry k.waits.rows w.task.0 ≡ Some w → runs_now w.on ≡ true
+    → Faulted k.maps k.host w.task w.want may (step.NeedFrame source) (state_of k ids events) new
+    → PutsInOrder w.task.0 (Some (with_on w on.Frame)) k.waits.rows waits2.rows
+    → Reaches header h outside doing past events (record (with_state k new) { waits = waits2 }) new.ids new.events
+queued_reaches header h outside doing past k ids w may source events new waits2 works is now f put =
+    let p = prepared header h outside doing past k ids w may (step.NeedFrame source) events new works is now f in
+    settle header h outside doing past k events f.mid new waits2 p.goes
+    (stays header h outside doing past k f.mid new waits2 f.comes.2
+    (works_turned header h (f.mid.events ++ past) (with_state k f.mid) f.mid.ids w on.Frame waits2 p.tries.works is now tt tt put)) f.chains f.ids
+
+-- or stands in it, and stays there
+pub still_reaches : (header : Header) (h : ℕ) (outside : Outside) (doing : Command) (past : List Event) (k : Parts) (ids : Ids) (w : Waiting) (may : Bool)
+    (source : Option PageKey) (events : List Event) (new : FaultState)
+    → Works header h k ids woken.Nobody (events ++ past) → entry k.waits.rows w.task.0 ≡ Some w → runs_now w.on ≡ true
+    → Faulted k.maps k.host w.task w.want may (step.NeedFrame source) (state_of k ids events) new
+    → Reaches header h outside doing past events (with_state k new) new.ids new.events
+still_reaches header h outside doing past k ids w may source events new works is now f =
+    let p = prepared header h outside doing past k ids w may (step.NeedFrame source) events new works is now f in
+    settle header h outside doing past k events f.mid new k.waits p.goes (stays header h outside doing past k f.mid new k.waits f.comes.2 p.tries.works)
+    f.chains f.ids
+
+-- the access wants a frame
+
+-- why
+frame_why : (header : Header) (h : ℕ) (past : List Event) (k : Parts) (ids : Ids) (w : Waiting) (top : PageKey) {source : Option PageKey}
+    → (t : Tries header h past k ids w top) → (to : Leads header h past k w.task.0 w.want top t.at) → Needs w.want top k.memory k.chains source
+    → WantsFrame header h w.task.0 (access_in k.maps.size to.destination w.want) t.at.entry.region.0
+    (page_of header w.task.0 (access_in k.maps.size to.destination w.want) past t.at.entry) past
+frame_why header h past k ids w top t to (Nowhere sinks) =
+    legal.Nowhere top.object.0 top.page.0 sinks.steps (top_at header h past k w.task.0 w.want top t.at to)
+    (sinks_of (shown_at t.works.matches) top to.referred sinks)
+frame_why header h past k ids w top t to (ToCopy steps key row finds copying out) =
+    let s = shown_at t.works.matches in
+    wants_copy header h k.maps.size w.task.0 to.destination t.at.entry.region.0 (page_of header w.task.0 (access_in k.maps.size to.destination w.want) past
+    t.at.entry) past w.want steps top.object.0 top.page.0 key.object.0 key.page.0
+    (or_right (is_storing w.want && nat_lt 0 steps) (is_copying w.want) copying) (top_at header h past k w.task.0 w.want top t.at to)
+    (walks_of s steps top key finds.walks) (shows_row s key.object.0 key.page.0 row finds.found finds.here).here
+frame_why header h past k ids w top t to (ToAsk steps key object comes ready) =
+    let s = shown_at t.works.matches in
+    let may = may_ask s steps top key object comes ready in
+    legal.Elsewhere key.object.0 key.page.0 (comes_at header h past k w.task.0 w.want top t.at to s steps key comes.walks) may.away may.unasked may.may_have
+    may.ready
+frame_why header h past k ids w top t to (ToRaise steps key row finds stores out) =
+    let s = shown_at t.works.matches in
+    legal.Raises top.object.0 top.page.0 steps key.object.0 key.page.0 (top_at header h past k w.task.0 w.want top t.at to)
+    (walks_of s (suc steps) top key finds.walks) (shows_row s key.object.0 key.page.0 row finds.found finds.here).here
+    (storing_is k.maps.size to.destination w.want ∙ stores)
+
+-- and what it is to copy
+
+found_source : (header : Header) (h : ℕ) (past : List Event) (k : Parts) (ids : Ids) (w : Waiting) (top : PageKey) → Tries header h past k ids w top
+    → (steps : ℕ) (key : PageKey) (row : PageRow) → Finds k.memory k.chains steps top key row → Needs w.want top k.memory k.chains (Some key)
+    → IsToCopyPage header h w.task key.object.0 key.page.0 past × IsHere k key
+found_source header h past k ids w top t steps key row finds needs =
+    let to = leads_there header h past k ids w top t in
+    let s = shown_at t.works.matches in (
+      record {
+        source = record {
+          task = w.task.0;
+          access = access_in k.maps.size to.destination w.want;
+          waits = it_waits header h past k w.task.0 w.want top t.at to;
+          on_host = refl;
+          comes = comes_at header h past k w.task.0 w.want top t.at to s steps key finds.walks;
+          wants = frame_why header h past k ids w top t to needs;
+        };
+        of = refl;
+        here = (shows_row s key.object.0 key.page.0 row finds.found finds.here).here;
+      },
+      (row, finds.found, finds.here),
+    )
+
+frame_source : (header : Header) (h : ℕ) (past : List Event) (k : Parts) (ids : Ids) (w : Waiting) (top : PageKey) {source : Option PageKey}
+    → Tries header h past k ids w top → Needs w.want top k.memory k.chains source
+    → IfSome source (λ key. IsToCopyPage header h w.task key.object.0 key.page.0 past × IsHere k key)
+frame_source header h past k ids w top t (Nowhere sinks) = tt
+frame_source header h past k ids w top t (ToAsk steps key object comes ready) = tt
+frame_source header h past k ids w top t (ToCopy steps key row finds copying out) =
+    found_source header h past k ids w top t steps key row finds (ToCopy steps key row finds copying out)
+frame_source header h past k ids w top t (ToRaise steps key row finds stores out) =
+    found_source header h past k ids w top t (suc steps) key row finds (ToRaise steps key row finds stores out)
+
+-- and so it wants one
+pub record Wanting (header : Header) (h : ℕ) (w : Waiting) (may : Bool) (source : Option PageKey) (k : Parts) (after : List Event) : Type 0 where
+  pub wants : Wants header h after
+  pub mine : wants.task ≡ w.task.0
+  pub to_copy : IsToCopy header h k source after
+  pub exact : IsTheSource header h (SparesSource (Some w.task)) source after
+  pub none : may ≡ true → free k.memory.frames ≡ 0
+
+pub wanting_of : (header : Header) (h : ℕ) (outside : Outside) (doing : Command) (past : List Event) (k : Parts) (ids : Ids) (w : Waiting) (may : Bool)
+    (source : Option PageKey) (events : List Event) (new : FaultState) (waits2 : WaitTable)
+    → Works header h k ids woken.Nobody (events ++ past) → entry k.waits.rows w.task.0 ≡ Some w → runs_now w.on ≡ true
+    → Faulted k.maps k.host w.task w.want may (step.NeedFrame source) (state_of k ids events) new
+    → Wanting header h w may source (record (with_state k new) { waits = waits2 }) (new.events ++ past)
+wanting_of header h outside doing past k ids w may source events new waits2 works is now f =
+    let p = prepared header h outside doing past k ids w may (step.NeedFrame source) events new works is now f in
+    let moment = f.mid.events ++ past in
+    let mid = with_state k f.mid in
+    let t = p.tries in
+    let same = f.comes.2 in
+    let to = leads_there header h moment mid f.mid.ids w f.top t in
+    let wants : (wants : Wants header h moment) × (wants.task ≡ w.task.0) = (
+      record {
+        task = w.task.0;
+        access = access_in k.maps.size to.destination w.want;
+        waits = it_waits header h moment mid w.task.0 w.want f.top t.at to;
+        on_host = refl;
+        frame = frame_why header h moment mid f.mid.ids w f.top t to f.comes.0;
+      },
+      refl,
+    ) in
+    let later = subst (λ (z : List Event). (wants : Wants header h (z ++ past)) × (wants.task ≡ w.task.0)) (sym same.told) wants in
+    let found = frame_source header h moment mid f.mid.ids w f.top t f.comes.0 in
+    let copies = copies_source header h moment mid w.task source found in
+    let told : IsTheSource header h (SparesSource (Some w.task)) source moment =
+    record {
+      is = only_copies header h moment mid w.task source found;
+      only = needs_it header h moment mid w.task w.want f.top t.at source to (shown_at t.works.matches) f.comes.0;
+    } in
+    let here = subst (λ (z : HostParts). IsToCopy header h (record mid { memory = z }) source moment) (sym same.parts) copies in
+    record {
+      wants = later.0;
+      mine = later.1;
+      to_copy = to_copy_same source (subst (λ (z : List Event). IsToCopy header h (record mid { memory = new.parts }) source (z ++ past)) (sym same.told) here);
+      exact = subst (λ (z : List Event). IsTheSource header h (SparesSource (Some w.task)) source (z ++ past)) (sym same.told) told;
+      none = λ so. ap (λ (z : HostParts). free z.frames) same.parts ∙ f.comes.1 so;
+    }
+  where
+    to_copy_same : (source2 : Option PageKey) → IsToCopy header h (record (with_state k f.mid) { memory = new.parts }) source2 (new.events ++ past)
+        → IsToCopy header h (record (with_state k new) { waits = waits2 }) source2 (new.events ++ past)
+    to_copy_same None copies = tt
+    to_copy_same (Some key) copies = copies
+
+-- what is said of the row of the access that was run
+pub its_row : (k : Parts) (w : Waiting) (P : Waiting → Type 0) → entry k.waits.rows w.task.0 ≡ Some w → IfSome (entry k.waits.rows w.task.0) P → P w
+its_row k w P is holds = subst (λ z. IfSome z P) is holds

@@ -1,0 +1,800 @@
+-- A slow copy begins: its region is there at once, over an object of its own, and its task waits.
+use Rattle.vm_kernel.proofs.Common.{AllUsed, BeganInOrder, Bool, ChainTable, Command, EachOf, Entry, Event, Grows, HasEntries, HasRegions, HasUse, HasWaiters}
+use Rattle.vm_kernel.proofs.Common.{HaveHomes, Header, Ids, InOrder, IsAllowed, IsDoneInTurn, IsFilledIn, IsInUse, IsInside, IsLined, LegalEvents, List}
+use Rattle.vm_kernel.proofs.Common.{MadeRange, Mapped, Matches, None, ObjectId, ObjectRow, Option, Outside, PageRow, Parts, Place, PutsEntry, PutsRegion}
+use Rattle.vm_kernel.proofs.Common.{QueueIsStill, Ran, RegionId, RegionRow, Rests, RunsNone, Some, Starts, TaskId, WaitTable, Waiting, Works, [], all_tasks, ap}
+use Rattle.vm_kernel.proofs.Common.{arith, backing_of, begun_at, copy_target, count_by, entries_in, entries_of, entry, entry_at, eqb_tells, false, fills}
+use Rattle.vm_kernel.proofs.Common.{fills_in, has_entry, head, holds, home_of, homes_next, homes_stay, host_of, if◌then◌else◌, in_use, inl, inr, is_on}
+use Rattle.vm_kernel.proofs.Common.{is_range, is_ready, is_some, is_woken, last_control, length, live_control, lives_on, local, made_here, marked_regions}
+use Rattle.vm_kernel.proofs.Common.{named, nat_le, nat_lt, nat_tests, next_object, next_page, next_region, object_at, object_home, page_at, place_at, place_of}
+use Rattle.vm_kernel.proofs.Common.{puts_cases, refl, region_at, region_of, row_at, rows_in, rows_map, some_is, subst, suc, sym, tasks, true, waiting}
+use Rattle.vm_kernel.proofs.Common.{with_entries, zero, ℕ, ◌%◌, ◌&&◌, ◌*◌, ◌++◌, ◌+◌, ◌/◌, ◌<◌, ◌==◌, ◌^◌, ◌||◌, ◌∙◌, ◌∷◌, ◌≡◌, ◌≤◌, ◌⊎◌}
+use Rattle.std.proofs.Math.Nat.{div-add-mod', mul-lt-mul_of_pos_right}
+use Rattle.std.proofs.lemmas.Bool.{or_parts}
+use Rattle.std.specs.Prelude.{IsSome}
+use Rattle.vm_abroad.proofs.Home.{home_made, objects_stay, region_made}
+use Rattle.vm_abroad.specs.Home.{first_of, home_at}
+use Rattle.vm_base.specs.Limits.{most_objects, most_regions}
+use Rattle.vm_base.specs.Pages.{page_positive}
+use Rattle.vm_base.specs.declared.ids.Inherit.TheVariants.{Copy}
+use Rattle.vm_base.specs.declared.ids.Access.TheVariants as need
+use Rattle.vm_kernel.proofs.space.NothingChanged.{regions_moved}
+use Rattle.vm_kernel.proofs.steps.AccessBegins.{lined_below, waits_added}
+use Rattle.vm_kernel.proofs.space.RegionCopied.{heads_more, is_full_copy, may_place, no_row, same_put}
+use Rattle.vm_kernel.proofs.space.EntriesCounted.{by_none}
+use Rattle.vm_kernel.proofs.space.RegionsFilled.{free_unfilled, put_filled, unknown_unfilled}
+use Rattle.vm_kernel.proofs.steps.EventsGrow.{grows_goes, suffices}
+use Rattle.vm_kernel.proofs.steps.HeadAlone.{Heads, grows_head, heads_one}
+use Rattle.vm_kernel.proofs.space.TaskMade.{controls_made, new_object}
+use Rattle.vm_kernel.proofs.abroad.OwnEvents.{own_task}
+use Rattle.vm_kernel.proofs.steps.RowsInOrder.{begun_order}
+use Rattle.vm_kernel.proofs.abroad.OwnHost.{lives_here, rows_here}
+use Rattle.vm_kernel.proofs.memory.PagesShown.{itself, pages_marked}
+use Rattle.vm_kernel.proofs.space.RangeAllocated.{first_temporary, fit_range, homes_range, ids_after, keeps_new, new_region, object_free, region_free}
+use Rattle.vm_kernel.proofs.space.RegionRows.{none_leads}
+use Rattle.vm_kernel.proofs.controls.LockReplied.{replied_behind}
+use Rattle.vm_kernel.proofs.space.RegionCases.{region_cases}
+use Rattle.vm_kernel.proofs.space.TaskTables.{inside_kept}
+use Rattle.vm_kernel.proofs.space.RegionsInUse.{elsewhere}
+use Rattle.vm_kernel.specs.Forking.{EntersCopy}
+use Rattle.vm_kernel.specs.Sweeping.{PutsEntries}
+use Rattle.vm_legal.proofs.Heads.{to_itself}
+use Rattle.vm_legal.specs.Follows.{copy_head}
+use Rattle.vm_legal.specs.Outside.{is_file, is_wild}
+use Rattle.vm_model.specs.Waiting.{Copying}
+use Rattle.vm_model.specs.declared.command.Command.TheVariants as command
+use Rattle.vm_model.specs.declared.event.Event.TheVariants as event
+use Rattle.vm_state.proofs.Bare.{next_bare}
+use Rattle.vm_state.proofs.Changing.{regions_recounted}
+use Rattle.vm_state.proofs.Declared.{kind_new, kinds_put, kinds_region}
+use Rattle.vm_state.proofs.Files.{files_temporary, no_file}
+use Rattle.vm_state.proofs.Filling.{copies_kept, copies_told, rows_unmade}
+use Rattle.vm_state.proofs.Making.{regions_made}
+use Rattle.vm_state.proofs.Marks.{marked_made}
+use Rattle.vm_state.proofs.Places.{keeps_made}
+use Rattle.vm_state.proofs.Referred.{referred_put}
+use Rattle.vm_state.proofs.Told.{knows_made, waits_known}
+use Rattle.vm_state.proofs.Waited.{waits_kept}
+use Rattle.vm_state.specs.Filling.{FitsCopy, IsAlone, IsCopied, IsFreeFor, IsSlow, filled_row}
+use Rattle.vm_state.specs.Places.{known_local}
+use Rattle.vm_state.specs.References.{is_live_in}
+use Rattle.vm_supply.specs.declared.woken.Woken.TheVariants as woken
+use Rattle.vm_waits.specs.declared.waiting.On.TheVariants as on
+use Rattle.vm_waits.specs.declared.waiting.Want.TheVariants as want
+use Rattle.vm_state.specs.Passed.{IsUnmet, StaysAway}
+
+-- An address behind another in its entry is in the same entry.
+
+found_high : (from to address : ℕ) (rows : List Entry) (row : Entry) → InOrder from to rows → entry_at address rows ≡ Some row → from ≤ address
+found_high from to address [] row order found = absurd (let bad : None ≡ Some row = found in cc)
+found_high from to address (own ∷ rows) row order found =
+    by (nat_le own.address address) refl (λ rest. found_high (own.address + own.bytes) to address rows row order.1.1 rest)
+  where
+    by : (b : Bool) → nat_le own.address address ≡ b → (entry_at address rows ≡ Some row → own.address + own.bytes ≤ address) → from ≤ address
+    by true is more = let low = order.0 in let test : own.address ≤ address = grind (arith, nat_tests) in omega (arith, low, test)
+    by false is more =
+        let high = more (sym (ap (λ b. if b && nat_lt address (own.address + own.bytes) then Some own else entry_at address rows) is) ∙ found) in
+        let low = order.0 in
+        omega (arith, low, high)
+
+found_behind : (from to address later : ℕ) (rows : List Entry) (row : Entry) → InOrder from to rows → entry_at address rows ≡ Some row → address ≤ later
+    → later < row.address + row.bytes → entry_at later rows ≡ Some row
+found_behind from to address later [] row order found le less = absurd (let bad : None ≡ Some row = found in cc)
+found_behind from to address later (own ∷ rows) row order found le less =
+    by (nat_le own.address address && nat_lt address (own.address + own.bytes)) refl found
+    (λ now. found_behind (own.address + own.bytes) to address later rows row order.1.1 now le less)
+  where
+    by : (b : Bool) → (nat_le own.address address && nat_lt address (own.address + own.bytes)) ≡ b → (if b then Some own else entry_at address rows) ≡ Some row
+        → (entry_at address rows ≡ Some row → entry_at later rows ≡ Some row)
+        → (if nat_le own.address later && nat_lt later (own.address + own.bytes) then Some own else entry_at later rows) ≡ Some row
+    by true is now more =
+        let same : own ≡ row = some_is own row now in
+        let end : later < own.address + own.bytes = subst (λ (z : Entry). later < z.address + z.bytes) (sym same) less in
+        let here : (nat_le own.address later && nat_lt later (own.address + own.bytes)) ≡ true = grind (arith, nat_tests) in
+        ap (λ b. if b then Some own else entry_at later rows) here ∙ now
+    by false is now more =
+        let high = found_high (own.address + own.bytes) to address rows row order.1.1 now in
+        let test : (nat_le own.address later && nat_lt later (own.address + own.bytes)) ≡ false = grind (arith, nat_tests) in
+        ap (λ b. if b then Some own else entry_at later rows) test ∙ more now
+
+-- what a slow copy that isn't refused has
+pub record MayBegin (header : Header) (task address bytes to : ℕ) (past : List Event) (k : Parts) (ids : Ids) : Type 0 where
+  pub row : Entry
+  pub lives : entries_in task k.maps ≡ Some (rows_in task k.maps)
+  pub found : entry_at address (rows_in task k.maps) ≡ Some row
+  pub allowed : IsAllowed k.maps task address need.Load
+  pub declared : row.region.0 < named header
+  pub copied : IsCopied header k.maps task address (bytes / header.size)
+  pub even : address % header.size ≡ 0
+  pub whole : bytes / header.size * header.size ≡ bytes
+  pub some : 0 < bytes / header.size
+  pub below : address + bytes ≤ 2 ^ 32
+  pub place : IsFreeFor k.maps task to (bytes / header.size)
+  pub idle : waiting task past ≡ None
+  pub absent : entry k.waits.rows task ≡ None
+  pub regions : ids.next_region < most_regions
+  pub marks : ids.next_object + ids.marks < most_objects
+
+-- a range of whole pages
+whole_range : (size bytes : ℕ) → bytes % size ≡ 0 → bytes / size * size ≡ bytes
+whole_range size bytes even = let sum = div-add-mod' bytes size in omega (arith, sum, even)
+
+some_pages : (pages size bytes : ℕ) → pages * size ≡ bytes → 0 < bytes → 0 < pages
+some_pages zero size bytes is some = absurd (omega (arith, is, some))
+some_pages (suc n) size bytes is some = omega arith
+
+-- the pages of the range lie in the one entry that its first page has
+copied_range : (header : Header) (maps : Mapped) (task address bytes : ℕ) (row : Entry) → maps.size ≡ header.size → 0 < header.size
+    → InOrder 0 (2 ^ 32) (rows_in task maps) → entry_at address (rows_in task maps) ≡ Some row → row.region.0 < named header
+    → is_wild header row.region.0 ≡ false → bytes / header.size * header.size ≡ bytes → address + bytes ≤ row.address + row.bytes
+    → IsCopied header maps task address (bytes / header.size)
+copied_range header maps task address bytes row sized some order found declared supplied whole ends =
+    record {
+      entry = row;
+      declared = declared;
+      supplied = supplied;
+      whole = λ p less. subst (λ (z : ℕ). entry_at (address + p * z) (rows_in task maps) ≡ Some row) (sym sized)
+          (let below : p * header.size < bytes / header.size * header.size = mul-lt-mul_of_pos_right less some in
+          found_behind 0 (2 ^ 32) address (address + p * header.size) (rows_in task maps) row order found (omega arith) (omega (arith, below, whole, ends)));
+    }
+
+pub may_begin : (header : Header) (h : ℕ) (task : TaskId) (address bytes to : ℕ) (past : List Event) (k : Parts) (ids : Ids) (before : List Event)
+    → Starts header h (command.Copy task address bytes task to) past k ids before
+    → ((row : Entry) → entry_at address (rows_in task.0 k.maps) ≡ Some row → row.region.0 < length k.declared.items)
+    → InOrder 0 (2 ^ 32) (rows_in task.0 k.maps) → MayBegin header task.0 address bytes to past k ids
+may_begin header h task address bytes to past k ids before s is_declared order =
+    let m = s.rests.matches in
+    let size = header.size in
+    let pages = bytes / size in
+    let p = may_place header h task address bytes task to past k ids before s in
+    let all : length k.declared.items ≡ named header = ap length m.declared in
+    let declared : p.entry.region.0 < named header = let less = is_declared p.entry p.found in omega (arith, less, all) in
+    let test : nat_lt p.entry.region.0 (named header) ≡ true = grind (arith, nat_tests) in
+    let there : entry_at address (entries_of size task.0 past) ≡ Some p.entry = ap (entry_at address) (rows_here m.tasks p.lives) ∙ p.found in
+    let own = to_itself header past task address bytes task to p.entry s.accepted there test in
+    let from : is_range size address bytes ≡ true = p.from in
+    let even_bytes : bytes % size ≡ 0 = grind (arith, nat_tests) in
+    let some_bytes : 0 < bytes = grind (arith, nat_tests) in
+    let whole = whole_range size bytes even_bytes in
+    let few = p.few in
+    let full = sym (is_full_copy header p.entry.region.0 past true (region_of header p.entry.region.0 past).mark test refl) ∙ p.full in
+    let counts = or_parts (nat_le most_regions (next_region header past)) (nat_lt most_objects (next_object header past + marked_regions header past + 1))
+    full in
+    let regions : nat_le most_regions (next_region header past) ≡ false = counts.0 in
+    let objects : nat_lt most_objects (next_object header past + marked_regions header past + 1) ≡ false = counts.1 in
+    let next = m.regions.region in
+    let number = m.regions.object in
+    let marked = m.regions.marks in
+    record {
+      row = p.entry;
+      lives = p.lives;
+      found = p.found;
+      allowed = p.allowed;
+      declared = declared;
+      copied =
+          copied_range header k.maps task.0 address bytes p.entry m.tasks.sized (page_positive size m.ranged.size) order p.found declared own.0 whole p.ends;
+      even = grind (arith, nat_tests);
+      whole = whole;
+      some = some_pages pages size bytes whole some_bytes;
+      below = grind (arith, nat_tests);
+      place =
+          record {
+            range = rw (m.tasks.sized, whole) p.range;
+            free = rw (m.tasks.sized, whole) p.free;
+            room = grind (arith, nat_tests);
+          };
+      idle = p.idle;
+      absent = no_row k.maps.size (entry k.waits.rows task.0) (waiting task.0 past) (s.rests.waits.is task.0 (ap is_some p.lives)) p.idle;
+      regions = grind (arith, nat_tests);
+      marks = grind (arith, nat_tests);
+    }
+
+-- the row of the access that begins
+abbrev pub copy_row : TaskId → ℕ → ℕ → ℕ → RegionId → ObjectId → Waiting
+copy_row task address pages to region target =
+    record { task = task; want = want.CopyTo address pages target 0; on = on.Again; destination = Some (record { region = region; address = to }) }
+
+-- the kernel with the region, its object and the access
+abbrev with_copy : Parts → Parts → WaitTable → Parts
+with_copy k k2 waits =
+    record {
+      alloc = k2.alloc;
+      host = k.host;
+      size = k.size;
+      declared = k.declared;
+      memory = record k.memory { objects = k2.memory.objects };
+      maps = k.maps;
+      chains = k2.chains;
+      laundry = k.laundry;
+      waits = waits;
+      skip = k2.skip;
+    }
+
+none_left : (b : Bool) → (b && false) ≡ false
+none_left true = refl
+none_left false = refl
+
+-- a region that is put into a list of them
+put_first : (n : RegionId) (row : RegionRow) (chains : ChainTable) → PutsRegion n.0 (Some row) chains (record chains { regions = (n, row) ∷ chains.regions })
+put_first n row chains = record { at = at; shadows = refl }
+  where
+    at : (r : ℕ) → region_at (record chains { regions = (n, row) ∷ chains.regions }) r ≡ (if n.0 == r then Some row else region_at chains r)
+    at r = elim (eqb_tells n.0 r) [
+      | inl same ↦ let turned : (r == n.0) ≡ true = let is = same.1 in grind (arith, nat_tests) in rw (same.0, turned) refl
+      | inr apart ↦ let turned : (r == n.0) ≡ false = let is = apart.1 in grind (arith, nat_tests) in rw (apart.0, turned) refl
+    ]
+
+-- a region that counts other entries is the region that was put
+counts_put : (n : ℕ) (row : RegionRow) (count : ℕ) (old mid new : ChainTable) → PutsRegion n (Some row) old mid
+    → PutsRegion n (Some (record row { entries = count })) old new → PutsEntries n count mid new
+counts_put n row count old mid new put now =
+    record {
+      at = λ r. now.at r ∙ by (n == r) r (put.at r);
+      shadows = now.shadows ∙ sym put.shadows;
+    }
+  where
+    own : region_at mid n ≡ Some row
+    own = put.at n ∙ ap (λ b. if b then Some row else region_at old n) (itself n)
+
+    by : (b : Bool) (r : ℕ) → region_at mid r ≡ (if b then Some row else region_at old r)
+        → (if b then Some (record row { entries = count }) else region_at old r) ≡ (if b then with_entries count (region_at mid n) else region_at mid r)
+    by true r is = sym (ap (with_entries count) own)
+    by false r is = sym is
+
+module _ (header : Header) (h : ℕ) (outside : Outside) (task : TaskId) (address bytes to : ℕ) (past : List Event) (k k2 : Parts) (ids : Ids) (waits : WaitTable)
+    (rests : Rests header h k ids past) (may : MayBegin header task.0 address bytes to past k ids)
+    (made : MadeRange (record { 0 = ids.next_region }) (record { 0 = ids.next_object }) (bytes / header.size) 0 k k2)
+    (puts : PutsEntry task.0 (Some (copy_row task address (bytes / header.size) to (record { 0 = ids.next_region }) (record { 0 = ids.next_object })))
+    k.waits.rows waits.rows) where
+  abbrev n : ℕ
+  n = ids.next_region
+
+  abbrev region : RegionId
+  region = record { 0 = ids.next_region }
+
+  abbrev target : ObjectId
+  target = record { 0 = ids.next_object }
+
+  abbrev pages : ℕ
+  pages = bytes / header.size
+
+  abbrev begun : Event
+  begun = event.BegunCopy task address bytes to
+
+  abbrev its : Event
+  its = event.RegionMade (record { 0 = ids.next_region }) (record { 0 = ids.next_object }) (bytes / header.size)
+
+  abbrev front : List Event
+  front = event.BegunCopy task address bytes to ∷ past
+
+  abbrev now : List Event
+  now = event.RegionMade (record { 0 = ids.next_region }) (record { 0 = ids.next_object }) (bytes / header.size) ∷ event.BegunCopy task address bytes to ∷ past
+
+  abbrev row : Waiting
+  row = copy_row task address (bytes / header.size) to (record { 0 = ids.next_region }) (record { 0 = ids.next_object })
+
+  lives : host_of task.0 past ≡ Some h
+  lives = lives_here rests.matches.tasks may.lives
+
+  here : lives_on h task.0 past ≡ true
+  here = rests.matches.tasks.hosts task.0 ∙ ap is_some may.lives
+
+  none : region_at k.chains n ≡ None
+  none = region_free header h k ids past rests
+
+  unknown : object_at k.memory.objects ids.next_object ≡ None
+  unknown = object_free header h k ids past rests
+
+  numbers : (ids.next_region ≡ next_region header past) × (ids.next_object ≡ next_object header past)
+  numbers = (rests.matches.regions.region, rests.matches.regions.object)
+
+  least : named header ≤ n
+  least = (first_temporary header h past k ids rests).region
+
+  -- what the rows fill now
+
+  fills_now : (t r : ℕ) → fills_in r (entry waits.rows t) ≡ (if task.0 == t then n == r else fills_in r (entry k.waits.rows t))
+  fills_now t r = ap (fills_in r) (puts.at t) ∙ by (task.0 == t)
+    where
+      by : (b : Bool) → fills_in r (if b then Some (row) else entry k.waits.rows t) ≡ (if b then n == r else fills_in r (entry k.waits.rows t))
+      by true = refl
+      by false = refl
+
+  fills_own : fills_in n (entry waits.rows task.0) ≡ true
+  fills_own = fills_now task.0 n ∙ (ap (λ b. if b then n == n else fills_in n (entry k.waits.rows task.0)) (itself task.0) ∙ itself n)
+
+  fills_other : (t r : ℕ) → (n ≡ r → ⊥) → fills_in r (entry waits.rows t) ≡ fills_in r (entry k.waits.rows t)
+  fills_other t r apart = fills_now t r ∙ elim (eqb_tells task.0 t) [
+    | inl same ↦
+        let other : (n == r) ≡ false = grind (arith, nat_tests) in
+        ap (λ b. if b then n == r else fills_in r (entry k.waits.rows t)) same.0
+        ∙ (other ∙ sym (ap (fills_in r) (ap (entry k.waits.rows) (sym same.1) ∙ may.absent)))
+    | inr other ↦ ap (λ b. if b then n == r else fills_in r (entry k.waits.rows t)) other.0
+  ]
+
+  filled_now : (r : ℕ) → (n ≡ r → ⊥) → IsFilledIn k.waits.rows r → IsFilledIn waits.rows r
+  filled_now r apart filled = record { task = filled.task; fills = fills_other filled.task r apart ∙ filled.fills }
+
+  filled_was : (r : ℕ) → (n ≡ r → ⊥) → IsFilledIn waits.rows r → IsFilledIn k.waits.rows r
+  filled_was r apart filled = record { task = filled.task; fills = sym (fills_other filled.task r apart) ∙ filled.fills }
+
+  -- whoever fills the new region is the task
+  fills_it : (t : ℕ) → fills_in n (entry waits.rows t) ≡ true → task.0 ≡ t
+  fills_it t is = elim (eqb_tells task.0 t) [
+    | inl same ↦ same.1
+    | inr apart ↦
+        let was : fills_in n (entry k.waits.rows t) ≡ true = sym (fills_now t n ∙ ap (λ b. if b then n == n else fills_in n (entry k.waits.rows t)) apart.0)
+        ∙ is in
+        absurd (let bad : false ≡ true = sym (free_unfilled n rests.used.copies none t) ∙ was in cc)
+  ]
+
+  -- the regions and objects
+
+  own_region : region_at k2.chains n ≡ Some (filled_row target pages)
+  own_region = made.region_row.at n ∙ ap (λ b. if b then Some (filled_row target pages) else region_at k.chains n) (itself n)
+
+  homeless_front : HaveHomes header front
+  homeless_front = homes_next header outside begun past (command.Copy task address bytes task to, may.idle) rests.matches.homeless
+
+  regions_front : HasRegions k.chains k.memory.objects ids (λ r. region_of header r front) (λ o. backing_of header o front) (next_region header front)
+      (next_object header front) (marked_regions header front)
+  regions_front = regions_moved header past front refl refl (λ r. refl) (λ o. refl) rests.matches.regions
+
+  regions_now : HasRegions k2.chains k2.memory.objects (ids_after ids) (λ r. region_of header r now) (λ o. backing_of header o now) (next_region header now)
+      (next_object header now) (marked_regions header now)
+  regions_now =
+      let mid : ChainTable = record k.chains { regions = (region, new_region target pages) ∷ k.chains.regions } in
+      let put = put_first region (new_region target pages) k.chains in
+      let few : next_object header past + marked_regions header front < most_objects = let room = may.marks in let number = rests.matches.regions.object in let
+      marks = regions_front.marks in omega (arith, room, number, marks) in
+      let there = regions_made header front region target (new_region target pages) (new_object pages) pages k.chains mid k.memory.objects k2.memory.objects ids
+      (next_region header past) (next_object header past) (marked_regions header front)
+      numbers.0 numbers.1 few (next_bare header front homeless_front) refl refl put made.object_row regions_front in
+      let counted = same_put n 0 mid k2.chains (counts_put n (new_region target pages) 0 k.chains mid k2.chains put made.region_row) in
+      let marked : marked_regions header now ≡ marked_regions header front = marked_made header front region target pages numbers.0 in
+      subst (λ (z : ℕ). HasRegions k2.chains k2.memory.objects (ids_after ids) (λ r. region_of header r now) (λ o. backing_of header o now)
+      (next_region header past + 1) (next_object header past + 1) z) (sym marked)
+      (regions_recounted mid k2.chains k2.memory.objects (ids_after ids) _ _ _ _ _ counted there)
+
+  entries_now : HasEntries header.size k.maps k2.chains []
+  entries_now =
+      let has = rests.matches.entries in
+      let keeps = keeps_new k.chains k2.chains n (filled_row target pages) none made.region_row in
+      record {
+        inside =
+            λ t. rows_map (IsInside header.size k.chains) (IsInside header.size k2.chains) (λ row is. inside_kept header.size k.chains k2.chains row keeps is)
+            (rows_in t k.maps) (has.inside t);
+        known = tt;
+        most = has.most;
+        few = has.few;
+        counts = λ r found_row found. elim (region_cases n (Some (filled_row target pages)) k.chains k2.chains made.region_row r) [
+          | inl same ↦
+              let count : 0 ≡ found_row.entries = ap (λ z. z.entries) (some_is (filled_row target pages) found_row (sym same.1 ∙ found)) in
+              let nothing : count_by all_tasks r k.maps ≡ 0 = by_none all_tasks r k.maps
+              (λ t. subst (λ (z : ℕ). has_entry z (rows_in t k.maps) ≡ false) same.0
+              (none_leads header.size k.chains n (rows_in t k.maps) none (has.inside t))) in
+              omega (arith, count, nothing)
+          | inr apart ↦ has.counts r found_row (sym apart.1 ∙ found)
+        ];
+      }
+
+  -- the region is in use here, and others as they were
+
+  use_own : in_use header h n now ≡ true
+  use_own = ap (λ b. if b then made_here h front else in_use header h n front) (itself n) ∙ here
+
+  use_other : (r : ℕ) → (n ≡ r → ⊥) → in_use header h r now ≡ in_use header h r past
+  use_other r apart = let other : (r == n) ≡ false = grind (arith, nat_tests) in ap (λ b. if b then made_here h front else in_use header h r front) other
+
+  -- what tasks elsewhere hold stays
+  holds_still : (t r : ℕ) → entries_in t k.maps ≡ None → holds header.size t r now ≡ holds header.size t r past
+  holds_still t r away = elim (eqb_tells task.0 t) [
+    | inl same ↦ absurd (elsewhere k.maps task.0 t (rows_in task.0 k.maps) may.lives away same.1)
+    | inr other ↦
+        ap (λ b. has_entry r (entries_of header.size t past) || fills r (if b then Some (Copying address bytes to) else waiting t past)
+        (if b then Some (record { region = n; object = ids.next_object }) else (if b then None else copy_target t past))) other.0
+  ]
+
+  uses_now : HasUse header k.maps waits.rows (λ r. in_use header h r now) (tasks past) (λ t r. holds header.size t r now) (next_region header past + 1)
+  uses_now =
+      let m = rests.matches in
+      record {
+        used = λ r temporary. elim (eqb_tells n r) [
+          | inl same ↦
+              record {
+                why = λ used. inr (record { task = task.0; fills = subst (λ (z : ℕ). fills_in z (entry waits.rows task.0) ≡ true) same.1 fills_own });
+                is = λ needed. subst (λ (z : ℕ). in_use header h z now ≡ true) same.1 use_own;
+              }
+          | inr apart ↦
+              let was = m.uses.used r temporary in
+              let other = use_other r apart.1 in
+              record {
+                why = λ used. elim (was.why (sym other ∙ used)) [ inl some ↦ inl some | inr filled ↦ inr (filled_now r apart.1 filled) ];
+                is = λ needed. other ∙ was.is (needed_was r apart.1 needed);
+              }
+        ];
+        files =
+            λ r file some. use_other r (λ same. no_file header n least (subst (λ (z : ℕ). is_file header z ≡ true) (sym same) file)) ∙ m.uses.files r file some;
+        among = m.uses.among;
+        apart = λ t r away why. holds_still t r away ∙ m.uses.apart t r away (either r why);
+      }
+    where
+      needed_was : (r : ℕ) → (n ≡ r → ⊥) → IsInUse k.maps waits.rows r → IsInUse k.maps k.waits.rows r
+      needed_was r apart (inl some) = inl some
+      needed_was r apart (inr filled) = inr (filled_was r apart filled)
+
+      either : (r : ℕ) → (in_use header h r now ≡ true) ⊎ (next_region header past + 1 ≤ r) → (in_use header h r past ≡ true) ⊎ (next_region header past ≤ r)
+      either r (inl used) = elim (eqb_tells n r) [
+        | inl same ↦ inr (let is = same.1 in let number = numbers.0 in omega (arith, is, number))
+        | inr apart ↦ inl (sym (use_other r apart.1) ∙ used)
+      ]
+      either r (inr high) = inr (omega (arith, high))
+
+  -- the slow copy as the tables and the history have it
+
+  target_now : copy_target task.0 now ≡ Some (record { region = n; object = ids.next_object })
+  target_now = ap (λ b. if b then Some (record { region = n; object = ids.next_object }) else copy_target task.0 front) (itself task.0)
+
+  next_now : next_page task.0 now ≡ 0
+  next_now = ap (λ b. if b then 0 else next_page task.0 past) (itself task.0)
+
+  alone_now : IsAlone k2.chains n ids.next_object
+  alone_now =
+      record {
+        tops = λ q found_row found top. elim (region_cases n (Some (filled_row target pages)) k.chains k2.chains made.region_row q) [
+          | inl same ↦ sym same.0
+          | inr apart ↦ absurd (not_known (object_at k.memory.objects found_row.top.0) (ap (object_at k.memory.objects) top ∙ unknown)
+              (rests.matches.regions.tops q found_row (sym apart.1 ∙ found)))
+        ];
+        unders = λ s found_row found under.
+            not_known (object_at k.memory.objects found_row.under.0) (ap (object_at k.memory.objects) under ∙ unknown)
+            (rests.matches.regions.unders s found_row (sym (ap (λ f. f s) made.region_row.shadows) ∙ found)).1;
+      }
+    where
+      not_known : (x : Option ObjectRow) → x ≡ None → IsSome x → ⊥
+      not_known None is some = let bad : false ≡ true = some in cc
+      not_known (Some known) is some = let bad : Some known ≡ None = is in cc
+
+  unmade_now : (p : ℕ) → row_at k.memory.resident ids.next_object p ≡ None
+  unmade_now p = by (row_at k.memory.resident ids.next_object p) refl
+    where
+      by : (x : Option PageRow) → row_at k.memory.resident ids.next_object p ≡ x → row_at k.memory.resident ids.next_object p ≡ None
+      by None is = is
+      by (Some page) is =
+          let refers = rests.referred.pages ids.next_object p page is in absurd (let bad : None ≡ Some refers.row = sym unknown ∙ refers.known in cc)
+
+  slow_now : IsSlow header k.maps k2.chains k.memory.resident task.0 address pages target 0 (Some (record { region = region; address = to }))
+      (next_page task.0 now) (copy_target task.0 now)
+  slow_now =
+      record {
+        to = record { region = region; address = to };
+        goes = refl;
+        next = next_now;
+        made = target_now;
+        region = own_region;
+        alone = alone_now;
+        range = may.copied;
+        place = may.place;
+        unmade = λ p low. unmade_now p;
+      }
+
+  -- the others are as they were
+  told_still : (t : ℕ) → (task.0 ≡ t → ⊥) → (next_page t now ≡ next_page t past) × (copy_target t now ≡ copy_target t past)
+  told_still t apart =
+      let other : (task.0 == t) ≡ false = grind (arith, nat_tests) in (
+        ap (λ b. if b then 0 else next_page t past) other,
+        ap (λ b. if b then Some (record { region = n; object = ids.next_object }) else (if b then None else copy_target t past)) other,
+      )
+
+  not_waiting : (t : ℕ) (w : Waiting) → entry k.waits.rows t ≡ Some w → task.0 ≡ t → ⊥
+  not_waiting t w found same = let bad : None ≡ Some w = sym may.absent ∙ (ap (entry k.waits.rows) same ∙ found) in cc
+
+  used_now : AllUsed header k.maps k2.chains k.memory.resident waits.rows (λ t. next_page t now) (λ t. copy_target t now)
+  used_now =
+      let kept = copies_told
+      (copies_kept k.maps k.maps k.chains k2.chains k.memory.resident k.memory.resident rests.used.copies (λ t w found. record { size = refl; entries = refl })
+      (put_filled n (filled_row target pages) k.chains k2.chains none made.region_row
+      (unknown_unfilled k.chains k.memory.objects ids.next_object rests.matches.regions.tops unknown)) (rows_unmade k.chains k.memory.resident))
+      (λ t w found. told_still t (not_waiting t w found)) in
+      record {
+        regions = λ r found_row found. elim (region_cases n (Some (filled_row target pages)) k.chains k2.chains made.region_row r) [
+          | inl same ↦ inr (record { task = task.0; fills = subst (λ (z : ℕ). fills_in z (entry waits.rows task.0) ≡ true) same.0 fills_own })
+          | inr apart ↦ elim (rests.used.regions r found_row (sym apart.1 ∙ found)) [ inl some ↦ inl some | inr filled ↦ inr (filled_now r apart.0 filled) ]
+        ];
+        copies = record {
+          each = λ t w found. puts_cases task.0 t (Some row) k.waits.rows waits.rows w puts found
+              (λ same is. subst (λ (z : ℕ). FitsCopy header k.maps k2.chains k.memory.resident z w.want w.destination (next_page z now) (copy_target z now))
+              same
+              (subst (λ (z : Waiting). FitsCopy header k.maps k2.chains k.memory.resident task.0 z.want z.destination (next_page task.0 now)
+              (copy_target task.0 now)) (some_is row w is) slow_now))
+              (λ apart was. kept.each t w was);
+          apart = λ t u r one two. elim (eqb_tells n r) [
+            | inl same ↦
+                let first = fills_it t (subst (λ (z : ℕ). fills_in z (entry waits.rows t) ≡ true) (sym same.1) one) in
+                let second = fills_it u (subst (λ (z : ℕ). fills_in z (entry waits.rows u) ≡ true) (sym same.1) two) in
+                sym first ∙ second
+            | inr other ↦ kept.apart t u r (sym (fills_other t r other.1) ∙ one) (sym (fills_other u r other.1) ∙ two)
+          ];
+        };
+      }
+
+  -- the new region is on the host, and so is its object
+
+  home_now : home_of n now ≡ Some h
+  home_now =
+      let none : home_of n past ≡ None = rests.matches.homeless.regions n (let number = numbers.0 in omega (arith, number)) in
+      ap (λ b. if b then first_of (home_of n past) (host_of task.0 past) else home_of n past) (itself n)
+      ∙ (ap (λ z. first_of z (host_of task.0 past)) none ∙ lives)
+
+  object_now : object_home ids.next_object now ≡ Some h
+  object_now =
+      let none = rests.matches.homeless.objects ids.next_object (let number = numbers.1 in omega (arith, number)) in
+      ap (λ z. home_at z now) (region_made region target pages front none) ∙ home_now
+
+  -- the access waits, and is to be run
+
+  waits_now : HasWaiters k.maps k2.chains k.memory.resident k2.memory.objects waits.rows (is_woken woken.Nobody) (λ t. waiting t now) (StaysAway header h now)
+      (IsUnmet header h now)
+  waits_now =
+      let sized = rests.matches.tasks.sized in
+      let before = waits_known k.maps k2.chains k.memory.resident k.memory.objects k2.memory.objects k.waits.rows (is_woken woken.Nobody) (λ t. waiting t past)
+      (waits_kept k.maps k.maps k.chains k2.chains k.memory.resident k.memory.objects k.waits.rows (is_woken woken.Nobody) (λ t. waiting t past) rests.waits
+      (λ t w found. record { size = refl; entries = refl })
+      (keeps_made k.chains k2.chains n (filled_row target pages) none made.region_row) rests.waits.is)
+      (knows_made k.memory.objects k2.memory.objects ids.next_object (new_object pages) unknown made.object_row) in
+      let at : address + 0 * k.maps.size ≡ address = omega arith in
+      let all : pages * k.maps.size ≡ bytes = ap (λ z. pages * z) sized ∙ may.whole in
+      waits_added k.maps k2.chains k.memory.resident k2.memory.objects k.waits.rows waits.rows row (λ t. waiting t past) (λ t. waiting t now) before puts
+      may.absent refl
+      (subst (λ (z : ℕ). IsAllowed k.maps task.0 z need.Load) (sym at) may.allowed)
+      (subst (λ (z : ℕ). address % z ≡ 0) (sym sized) may.even, may.some, (let end = may.below in omega (arith, all, end)))
+      (λ t. ap (λ (z : ℕ). if task.0 == t then Some (Copying address z to) else waiting t past) (sym all))
+
+  order_now : waits.rows ≡ k.waits.rows ++ row ∷ [] → IsLined past → BeganInOrder (λ t. begun_at t now) 0 waits.rows
+  order_now pushed lined =
+      subst (λ (z : List Waiting). BeganInOrder (λ t. begun_at t now) 0 z) (sym pushed)
+      (begun_order (λ t. begun_at t past) (λ t. begun_at t now) row (length past) 0 k.waits.rows may.absent (λ t. refl) (λ t. lined_below t past lined)
+      (omega arith) rests.order)
+
+  -- the kernel behind both events
+
+  matches_now : Matches header h (with_copy k k2 waits) (ids_after ids) [] now
+  matches_now =
+      let m = rests.matches in
+      let temporary = first_temporary header h past k ids rests in
+      record {
+        ranged = m.ranged;
+        known = m.known;
+        size = m.size;
+        host = m.host;
+        declared = m.declared;
+        fits =
+            record {
+              parts = fit_range k.memory k2.memory.objects k.chains ids.next_object (new_object pages) m.fits.parts rests.referred unknown
+                  made.object_row;
+              plain = m.fits.plain;
+              buffers = m.fits.buffers;
+            };
+        tasks = m.tasks;
+        regions = regions_now;
+        kinds =
+            kinds_region header n (filled_row target pages) k2.memory.objects k.chains k2.chains made.region_row (λ is. temporary.object)
+            (kinds_put header ids.next_object (new_object pages) k.memory.objects k2.memory.objects k.chains made.object_row made.marks
+            (kind_new header ids.next_object (new_object pages) pages temporary.object refl) m.kinds);
+        homes =
+            homes_range header h k.chains k2.chains n (filled_row target pages) (λ r. home_of r past) (λ r. home_of r now) m.homes
+            (λ r is. homes_stay r h (its ∷ begun ∷ []) past is) home_now made.region_row;
+        files = λ o file.
+            ap (is_on h) (home_made o region target pages front (λ same. no_file header n least (subst (λ (z : ℕ). is_file header z ≡ true) (sym same) file)))
+            ∙ files_temporary header h ids.next_object (Some (new_object pages)) k.memory.objects k2.memory.objects (λ z. home_of z past) temporary.object
+            made.object_row m.files o file;
+        entries = entries_now;
+        shared = m.shared;
+        pages =
+            pages_marked k.memory.frames k.memory.resident k.memory.objects k2.memory.objects
+            (λ o p. known_local header o p (local header.size h (place_of o p) past)) m.pages made.marks;
+        uses = uses_now;
+        controls =
+            controls_made k.memory.objects k2.memory.objects (λ o. last_control h o past) (λ o. live_control h o past) (λ o. is_ready h o past) ids.next_object
+            pages m.controls unknown made.object_row
+            (λ o is. objects_stay o h (its ∷ begun ∷ []) past is) object_now;
+        homeless = homes_next header outside its front (command.Copy task address bytes task to, numbers) homeless_front;
+        settled = record { none_owed = refl; shut = λ r. none_left (r == n) };
+        replied = replied_behind tt (replied_behind tt m.replied);
+        laundry = m.laundry;
+        frames = m.frames;
+      }
+
+  pub works_now : waits.rows ≡ k.waits.rows ++ row ∷ [] → IsLined past → Works header h (with_copy k k2 waits) (ids_after ids) woken.Nobody now
+  works_now pushed lined =
+      record {
+        matches = matches_now;
+        used = used_now;
+        referred =
+            referred_put ids.next_object (new_object pages) n (Some (filled_row target pages)) k.chains k2.chains k.memory.objects k2.memory.objects
+            k.memory.resident made.region_row made.object_row (omega arith) (λ is. absurd (let bad : false ≡ true = sym (ap is_live_in unknown) ∙ is in cc))
+            rests.referred;
+        waits = waits_now;
+        order = order_now pushed lined;
+      }
+
+  -- both events are the host's, and the head of their command
+
+  heads_now : Heads header h outside (command.Copy task address bytes task to) past (its ∷ begun ∷ [])
+  heads_now =
+      let fine = suffices header h k.memory.frames past rests.matches.frames in
+      heads_more header h outside (command.Copy task address bytes task to) past (begun ∷ []) its
+      (heads_one header h outside (command.Copy task address bytes task to) past begun
+      (record {
+        settled = rests.matches.settled;
+        cause = may.idle;
+        own_bytes = tt;
+        frames = fine;
+        inner = tt;
+        said = tt;
+        own = own_task h task.0 past here;
+        creates = tt;
+      }))
+      (record {
+        settled = record { none_owed = refl; shut = λ r. refl };
+        cause = numbers;
+        own_bytes = tt;
+        frames = fine;
+        inner = tt;
+        said = tt;
+        own = own_task h task.0 past here;
+        creates = tt;
+      })
+
+  head_now : head header past (command.Copy task address bytes task to) ≡ Some (begun ∷ its ∷ [])
+  head_now =
+      let test : nat_lt may.row.region.0 (named header) ≡ true = let less = may.declared in grind (arith, nat_tests) in
+      let there : entry_at address (entries_of header.size task.0 past) ≡ Some may.row = ap (entry_at address) (rows_here rests.matches.tasks may.lives)
+      ∙ may.found in
+      ap (copy_head (named header) header.size (next_region header past) (next_object header past) task address bytes task to) there
+      ∙ (ap (λ b. Some (if b then begun ∷ event.RegionMade (record { 0 = next_region header past }) (record { 0 = next_object header past }) pages ∷ [] else
+      event.RegionCopied (record { 0 = next_region header past }) may.row.region (page_at header.size address may.row) pages
+      ∷ event.Entered task to bytes (record { 0 = next_region header past }) 0 (record { read = true; write = true }) Copy ∷ [])) test
+      ∙ rw (← numbers.0, ← numbers.1) refl)
+
+  pub grows_now : Grows header h outside (command.Copy task address bytes task to) past (its ∷ begun ∷ [])
+  grows_now = grows_head header h outside (command.Copy task address bytes task to) past (its ∷ begun ∷ []) (begun ∷ its ∷ []) head_now refl heads_now
+
+-- where a slow copy has begun, its pages are to be copied, and its command asks no more
+pub record HasBegun (header : Header) (h : ℕ) (outside : Outside) (doing : Command) (past : List Event) (k : Parts) (ids : Ids) (log : List Event) : Type 0
+  where
+    pub works : Works header h k ids woken.Nobody (log ++ past)
+    pub grows : Grows header h outside doing past log
+    pub done : (events : List Event) → IsDoneInTurn header doing events past
+
+-- what the code did is that
+pub record BeginsCopy (doing : Command) (task : TaskId) (address bytes to pages : ℕ) (k k2 : Parts) (ids : Ids) (before mid log : List Event)
+    (reserved waits : WaitTable) : Type 0 where
+  pub is : doing ≡ command.Copy task address bytes task to
+  pub pages_are : pages ≡ bytes / k.size
+  pub made : MadeRange (record { 0 = ids.next_region }) (record { 0 = ids.next_object }) pages 0 (record k { waits = reserved }) k2
+  pub rows : reserved.rows ≡ k.waits.rows
+  pub told : mid ≡ event.BegunCopy task address bytes to ∷ before
+  pub region_told : log ≡ event.RegionMade (record { 0 = ids.next_region }) (record { 0 = ids.next_object }) pages ∷ mid
+  pub puts : PutsEntry task.0 (Some (copy_row task address pages to (record { 0 = ids.next_region }) (record { 0 = ids.next_object }))) k2.waits.rows waits.rows
+  pub pushed : waits.rows ≡ k2.waits.rows ++ copy_row task address pages to (record { 0 = ids.next_region }) (record { 0 = ids.next_object }) ∷ []
+
+pub has_begun : {doing : Command} {task : TaskId} {address bytes to pages : ℕ} {k k2 : Parts} {ids : Ids} {before mid log : List Event}
+    {reserved waits : WaitTable} (header : Header) (h : ℕ) (outside : Outside) (past : List Event)
+    → Starts header h doing past k ids before → ((row : Entry) → entry_at address (rows_in task.0 k.maps) ≡ Some row → row.region.0 < length k.declared.items)
+    → InOrder 0 (2 ^ 32) (rows_in task.0 k.maps)
+    → BeginsCopy doing task address bytes to pages k k2 ids before mid log reserved waits
+    → HasBegun header h outside doing past (record k2 { waits = waits }) (ids_after ids) log
+has_begun {doing = doing} {task = task} {address = address} {bytes = bytes} {to = to} {pages = pages} {k = k} {k2 = k2} {ids = ids} {before = before}
+    {mid = mid} {log = log} {reserved = reserved} {waits = waits} header h outside past starts declared order b =
+    let s : Starts header h (command.Copy task address bytes task to) past k ids before = subst (λ (z : Command). Starts header h z past k ids before) b.is
+    starts in
+    let may = may_begin header h task address bytes to past k ids before s declared order in
+    let region : RegionId = record { 0 = ids.next_region } in
+    let target : ObjectId = record { 0 = ids.next_object } in
+    let whole : pages ≡ bytes / header.size = b.pages_are ∙ ap (λ z. bytes / z) s.rests.matches.size in
+    let k3 : Parts = record k2 { waits = k.waits } in
+    let made : MadeRange region target (bytes / header.size) 0 k k3 =
+    subst (λ (z : ℕ). MadeRange region target z 0 k k3) whole
+    (record {
+      host = b.made.host;
+      size = b.made.size;
+      declared = b.made.declared;
+      memory = b.made.memory;
+      maps = b.made.maps;
+      laundry = b.made.laundry;
+      waits = refl;
+      region_row = b.made.region_row;
+      object_row = b.made.object_row;
+      marks = b.made.marks;
+    }) in
+    let rows : k2.waits.rows ≡ k.waits.rows = ap (λ z. z.rows) b.made.waits ∙ b.rows in
+    let puts : PutsEntry task.0 (Some (copy_row task address (bytes / header.size) to region target)) k.waits.rows waits.rows =
+    subst (λ (z : ℕ). PutsEntry task.0 (Some (copy_row task address z to region target)) k.waits.rows waits.rows) whole
+    (subst (λ (z : List Waiting). PutsEntry task.0 (Some (copy_row task address pages to region target)) z waits.rows) rows b.puts) in
+    let pushed : waits.rows ≡ k.waits.rows ++ copy_row task address (bytes / header.size) to region target ∷ [] =
+    b.pushed ∙ (ap (λ z. z ++ copy_row task address pages to region target ∷ []) rows
+    ∙ ap (λ (z : ℕ). k.waits.rows ++ copy_row task address z to region target ∷ []) whole) in
+    let events : List Event = event.RegionMade region target (bytes / header.size) ∷ event.BegunCopy task address bytes to ∷ [] in
+    let told : log ≡ events =
+    b.region_told ∙ (ap (λ (z : ℕ). event.RegionMade region target z ∷ mid) whole
+    ∙ ap (λ (z : List Event). event.RegionMade region target (bytes / header.size) ∷ z)
+    (b.told ∙ ap (λ (z : List Event). event.BegunCopy task address bytes to ∷ z) s.nothing)) in
+    let same : record k2 { waits = waits } ≡ with_copy k k3 waits =
+    λ i. record {
+      alloc = k2.alloc;
+      host = b.made.host i;
+      size = b.made.size i;
+      declared = b.made.declared i;
+      memory = b.made.memory i;
+      maps = b.made.maps i;
+      chains = k2.chains;
+      laundry = b.made.laundry i;
+      waits = waits;
+      skip = k2.skip;
+    } in
+    record {
+      works = subst (λ (z : List Event). Works header h (record k2 { waits = waits }) (ids_after ids) woken.Nobody (z ++ past)) (sym told)
+          (subst (λ (z : Parts). Works header h z (ids_after ids) woken.Nobody (events ++ past)) (sym same)
+          (works_now header h outside task address bytes to past k k3 ids waits s.rests may made puts pushed s.begins));
+      grows = subst (λ (z : Command). Grows header h outside z past log) (sym b.is)
+          (subst (λ (z : List Event). Grows header h outside (command.Copy task address bytes task to) past z) (sym told)
+          (grows_now header h outside task address bytes to past k k3 ids waits s.rests may made puts));
+      done = λ events. subst (λ (z : Command). IsDoneInTurn header z events past) (sym b.is) tt;
+    }
+
+pub copy_ran : {header : Header} {h : ℕ} {outside : Outside} {doing : Command} {past log after : List Event} {k new : Parts} {ids ids2 : Ids}
+    → HasBegun header h outside doing past k ids log → Rests header h new ids2 (after ++ past) → LegalEvents header h outside doing past log after
+    → Ran header h outside doing past new ids2 after
+copy_ran {header = header} {h = h} {outside = outside} {doing = doing} {past = past} {log = log} {after = after} begun rests goes =
+    record { rests = rests; grows = grows_goes header h outside doing past log after begun.grows goes; done = begun.done after }
+
+-- its task has no row yet, and there are regions left
+pub copy_absent : {doing : Command} {task : TaskId} {address bytes to : ℕ} {k : Parts} {ids : Ids} {before : List Event} (header : Header) (h : ℕ)
+    (past : List Event) → doing ≡ command.Copy task address bytes task to → Starts header h doing past k ids before
+    → ((row : Entry) → entry_at address (rows_in task.0 k.maps) ≡ Some row → row.region.0 < length k.declared.items)
+    → InOrder 0 (2 ^ 32) (rows_in task.0 k.maps) → (entry k.waits.rows task.0 ≡ None) × (ids.next_region < most_regions)
+copy_absent {task = task} {address = address} {bytes = bytes} {to = to} {k = k} {ids = ids} {before = before} header h past is starts declared order =
+    let may = may_begin header h task address bytes to past k ids before (subst (λ (z : Command). Starts header h z past k ids before) is starts) declared
+    order in
+    (may.absent, may.regions)
+
+-- nobody has run yet
+pub copy_quiet : {old new : List TaskId} {before mid after : List Event} {task : TaskId} {address bytes to count : ℕ} {made : RegionId} {over : ObjectId}
+    → new ≡ old → mid ≡ event.BegunCopy task address bytes to ∷ before → after ≡ event.RegionMade made over count ∷ mid
+    → QueueIsStill old new before after
+copy_quiet {count = count} {made = made} {over = over} queue told region_told =
+    record {
+      queue = queue;
+      none = λ all. subst (EachOf RunsNone) (sym (region_told ∙ ap (λ (z : List Event). event.RegionMade made over count ∷ z) told))
+          (tt, (tt, all));
+    }
+
+-- a copy of a declared object's region is to the task itself
+
+pub copy_declared : (address : ℕ) (place : Place) (k : Parts) (rows : List Entry)
+    → ((entry : Entry) → entry_at address rows ≡ Some entry → place ≡ place_at k.maps.size address entry) → place.region.0 < length k.declared.items
+    → (own : Entry) → entry_at address rows ≡ Some own → own.region.0 < length k.declared.items
+copy_declared address place k rows is less own found = let same = ap (λ z. z.region.0) (is own found) in omega (arith, same, less)
+
+pub copy_target_own : {header : Header} {h : ℕ} {task : TaskId} {address bytes : ℕ} {target : TaskId} {to : ℕ} {past : List Event} {k : Parts} {ids : Ids}
+    {before : List Event} (place : Place) → Starts header h (command.Copy task address bytes target to) past k ids before
+    → ((entry : Entry) → entry_at address (rows_in task.0 k.maps) ≡ Some entry → place ≡ place_at k.maps.size address entry)
+    → place.region.0 < length k.declared.items → target ≡ task
+copy_target_own {header = header} {h = h} {task = task} {address = address} {bytes = bytes} {target = target} {to = to} {past = past} {k = k} {ids = ids}
+    {before = before} place s is less =
+    let p = may_place header h task address bytes target to past k ids before s in
+    let low = copy_declared address place k (rows_in task.0 k.maps) is less p.entry p.found in
+    let all : length k.declared.items ≡ named header = ap length s.rests.matches.declared in
+    let test : nat_lt p.entry.region.0 (named header) ≡ true = let below : p.entry.region.0 < named header = omega (arith, low, all) in grind
+    (arith, nat_tests) in
+    let there : entry_at address (entries_of header.size task.0 past) ≡ Some p.entry = ap (entry_at address) (rows_here s.rests.matches.tasks p.lives)
+    ∙ p.found in
+    let own = (to_itself header past task address bytes target to p.entry s.accepted there test).1 in
+    let same : target.0 ≡ task.0 = grind (arith, nat_tests) in
+    λ i. record { 0 = same i }
+
+-- nor where a symmetric copy is made
+pub entered_quiet : {task : TaskId} {source : RegionId} {offset : ℕ} {range : Entry} {old new : Parts} {ids ids2 : Ids} {before after : List Event}
+    → EntersCopy task source offset range old new ids ids2 before after → QueueIsStill old.waits.queue new.waits.queue before after
+entered_quiet entered = record { queue = ap (λ z. z.queue) entered.waits; none = λ all. subst (EachOf RunsNone) (sym entered.told) (tt, (tt, all)) }

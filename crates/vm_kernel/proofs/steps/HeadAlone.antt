@@ -1,0 +1,72 @@
+-- A command whose events are those of its head.
+use Rattle.vm_kernel.proofs.Common.{AllInner, AllInTurn, Bool, CausedInTurn, Code, Command, CreatesHere, EachIn, EachOf, Event, Grows, Header, Ids}
+use Rattle.vm_kernel.proofs.Common.{IsDoneInTurn, IsInner, IsMine, IsOnlyOfHost, IsSettled, KernelSays, List, MomentsIn, None, Option, Outside, OwnBytes, Parts}
+use Rattle.vm_kernel.proofs.Common.{Ran, Rests, Some, Suffice, [], code_where, false, head, refl, reverse, true, ℕ, ◌++◌, ◌∷◌, ◌≡◌}
+use Rattle.vm_kernel.proofs.steps.EventsGrow.{licensed}
+use Rattle.vm_kernel.proofs.abroad.OwnEvents.{mine_of}
+
+-- of a list of tests that finds nothing, each found nothing
+pub passed : (b : Bool) (why : Code) (later : Option Code) → code_where b why later ≡ None → (b ≡ false) × (later ≡ None)
+passed true why later none = absurd (let bad : Some why ≡ None = none in cc)
+passed false why later none = (refl, none)
+
+-- what holds of each event of a command's head
+pub record Heads (header : Header) (h : ℕ) (outside : Outside) (doing : Command) (past events : List Event) : Type 0 where
+  pub licensed : AllInTurn header outside doing events past
+  pub own_bytes : EachIn (OwnBytes header) events past
+  pub frames : MomentsIn (Suffice header h) events past
+  pub inner : AllInner events
+  pub said : EachOf (KernelSays h header.size) events
+  pub mine : EachIn (IsMine header h) events past
+
+pub grows_head : (header : Header) (h : ℕ) (outside : Outside) (doing : Command) (past events first : List Event) → head header past doing ≡ Some first
+    → events ≡ reverse first → Heads header h outside doing past events → Grows header h outside doing past events
+grows_head header h outside doing past events first is same all =
+    record {
+      first = first;
+      more = [];
+      head = is;
+      is = same;
+      follows = tt;
+      licensed = all.licensed;
+      own_bytes = all.own_bytes;
+      frames = all.frames;
+      inner = all.inner;
+      said = all.said;
+      mine = all.mine;
+    }
+
+-- what holds of a command's one event
+pub record IsOne (header : Header) (h : ℕ) (outside : Outside) (doing : Command) (past : List Event) (e : Event) : Type 0 where
+  pub settled : IsSettled past
+  pub cause : CausedInTurn header outside doing e past
+  pub own_bytes : OwnBytes header e past
+  pub frames : Suffice header h (e ∷ past)
+  pub inner : IsInner e
+  pub said : KernelSays h header.size e
+  pub own : IsOnlyOfHost header h e past
+  pub creates : CreatesHere header h e past
+
+pub heads_one : (header : Header) (h : ℕ) (outside : Outside) (doing : Command) (past : List Event) (e : Event) → IsOne header h outside doing past e
+    → Heads header h outside doing past (e ∷ [])
+heads_one header h outside doing past e is =
+    record {
+      licensed = (licensed header outside doing e past is.settled.none_owed is.cause, tt);
+      own_bytes = (is.own_bytes, tt);
+      frames = (is.frames, tt);
+      inner = (is.inner, tt);
+      said = (is.said, tt);
+      mine = (mine_of header h e past is.settled.shut is.own is.creates, tt);
+    }
+
+pub grows_one : (header : Header) (h : ℕ) (outside : Outside) (doing : Command) (past : List Event) (e : Event) → head header past doing ≡ Some (e ∷ [])
+    → IsOne header h outside doing past e → Grows header h outside doing past (e ∷ [])
+grows_one header h outside doing past e first is =
+    grows_head header h outside doing past (e ∷ []) (e ∷ []) first refl (heads_one header h outside doing past e is)
+
+pub ran_head : (header : Header) (h : ℕ) (outside : Outside) (doing : Command) (past : List Event) (k : Parts) (ids : Ids) (events first : List Event)
+    → head header past doing ≡ Some first → events ≡ reverse first
+    → Heads header h outside doing past events → IsDoneInTurn header doing events past → Rests header h k ids (events ++ past)
+    → Ran header h outside doing past k ids events
+ran_head header h outside doing past k ids events first is same all done rests =
+    record { rests = rests; grows = grows_head header h outside doing past events first is same all; done = done }

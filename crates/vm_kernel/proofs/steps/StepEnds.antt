@@ -1,0 +1,217 @@
+-- At the end of a step nobody waits in vain, and nothing is left behind.
+use Rattle.vm_kernel.proofs.Common.{Access, Bool, Event, FrameTable, HasQueue, HasRegions, HasWaits, Header, HostIsFull, Ids, IsPagerTold, IsSwept, List}
+use Rattle.vm_kernel.proofs.Common.{Matches, None, NoneInVain, ObjectRow, On, Option, PageRow, Parts, PromptAt, QueueIsServed, Reach, Reason, RegionRow, Rests}
+use Rattle.vm_kernel.proofs.Common.{Some, Waiting, Waits, WaitsForPager, Want, [], absent_at, access_in, all_tasks, ap, arith, backing_of, copies_to, count_by}
+use Rattle.vm_kernel.proofs.Common.{entries_in, entry, false, has_entry, if◌then◌else◌, in_use, inl, inr, is_again, is_frame, is_on, is_store, live_in}
+use Rattle.vm_kernel.proofs.Common.{local_of_row, marked_regions, named, nat_lt, nat_tests, next_object, next_region, none_again, none_queued, object_at}
+use Rattle.vm_kernel.proofs.Common.{page_on, refl, region_at, region_of, row_at, rows_in, subst, sym, true, waiting, waiting_in, ℕ, ◌<◌, ◌≤◌, ◌||◌, ◌∙◌, ◌≡◌}
+use Rattle.vm_kernel.proofs.Common.{◌⊎◌}
+use Rattle.vm_kernel.proofs.space.RegionsFilled.{filled_temporary, row_use}
+use Rattle.std.proofs.Common.{is_some}
+use Rattle.vm_legal.specs.Licences.{IsUnheld}
+use Rattle.vm_legal.specs.Walks.{Reaches}
+use Rattle.vm_kernel.proofs.abroad.OthersEvents.{with_entry}
+use Rattle.vm_kernel.proofs.space.EntriesCounted.{by_some}
+use Rattle.vm_kernel.proofs.space.ObjectEnds.{declared_chain}
+use Rattle.vm_state.proofs.Declared.{kind_cases, over_declared}
+use Rattle.vm_state.proofs.Reaching.{reach_up}
+use Rattle.vm_state.proofs.Referring.{OfRegion, OfShadow, referrer_of}
+use Rattle.vm_state.proofs.Locks.{awaits_word}
+use Rattle.vm_state.proofs.Shown.{awaits_ready}
+use Rattle.vm_terminate.specs.Finishes.{IsReferred}
+use Rattle.vm_supply.specs.declared.woken.Woken.TheVariants as woken
+use Rattle.vm_waits.specs.declared.waiting.On.TheVariants as on
+use Rattle.vm_kernel.proofs.abroad.OwnHost.{own_host}
+use Rattle.vm_kernel.proofs.memory.WalksShown.{shown_at, waiting_place}
+use Rattle.vm_kernel.proofs.lists.PagesSpared.{here_waits}
+use Rattle.vm_legal.specs.Prompt.{EachLeads}
+use Rattle.vm_state.proofs.Filling.{AgreesNext, copies_next}
+use Rattle.vm_model.specs.Waiting.{next_page}
+
+-- what is on the host has a row
+here_row : (fs : FrameTable) (x : Option PageRow) (lacked : Bool) → (local_of_row fs x lacked).here ≡ true → (row : PageRow) × (x ≡ Some row)
+here_row fs None lacked bad = absurd (let no : false ≡ true = bad in cc)
+here_row fs (Some row) lacked is = (row, refl)
+
+-- the row of an access that waits
+pub record HasRow (size : ℕ) (rows : List Waiting) (task : ℕ) (access : Access) : Type 0 where
+  pub row : Waiting
+  pub found : entry rows task ≡ Some row
+  pub is : access ≡ access_in size (copies_to row.destination) row.want
+
+pub has_row : (header : Header) (h : ℕ) (k : Parts) (past : List Event) (task : ℕ) (access : Access) → HasWaits header h k woken.Nobody past
+    → is_some (entries_in task k.maps) ≡ true → waiting task past ≡ Some access → HasRow k.maps.size k.waits.rows task access
+has_row header h k past task access has here waits = go (entry k.waits.rows task) refl
+  where
+    go : (x : Option Waiting) → entry k.waits.rows task ≡ x → HasRow k.maps.size k.waits.rows task access
+    go None none = absurd (let bad : None ≡ Some access = sym (has.is task here ∙ ap (waiting_in k.maps.size) none) ∙ waits in cc)
+    go (Some row) found =
+        let same : Some access ≡ Some (access_in k.maps.size (copies_to row.destination) row.want) = sym waits
+        ∙ (has.is task here ∙ ap (waiting_in k.maps.size) found) in
+        record { row = row; found = found; is = cc }
+
+-- a task that waits on the host is in its maps
+pub at_home : (header : Header) (h : ℕ) (k : Parts) (ids : Ids) (past : List Event) (task : ℕ) (access : Access) → Matches header h k ids [] past
+    → (waits : Waits header task access past) → waits.at.host ≡ h → is_some (entries_in task k.maps) ≡ true
+at_home header h k ids past task access m waits home = sym (m.tasks.hosts task) ∙ (ap (is_on h) (waits.at.lives ∙ ap Some home) ∙ own_host h)
+
+-- whoever waits on the host has a page left, and an entry that leads to it
+each_leads : (header : Header) (h : ℕ) (k : Parts) (ids : Ids) (past : List Event) → Rests header h k ids past → EachLeads header h past
+each_leads header h k ids past rests task access waits lives =
+    let row = has_row header h k past task access rests.waits (sym (rests.matches.tasks.hosts task) ∙ lives) waits in
+    subst (λ (z : Access). Waits header task z past) (sym row.is) (here_waits header h k ids past task row.row rests.matches rests.waits rests.used.copies
+    row.found)
+
+-- what an access waits for that isn't to be run again
+waits_for : (header : Header) (h : ℕ) (k : Parts) (ids : Ids) (past : List Event) (task to : ℕ) (what : Want) (why : On) → AgreesNext what (next_page task past)
+    → Matches header h k ids [] past → Reason k.maps k.chains k.memory.resident k.memory.objects task what why → is_again why ≡ false
+    → (is_frame why ≡ true → HostIsFull header h past)
+    → (waits : Waits header task (access_in k.maps.size to what) past) → waits.at.host ≡ h → WaitsForPager header h task (access_in k.maps.size to what) past
+    ⊎ HostIsFull header h past
+waits_for header h k ids past task to what on.Again agrees m reason fresh full waits home = absurd (let bad : true ≡ false = fresh in cc)
+waits_for header h k ids past task to what (on.Ready object) agrees m reason fresh full waits home =
+    let told : IsPagerTold k.memory.objects reason.0.object.0 = subst (λ z. IsPagerTold k.memory.objects z.0) (sym reason.2) reason.3 in
+    inl (record {
+      waits = waits;
+      on_host = home;
+      object = reason.0.object.0;
+      page = reason.0.page.0;
+      place = waiting_place m to agrees reason.1 (at_home header h k ids past task (access_in k.maps.size to what) m waits home) waits;
+      what = awaits_ready (shown_at m) reason.0.object.0 told.row told.found told.sent (is_store (access_in k.maps.size to what)) reason.0.page.0;
+    })
+waits_for header h k ids past task to what (on.Page key) agrees m reason fresh full waits home =
+    inl (record {
+      waits = waits;
+      on_host = home;
+      object = key.object.0;
+      page = key.page.0;
+      place = waiting_place m to agrees reason.0 (at_home header h k ids past task (access_in k.maps.size to what) m waits home) waits;
+      what = awaits_word (shown_at m) k.maps.size to key.object.0 key.page.0 what reason.1;
+    })
+waits_for header h k ids past task to what on.Frame agrees m reason fresh full waits home = inr (full refl)
+
+-- an access that wants a frame waits while the queue can't go on
+queue_full : (header : Header) (h : ℕ) (k : Parts) (past : List Event) (task : ℕ) (w : Waiting) → QueueIsServed header h k past
+    → entry k.waits.rows task ≡ Some w → is_frame w.on ≡ true → HostIsFull header h past
+queue_full header h k past task w (inl empty) found queues =
+    absurd (let none = none_queued k.waits.rows task w empty found in let bad : true ≡ false = sym queues ∙ none in cc)
+queue_full header h k past task w (inr full) found queues = full
+
+none_in_vain : (header : Header) (h : ℕ) (k : Parts) (ids : Ids) (past : List Event) → Rests header h k ids past → QueueIsServed header h k past
+    → NoneInVain header h past
+none_in_vain header h k ids past rests served task access waits home =
+    let row = has_row header h k past task access rests.waits (at_home header h k ids past task access rests.matches waits home) waits.waits in
+    let w = row.row in
+    subst (λ (z : Access). (it : Waits header task z past) → it.at.host ≡ h → WaitsForPager header h task z past ⊎ HostIsFull header h past) (sym row.is)
+    (waits_for header h k ids past task (copies_to w.destination) w.want w.on (copies_next rests.used.copies task w row.found) rests.matches
+    (rests.waits.reasons task w row.found refl) (none_again k.waits.rows task w rests.idle row.found) (queue_full header h k past task w served row.found))
+    waits home
+
+-- the temporary regions that a kernel knows are in use
+regions_used : (header : Header) (h : ℕ) (k : Parts) (ids : Ids) (past : List Event) → Rests header h k ids past → (r : ℕ) (row : RegionRow) → named header ≤ r
+    → region_at k.chains r ≡ Some row → in_use header h r past ≡ true
+regions_used header h k ids past rests r row temporary found =
+    let m = rests.matches in
+    (m.uses.used r temporary).is (row_use r row m.entries found rests.used)
+
+-- a temporary object to which something refers is in the chain of one of them
+reaches : (header : Header) (h : ℕ) (k : Parts) (ids : Ids) (past : List Event) (object : ℕ) → Rests header h k ids past → named header ≤ object
+    → IsReferred k.memory.objects object → Reach header h object past
+reaches header h k ids past object rests temporary referred = elim (kind_cases header reach.0) [
+  | inl declared ↦ let same =
+      declared_chain header past reach.0 reach.1 object rests.matches.homeless declared reach.3 in absurd (omega (arith, same, declared, temporary))
+  | inr least ↦ (
+    reach.0,
+    reach.1,
+    sym (of_declared reach.0 false (let test : nat_lt reach.0 (named header) ≡ false = grind (arith, nat_tests) in test))
+        ∙ reach.2,
+    reach.3,
+  )
+]
+  where
+    has : HasRegions k.chains k.memory.objects ids (λ r. region_of header r past) (λ o. backing_of header o past) (next_region header past)
+        (next_object header past) (marked_regions header past)
+    has = rests.matches.regions
+
+    -- a declared region counts as used here
+    used : ℕ → Bool
+    used r = nat_lt r (named header) || in_use header h r past
+
+    of_declared : (r : ℕ) (b : Bool) → nat_lt r (named header) ≡ b → used r ≡ (b || in_use header h r past)
+    of_declared r b test = ap (λ z. z || in_use header h r past) test
+
+    all : (r : ℕ) (row : RegionRow) → region_at k.chains r ≡ Some row → used r ≡ true
+    all r row found = elim (kind_cases header r) [
+      | inl declared ↦ of_declared r true (let test : nat_lt r (named header) ≡ true = grind (arith, nat_tests) in test)
+      | inr least ↦ of_declared r false (let test : nat_lt r (named header) ≡ false = grind (arith, nat_tests) in test)
+          ∙ regions_used header h k ids past rests r row least found
+    ]
+
+    reach : Reaches used (λ r. region_of header r past) (λ o. backing_of header o past) object
+    reach = reach_up has has.older rests.referred.shadows used all object referred
+
+-- a declared object to which something refers is held: a task here has an entry on its region
+held : (header : Header) (h : ℕ) (k : Parts) (ids : Ids) (past : List Event) (object : ℕ) → Rests header h k ids past → object < named header
+    → IsReferred k.memory.objects object → IsUnheld header h object past → ⊥
+held header h k ids past object rests less referred unheld = elim (referrer_of m.regions object referred) [
+  | OfRegion r row found top ↦
+      let own : r ≡ object = over_declared m.regions m.kinds m.homeless r row found (omega (arith, top, less)) ∙ top in
+      let some : 0 < count_by all_tasks r k.maps = elim (row_use r row m.entries found rests.used) [
+        | inl count ↦ count
+        | inr filled ↦ let high = filled_temporary r rests.used.copies m.homeless filled in absurd (omega (arith, high, own, less))
+      ] in
+      let task = by_some all_tasks r k.maps some in
+      let here = with_entry r (entries_in task.0 k.maps) task.1 in
+      let none = unheld task.0 (m.tasks.hosts task.0 ∙ here) in
+      let has : has_entry object (rows_in task.0 k.maps) ≡ true = subst (λ (z : ℕ). has_entry z (rows_in task.0 k.maps) ≡ true) own task.1 in
+      let bad : false ≡ true = sym none ∙ (ap (has_entry object) (m.tasks.rows task.0 here) ∙ has) in
+      cc
+  | OfShadow s row found under ↦ let least = m.kinds.unders s row found in omega (arith, under, least, less)
+]
+  where
+    m : Matches header h k ids [] past
+    m = rests.matches
+
+swept : (header : Header) (h : ℕ) (k : Parts) (ids : Ids) (past : List Event) → Rests header h k ids past → IsSwept header h past
+swept header h k ids past rests =
+    record {
+      pages =
+          λ object page temporary away. gone object page (λ referred. away (reaches header h k ids past object rests temporary referred))
+          (page_on header h object page past).here refl;
+      controls =
+          λ object temporary away. rests.matches.controls.live object
+          ∙ ended object (λ referred. away (reaches header h k ids past object rests temporary referred)) (object_at k.memory.objects object) refl;
+      declared_pages =
+          λ object page less unheld. gone object page (λ referred. held header h k ids past object rests less referred unheld)
+          (page_on header h object page past).here refl;
+      declared_controls =
+          λ object less unheld. rests.matches.controls.live object
+          ∙ ended object (λ referred. held header h k ids past object rests less referred unheld) (object_at k.memory.objects object) refl;
+    }
+  where
+    gone : (object page : ℕ) → (IsReferred k.memory.objects object → ⊥) → (b : Bool) → (page_on header h object page past).here ≡ b → b ≡ false
+    gone object page away false is = refl
+    gone object page away true is =
+        let m = rests.matches in
+        let row = here_row k.memory.frames (row_at k.memory.resident object page) (absent_at k.memory.objects object page)
+        (ap (λ z. z.here) (sym (m.pages.shown object page)) ∙ is) in
+        absurd (away (rests.referred.pages object page row.0 row.1))
+
+    dead : (object : ℕ) → (IsReferred k.memory.objects object → ⊥) → (row : ObjectRow) → object_at k.memory.objects object ≡ Some row → (b : Bool)
+        → row.live ≡ b → (if b then Some row.control else None) ≡ None
+    dead object away row found false is = refl
+    dead object away row found true is = absurd (away (record { row = row; known = found; some = rests.referred.live object row found is }))
+
+    ended : (object : ℕ) → (IsReferred k.memory.objects object → ⊥) → (x : Option ObjectRow) → object_at k.memory.objects object ≡ x → live_in x ≡ None
+    ended object away None is = refl
+    ended object away (Some row) is = dead object away row is row.live refl
+
+-- whoever stands in the frame queue, no frame is free then
+pub queue_of : (header : Header) (h : ℕ) (k : Parts) (past : List Event) → QueueIsServed header h k past → HasQueue header h k past
+queue_of header h k past (inl empty) = inl empty
+queue_of header h k past (inr full) = inr full.none
+
+pub prompt_of : (header : Header) (h : ℕ) (k : Parts) (ids : Ids) (past : List Event) → Rests header h k ids past → QueueIsServed header h k past
+    → PromptAt header h past
+prompt_of header h k ids past rests served =
+    record { leads = each_leads header h k ids past rests; waits = none_in_vain header h k ids past rests served; swept = swept header h k ids past rests }

@@ -1,0 +1,207 @@
+-- Where a waiting access leads: its entry, its region, and the top place of its page; and that it can be run.
+use Rattle.vm_kernel.proofs.Common.{ChainTable, Entry, Event, HasWaits, Header, Ids, IsAt, IsTop, List, Matches, PageKey, Parts, RegionRow, Some, Waiting}
+use Rattle.vm_kernel.proofs.Common.{Waits, Want, Woken, Works, [], access_in, address_in, ap, arith, copies_to, entries_of, entry, entry_at, has_region}
+use Rattle.vm_kernel.proofs.Common.{host_of, is_some, next_page, page_at, page_of, region_at, region_of, rows_in, subst, sym, true, waiting, waiting_in, ℕ, ◌<◌}
+use Rattle.vm_kernel.proofs.Common.{◌^◌, ◌∙◌, ◌≡◌, ◌≤◌}
+use Rattle.std.specs.Prelude.{◌-◌}
+use Rattle.vm_fault.specs.Faults.{CanCopy, CanFault, LiesWithin}
+use Rattle.vm_fault.specs.Walks.{top_place}
+use Rattle.vm_kernel.proofs.abroad.OwnHost.{lives_here, rows_here}
+use Rattle.vm_kernel.proofs.memory.SourceOfCopy.{walks_down}
+use Rattle.vm_model.specs.Regions.{Region}
+use Rattle.vm_shadow.specs.Chains.{ObjectsBelow}
+use Rattle.vm_state.proofs.Marks.{marked_some}
+use Rattle.vm_state.proofs.Referring.{objects_below, refers_region, small_region}
+use Rattle.vm_state.proofs.Walks.{top_of}
+use Rattle.vm_terminate.specs.Finishes.{IsReferred}
+use Rattle.vm_kernel.proofs.memory.WalksShown.{page_left, shown_at, want_address}
+use Rattle.vm_waits.specs.declared.waiting.Want.TheVariants as want
+use Rattle.vm_state.proofs.Filling.{AgreesNext, copies_next}
+use Rattle.vm_base.specs.Pages.{page_positive}
+use Rattle.vm_kernel.specs.Matches.{HasSlow}
+use Rattle.vm_waits.specs.Wants.{IsSizedWant}
+use Rattle.vm_kernel.proofs.Common.{None, Option, IsInside, ObjectRow, absent_at, copy_target, false, found_row, named, object_at, pages_in, refl, region_pages}
+use Rattle.vm_kernel.proofs.Common.{some_is, ◌*◌, ◌+◌, ◌≢◌}
+use Rattle.vm_kernel.proofs.memory.PageReturned.{untold_temporary}
+use Rattle.vm_model.specs.Regions.{Backing}
+use Rattle.vm_objects.specs.declared.row.PagerState.TheVariants as state
+use Rattle.vm_shadow.specs.Chains.{shadow_at}
+use Rattle.vm_shadow.specs.declared.shadow_row.ShadowRow.{ShadowRow}
+use Rattle.vm_state.specs.Filling.{FitsCopy, filled_row}
+
+pub region_is : (cs : ChainTable) (r : ℕ) (row : RegionRow) → region_at cs r ≡ Some row → has_region cs r ≡ true
+region_is cs r row is = ap is_some is
+
+-- a declared object is over no other, and its region is over it; its pager was told of it where something refers to it
+pub record IsBottom (k : Parts) (row : RegionRow) : Type 0 where
+  pub bottom : shadow_at k.chains row.top.0 ≡ None
+  pub told : (known : ObjectRow) → object_at k.memory.objects row.top.0 ≡ Some known → known.state ≢ state.Without
+  pub present : (p : ℕ) → absent_at k.memory.objects row.top.0 p ≡ false
+
+pub declared_bottom : {header : Header} {h : ℕ} {k : Parts} {ids : Ids} {lost : List Entry} {past : List Event} (r : ℕ) (row : RegionRow)
+    → Matches header h k ids lost past → r < named header → region_at k.chains r ≡ Some row → IsBottom k row
+declared_bottom {header = header} {k = k} {past = past} r row m declared found =
+    record {
+      bottom = by (shadow_at k.chains row.top.0) refl;
+      told =
+          λ known there without. let temporary = untold_temporary header k.memory.objects row.top.0 known (refers_region m.regions r row found) there
+          (m.kinds.kinds row.top.0 known there) without in
+          absurd (omega (arith, temporary, low));
+      present = λ p. m.kinds.present row.top.0 p low;
+    }
+  where
+    top : row.top.0 ≡ r
+    top = ap (λ (z : Region). z.top) (sym (m.regions.rows r row found) ∙ m.homeless.whole r declared)
+
+    low : row.top.0 < named header
+    low = omega (arith, top, declared)
+
+    by : (x : Option ShadowRow) → shadow_at k.chains row.top.0 ≡ x → x ≡ None
+    by None is = refl
+    by (Some under) is =
+        let bad : false ≡ true = sym (m.homeless.bare row.top.0 low) ∙ ap (λ (z : Backing). z.backed) (m.regions.shadows row.top.0 under is) in
+        absurd (cc)
+
+-- the page of an entry lies in its region
+page_inside : {header : Header} {h : ℕ} {k : Parts} {ids : Ids} {lost : List Entry} {past : List Event} (task address : ℕ) (e : Entry) (row : RegionRow)
+    → Matches header h k ids lost past → entry_at address (rows_in task k.maps) ≡ Some e → region_at k.chains e.region.0 ≡ Some row
+    → page_at k.maps.size address e < row.pages
+page_inside {header = header} {k = k} task address e row m found region =
+    let there = found_row (IsInside header.size k.chains) address (rows_in task k.maps) e (m.entries.inside task) found in
+    let below : page_at header.size address e < region_pages k.chains e.region.0 = there.is.inside.each address there.from there.below in
+    let pages : region_pages k.chains e.region.0 ≡ row.pages = ap pages_in region in
+    let sized : page_at k.maps.size address e ≡ page_at header.size address e = ap (λ z. page_at z address e) m.tasks.sized in
+    omega (arith, below, pages, sized)
+
+-- an access lies within its region, a slow copy with each of its pages
+lies_within : {header : Header} {h : ℕ} {k : Parts} {ids : Ids} {past : List Event} (w : Waiting) (what : Want) (e : Entry) (row : RegionRow)
+    → Matches header h k ids [] past → FitsCopy header k.maps k.chains k.memory.resident w.task.0 what w.destination (next_page w.task.0 past)
+    (copy_target w.task.0 past)
+    → IsSizedWant k.maps.size what → entry_at (address_in k.maps.size what) (rows_in w.task.0 k.maps) ≡ Some e → region_at k.chains e.region.0 ≡ Some row
+    → LiesWithin k.maps.size what (rows_in w.task.0 k.maps) e row
+lies_within w (want.Load address n) e row m fits sized found region = page_inside w.task.0 address e row m found region
+lies_within w (want.Store address n value) e row m fits sized found region = page_inside w.task.0 address e row m found region
+lies_within {k = k} w (want.CopyTo address pages target next) e row m fits sized found region = λ p less.
+    let same : fits.range.entry ≡ e = some_is fits.range.entry e (sym (fits.range.whole next sized.1) ∙ found) in
+    let there : entry_at (address + p * k.maps.size) (rows_in w.task.0 k.maps) ≡ Some e = fits.range.whole p less ∙ ap Some same in
+    (there, page_inside w.task.0 (address + p * k.maps.size) e row m there region)
+
+-- a slow copy can make its next pages
+can_copy : {header : Header} {h : ℕ} {k : Parts} {ids : Ids} {past : List Event} (w : Waiting) (what : Want) (e : Entry) (row : RegionRow)
+    → Matches header h k ids [] past → FitsCopy header k.maps k.chains k.memory.resident w.task.0 what w.destination (next_page w.task.0 past)
+    (copy_target w.task.0 past)
+    → IsSizedWant k.maps.size what → entry_at (address_in k.maps.size what) (rows_in w.task.0 k.maps) ≡ Some e → region_at k.chains e.region.0 ≡ Some row
+    → CanCopy what row k.memory k.chains
+can_copy w (want.Load address n) e row m fits sized found region = tt
+can_copy w (want.Store address n value) e row m fits sized found region = tt
+can_copy {header = header} {k = k} w (want.CopyTo address pages target next) e row m fits sized found region =
+    let same : fits.range.entry ≡ e = some_is fits.range.entry e (sym (fits.range.whole next sized.1) ∙ found) in
+    let declared : e.region.0 < named header = subst (λ (z : Entry). z.region.0 < named header) same fits.range.declared in
+    let is = declared_bottom e.region.0 row m declared region in
+    record {
+      bottom = is.bottom;
+      told = is.told;
+      present = is.present;
+      inside = (let within = m.regions.fits.tops fits.to.region.0 (filled_row target pages) fits.region in omega (arith, within));
+      unmade = fits.unmade;
+    }
+
+-- what waits can be run
+pub can_fault : (header : Header) (h : ℕ) (past : List Event) (k : Parts) (ids : Ids) (who : Woken) (w : Waiting) (events : List Event)
+    → Works header h k ids who past → entry k.waits.rows w.task.0 ≡ Some w
+    → CanFault k.maps (record { parts = k.memory; chains = k.chains; ids = ids; events = events }) w.task.0 w.want
+can_fault header h past k ids who w events works is =
+    let m = works.matches in
+    let walk = walks_down header h k ids past [] w.task.0 w.want m (works.waits.allowed w.task.0 w is) (works.waits.sized w.task.0 w is) in
+    let fits = works.used.copies.each w.task.0 w is in
+    let sized = works.waits.sized w.task.0 w is in
+    let object = m.regions.object in
+    let few = m.regions.few in
+    record {
+      fit = m.fits.parts;
+      chains = m.regions.fits;
+      size = walk.size;
+      allowed = walk.allowed;
+      sized = walk.sized;
+      entry = walk.entry;
+      found = walk.found;
+      row = walk.row;
+      region = walk.region;
+      inside = lies_within w w.want walk.entry walk.row m fits sized walk.found walk.region;
+      copies = can_copy w w.want walk.entry walk.row m fits sized walk.found walk.region;
+      counted = λ marked.
+          (let some = marked_some header past walk.entry.region.0 (small_region m.regions walk.entry.region.0 walk.row walk.region)
+          (ap (λ (z : Region). z.mark) (m.regions.rows walk.entry.region.0 walk.row walk.region) ∙ marked) in
+          let marks = m.regions.marks in
+          omega (arith, some, marks));
+      named = subst (λ (z : ℕ). ObjectsBelow z k.chains) (sym object) (objects_below m.regions);
+      unmade = λ o less. m.regions.unknown o (omega (arith, object, less));
+      few = below_last ids.next_object (omega (arith, object, few));
+    }
+  where
+    below_last : (n : ℕ) → n ≤ 8192 → n < 2 ^ 32 - 1
+    below_last n less = omega arith
+
+-- where the access of a task leads, after a history
+pub record Leads (header : Header) (h : ℕ) (past : List Event) (k : Parts) (task : ℕ) (what : Want) (top : PageKey) (at : IsAt k.maps k.chains task what top) :
+    Type 0 where
+  pub lives : host_of task past ≡ Some h
+  pub agrees : AgreesNext what (next_page task past)
+  pub sized : k.maps.size ≡ header.size
+  pub some : 0 < header.size
+  pub shape : IsSizedWant k.maps.size what
+  pub destination : ℕ
+  pub found : entry_at (address_in k.maps.size what) (entries_of header.size task past) ≡ Some at.entry
+  pub waits : waiting task past ≡ Some (access_in k.maps.size destination what)
+  pub is_top : IsTop (region_of header at.entry.region.0 past) (page_at header.size (address_in k.maps.size what) at.entry) top.object.0 top.page.0
+  pub marks : (region_of header at.entry.region.0 past).mark ≡ at.row.marked
+  pub referred : IsReferred k.memory.objects top.object.0
+
+pub leads_of : (header : Header) (h : ℕ) (k : Parts) (ids : Ids) (past : List Event) (who : Woken) (task : ℕ) (w : Waiting) (top : PageKey)
+    → Matches header h k ids [] past → HasWaits header h k who past → HasSlow header k past → entry k.waits.rows task ≡ Some w
+    → (at : IsAt k.maps k.chains task w.want top) → Leads header h past k task w.want top at
+leads_of header h k ids past who task w top m waits copies is at =
+    let r = at.entry.region.0 in
+    let address = address_in k.maps.size w.want in
+    let s = shown_at m in
+    let sized : top ≡ top_place at.row (page_at header.size address at.entry) = at.is ∙ ap (λ z. top_place at.row (page_at z address at.entry)) m.tasks.sized in
+    record {
+      lives = lives_here m.tasks (waits.allowed task w is).lives;
+      agrees = copies_next copies task w is;
+      sized = m.tasks.sized;
+      some = page_positive header.size m.ranged.size;
+      shape = waits.sized task w is;
+      destination = copies_to w.destination;
+      found = ap (entry_at address) (rows_here m.tasks (waits.allowed task w is).lives) ∙ at.found;
+      waits = waits.is task (ap is_some (waits.allowed task w is).lives) ∙ ap (waiting_in k.maps.size) is;
+      is_top =
+          subst (λ (z : PageKey). IsTop (region_of header r past) (page_at header.size address at.entry) z.object.0 z.page.0) (sym sized)
+          (top_of s r at.row at.region (page_at header.size address at.entry));
+      marks = ap (λ (z : Region). z.mark) (m.regions.rows r at.row at.region);
+      referred = subst (λ (z : PageKey). IsReferred k.memory.objects z.object.0) (sym sized) (refers_region m.regions r at.row at.region);
+    }
+
+-- the waiting access, as licences want it
+abbrev pub it_waits : (header : Header) (h : ℕ) (past : List Event) (k : Parts) (task : ℕ) (what : Want) (top : PageKey)
+    (at : IsAt k.maps k.chains task what top) → (to : Leads header h past k task what top at)
+    → Waits header task (access_in k.maps.size to.destination what) past
+it_waits header h past k task what top at to =
+    record {
+      waits = to.waits;
+      at = record {
+        host = h;
+        entry = at.entry;
+        lives = to.lives;
+        found =
+            ap (λ z. entry_at z (entries_of header.size task past)) (want_address k.maps.size header.size (next_page task past) to.destination what to.sized
+            to.agrees) ∙ to.found;
+      };
+      left = page_left k.maps.size header.size (next_page task past) to.destination what to.sized to.some to.shape to.agrees;
+    }
+
+pub top_at : (header : Header) (h : ℕ) (past : List Event) (k : Parts) (task : ℕ) (what : Want) (top : PageKey) (at : IsAt k.maps k.chains task what top)
+    → (to : Leads header h past k task what top at)
+    → IsTop (region_of header at.entry.region.0 past) (page_of header task (access_in k.maps.size to.destination what) past at.entry) top.object.0 top.page.0
+top_at header h past k task what top at to =
+    subst (λ (z : ℕ). IsTop (region_of header at.entry.region.0 past) (page_at header.size z at.entry) top.object.0 top.page.0)
+    (sym (want_address k.maps.size header.size (next_page task past) to.destination what to.sized to.agrees)) to.is_top
